@@ -1,0 +1,9 @@
+pub mod Naturals
+pub mod Signs
+pub mod Bounds
+pub mod Floor
+pub mod FloorOrder
+pub mod Turned
+pub mod Cells
+pub mod CellOrder
+pub mod Examples

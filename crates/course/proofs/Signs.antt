@@ -1,0 +1,134 @@
+-- Tests on floats: NaN, and the sign. Assumes nothing.
+use mathlib.Core.Path.{_≡_, refl, sym, ap, _∙_, subst}
+use mathlib.Core.Logic.{inl, inr}
+use mathlib.Core.Bool.{Bool, true, false, not, cond, _&&_, _||_, Bool·beq, true≢false, false≢true}
+use Prim.Native.Nat.{ℕ, zero, suc, _+_, _*_, _^_, _<_}
+use native.Mathlib.Nat.{eq-zero-or-pos, mul-pos, mul-one, one-mul, pow-succ'}
+use native.Mathlib.Omega.{arith}
+use lib.IntN.{ℤ, pos, negsuc}
+use lib.Dec.{T, ltb, eqb, eqb→eq}
+use lib.Ieee.{Float, nan, inf, fin, fits, isNan, ne, eq, lt, div, binary64, ofInt, neg, up, down, round}
+use lib.Ieee.Compare.{differs-from-itself, nan-differs}
+use lib.Ieee.Fits.{up-pos, and-l}
+use borrow.Author.Tests.{ltb-true, ltb-false, eq-eqb, eqb-true}
+use Rattle.course.specs.Arithmetic.{natural}
+use Rattle.course.specs.Numeric.{signumOf, absOf}
+use Rattle.course.proofs.Naturals.{same-test}
+use Rattle.course.proofs.Bounds.{plain, plain-round}
+
+-- a NaN, and nothing else, differs from itself
+pub nan-test : (x : Float) → ne x x ≡ isNan x
+unfolding isNan
+nan-test nan = nan-differs
+nan-test (inf s) = same-test _ _ (λ t. subst (λ (x : Float). T (isNan x)) (sym (differs-from-itself (inf s) t)) tt) (λ t. absurd t)
+nan-test (fin s m e) = same-test _ _ (λ t. subst (λ (x : Float). T (isNan x)) (sym (differs-from-itself (fin s m e) t)) tt) (λ t. absurd t)
+
+-- ---- signum
+abbrev nought : Float
+nought = fin false 0 (pos 0)
+
+abbrev one : Float
+one = fin false 1 (pos 0)
+
+pub sign-nan : (x : Float) → ne x x ≡ true → x ≡ signumOf x
+unfolding signumOf
+sign-nan x h = rw (differs-from-itself x (subst T (sym h) tt))
+
+none : (a b : ℕ) → ltb a (0 * 1 * b) ≡ true → ⊥
+none a b h = omega (arith, ltb-true a (0 * 1 * b) h)
+
+pub sign-below : (x : Float) → lt x nought ≡ true → neg (natural 1) ≡ signumOf x
+unfolding signumOf lt
+sign-below nan h = absurd (false≢true h)
+sign-below (inf true) h = refl
+sign-below (inf false) h = absurd (false≢true h)
+sign-below (fin true m e) h = refl
+sign-below (fin false m e) h = absurd (none (m * up e * 1) (down e) h)
+
+-- what has no minus sign is not below zero
+plain-not-below : (x : Float) → T (plain x) → lt x nought ≡ true → ⊥
+unfolding lt
+plain-not-below nan p h = absurd p
+plain-not-below (inf true) p h = absurd p
+plain-not-below (inf false) p h = absurd (false≢true h)
+plain-not-below (fin true m e) p h = absurd p
+plain-not-below (fin false m e) p h = none (m * up e * 1) (down e) h
+
+-- 1 / x for an x with no minus sign has none
+plain-inverse : (m : ℕ) (e : ℤ) → T (plain (div binary64 one (fin false m e)))
+unfolding div
+plain-inverse m e = go (eqb m 0)
+  where
+    go : (b : Bool) → T (plain (cond b (inf false) (round binary64 false (1 * 1 * down e) (m * up e * 1))))
+    go true = tt
+    go false = plain-round binary64 (1 * 1 * down e) (m * up e * 1)
+
+pub sign-minus : (x : Float) → lt (div binary64 one x) nought ≡ true → neg (natural 1) ≡ signumOf x
+unfolding signumOf lt div
+sign-minus nan h = absurd (false≢true h)
+sign-minus (inf true) h = refl
+sign-minus (inf false) h = absurd (false≢true h)
+sign-minus (fin true m e) h = refl
+sign-minus (fin false m e) h = absurd (plain-not-below (div binary64 one (fin false m e)) (plain-inverse m e) h)
+
+is-zero : (m : ℕ) (e : ℤ) → ltb 0 (m * up e * 1 + 0 * 1 * down e) ≡ false → eqb m 0 ≡ true
+is-zero m e h =
+    let z : m * up e ≡ 0 = omega (arith, ltb-false 0 (m * up e * 1 + 0 * 1 * down e) h) in
+    elim (eq-zero-or-pos m) [ inl q ↦ eq-eqb m 0 q | inr p ↦ let g : 0 < m * up e = mul-pos p (up-pos e) in absurd (omega arith) ]
+
+pub sign-plus : (x : Float) → ne x x ≡ false → lt x nought ≡ false → lt (div binary64 one x) nought ≡ false → natural 1 ≡ signumOf x
+unfolding signumOf lt div
+sign-plus nan n h k = absurd (true≢false (sym nan-differs ∙ n))
+sign-plus (inf true) n h k = absurd (true≢false h)
+sign-plus (inf false) n h k = refl
+sign-plus (fin false m e) n h k = refl
+sign-plus (fin true m e) n h k =
+    absurd (true≢false (sym (ap (λ (b : Bool). lt (cond b (inf true) (round binary64 true (1 * 1 * down e) (m * up e * 1))) nought) (is-zero m e h)) ∙ k))
+
+-- ---- abs
+pub abs-below : (x : Float) → lt x nought ≡ true → neg x ≡ absOf x
+unfolding lt neg absOf
+abs-below nan h = refl
+abs-below (inf true) h = refl
+abs-below (inf false) h = absurd (false≢true h)
+abs-below (fin true m e) h = refl
+abs-below (fin false m e) h = absurd (none (m * up e * 1) (down e) h)
+
+-- a zero is written with the exponent 0
+one-power : (k : ℕ) → 2 ^ suc k ≡ 1 → ⊥
+one-power k h = let e : 2 ^ suc k ≡ 2 * 2 ^ k = pow-succ' 2 k in omega arith
+
+zero-form : (e : ℤ) → up e * down e ≡ 1 → e ≡ pos 0
+zero-form (pos zero) h = refl
+zero-form (pos (suc k)) h = absurd (one-power k (sym (mul-one (2 ^ suc k)) ∙ h))
+zero-form (negsuc k) h = absurd (one-power k (sym (one-mul (2 ^ suc k)) ∙ h))
+
+zero-fits : (s : Bool) (m : ℕ) (e : ℤ) → fits binary64 (fin s m e) ≡ true → m ≡ 0 → nought ≡ fin false m e
+unfolding fits
+zero-fits s zero e f z = ap (fin false 0) (sym (zero-form e (eqb-true _ _ f)))
+zero-fits s (suc m) e f z = absurd (omega arith)
+
+no-size : (m : ℕ) (e : ℤ) → m * up e * 1 ≡ 0 * 1 * down e → m ≡ 0
+no-size m e h = elim (eq-zero-or-pos m) [ inl z ↦ z | inr p ↦ let g : 0 < m * up e = mul-pos p (up-pos e) in absurd (omega arith) ]
+
+pub abs-zero : (x : Float) → fits binary64 x ≡ true → eq x nought ≡ true → nought ≡ absOf x
+unfolding eq absOf
+abs-zero nan f h = absurd (false≢true h)
+abs-zero (inf s) f h = absurd (false≢true h)
+abs-zero (fin s m e) f h =
+    zero-fits s m e f (no-size m e (eqb→eq _ _ (and-l (eqb (m * up e * 1) (0 * 1 * down e)) (Bool·beq s false || eqb (m * up e * 1) 0) (subst T (sym h) tt))))
+
+both-zero : (a b : ℕ) → ltb 0 (a * 1 + 0 * 1 * b) ≡ false → (eqb (a * 1) (0 * 1 * b) && eqb (a * 1) 0) ≡ true
+both-zero a b h =
+    let k = ltb-false 0 (a * 1 + 0 * 1 * b) h in
+    let p : a * 1 ≡ 0 * 1 * b = omega arith in
+    let q : a * 1 ≡ 0 = omega arith in
+    rw (eq-eqb _ _ p, eq-eqb _ _ q)
+
+pub abs-else : (x : Float) → lt x nought ≡ false → eq x nought ≡ false → x ≡ absOf x
+unfolding lt eq absOf
+abs-else nan h g = refl
+abs-else (inf true) h g = absurd (true≢false h)
+abs-else (inf false) h g = refl
+abs-else (fin false m e) h g = refl
+abs-else (fin true m e) h g = absurd (true≢false (sym (both-zero (m * up e) (down e) h) ∙ g))

@@ -1,0 +1,19 @@
+-- Document 01, "Tiles and index": the cells of the grid along one axis. Assumes nothing.
+use Prim.Native.Nat.{ℕ, zero, suc, _+_}
+use mathlib.Core.Bool.{Bool, true, false, cond}
+use lib.Ieee.{Float, le}
+use Rattle.course.specs.Arithmetic.{_⊕_, _⊘_, natural}
+use Rattle.course.specs.Constants.{playfield, gridCell}
+
+-- how many k from 1 to n pass the test p
+unfoldable pub count : (ℕ → Bool) → ℕ → ℕ
+count p zero = 0
+count p (suc n) = cond (p (suc n)) 1 0 + count p n
+
+-- (v + P) / 10
+unfoldable pub along : Float → Float
+along v = (v ⊕ playfield) ⊘ gridCell
+
+-- the count of k from 1 to 66 with k ≤ (v + P) / 10. Every comparison with NaN is false, so NaN gives 0.
+unfoldable pub cellOf : Float → ℕ
+cellOf v = count (λ k. le (natural k) (along v)) 66

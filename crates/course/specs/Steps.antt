@@ -1,0 +1,16 @@
+-- Definitions that only private functions' contracts cite. Assumes nothing.
+use Prim.Native.Nat.{ℕ, _*_, _≤_}
+use lib.IntN.{ℤ}
+use lib.Ieee.{Float, nan, inf, fin, up, down, binary64, ofInt}
+use Rattle.course.specs.Trig.{quarterOf}
+use Rattle.course.specs.declared.trig.Turns.{Turns}
+
+-- |x| ≤ n for a whole number n, over whole numbers
+abbrev pub Bounded : Float → ℕ → Type 0
+Bounded nan n = ⊥
+Bounded (inf s) n = ⊥
+Bounded (fin s m e) n = m * up e ≤ n * down e
+
+-- a whole number as a float, and modulo 4
+unfoldable pub turnsAt : ℤ → Turns
+turnsAt k = record { k = ofInt binary64 k; quarter = quarterOf k }

@@ -1,0 +1,8 @@
+// Courses: their numbers, tiles and index.
+//
+// Every function here is proved, and the crate assumes nothing of its own. No public function has a
+// `requires`. The definitions that the contracts cite stand in specs/, a file for each heading of document 01.
+pub mod cell;
+pub mod constants;
+pub mod numeric;
+pub mod trig;
