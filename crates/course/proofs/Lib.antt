@@ -6,4 +6,8 @@ pub mod FloorOrder
 pub mod Turned
 pub mod Cells
 pub mod CellOrder
+pub mod WholeRoot
+pub mod RootScale
+pub mod RootFields
+pub mod RootLaw
 pub mod Examples

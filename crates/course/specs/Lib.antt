@@ -4,4 +4,7 @@ pub mod Numeric
 pub mod Trig
 pub mod Angle
 pub mod Cell
+pub mod Root
+pub mod Nearest
 pub mod Steps
+pub mod RootSteps

@@ -5,4 +5,5 @@
 pub mod cell;
 pub mod constants;
 pub mod numeric;
+pub mod root;
 pub mod trig;

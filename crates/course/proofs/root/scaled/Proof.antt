@@ -1,0 +1,120 @@
+-- `course::root::scaled` meets its contract. The invariant of the loop: m * 2 ^ h stays the same number. Assumes nothing.
+use mathlib.Core.Path.{_≡_, refl, sym, ap, _∙_, subst}
+use Prim.Native.Nat.{ℕ, suc, _+_, _-_, _*_, _/_, _%_, _^_, _≤_, _<_}
+use native.Mathlib.Nat.{mul-assoc, mul-left-comm, mul-comm, pow-succ', lt-of-not-le, lt-irrefl, lt-of-lt-of-le, lt-of-le-of-lt, mul-one}
+use native.Mathlib.Omega.{arith}
+use lib.Dec.{lit≤}
+use lib.Pow.{pow-add, pow-mono}
+use Rattle.course.specs.RootSteps.{unitsOf, Split}
+use Rattle.course.proofs.root.scaled.Statement.{statement}
+use Rattle.course.proofs.root.scaled.Tie as tie
+use Rattle.course.proofs.root.scaled.Reads as reads
+use Rattle.course.proofs.root.scaled.Lts as lts
+
+abbrev Inv-loop : tie.InvT-loop
+Inv-loop field digits m₀ h₀ m h = (m * 2 ^ h ≡ digits * 2 ^ 1074) × (2 ^ (1074 - h) ≤ m) × (m < 9007199254740992) × (1022 ≤ h) × (h ≤ 1074)
+
+abbrev μ-loop : tie.MeasureT-loop
+μ-loop field digits m₀ h₀ m h = h
+
+-- a field above 0
+normal : (x t : ℕ) → suc x < 2047 → t < 4503599627370496 → Split (unitsOf (suc x) t) (4503599627370496 + t) (1073 + suc x)
+normal x t X H = record {
+  same = ap (λ (k : ℕ). (4503599627370496 + t) * k) (ap (λ (k : ℕ). 2 ^ k) (more x) ∙ pow-add 2 x 1074) ∙ sym (mul-assoc (4503599627370496 + t) (2 ^ x) (2 ^ 1074));
+  high = omega arith;
+  low = omega arith;
+  least = omega arith;
+  most = omega arith;
+}
+  where
+    more : (k : ℕ) → 1073 + suc k ≡ k + 1074
+    more k = omega arith
+
+normal-at : (f t : ℕ) → 0 < f → f < 2047 → t < 4503599627370496 → Split (unitsOf f t) (4503599627370496 + t) (1073 + f)
+normal-at f t p X H = subst (λ (k : ℕ). Split (unitsOf k t) (4503599627370496 + t) (1073 + k)) (pred f p) (normal (f - 1) t (subst (λ (k : ℕ). k < 2047) (sym (pred f p)) X) H)
+  where
+    pred : (k : ℕ) → 0 < k → suc (k - 1) ≡ k
+    pred k h = omega arith
+
+-- a turn
+above : (m h : ℕ) → 2 ^ (1074 - h) ≤ m → m < 4503599627370496 → 1022 < h
+above m h p q = go (lt-of-not-le (λ (g : 52 ≤ 1074 - h). lt-irrefl m (lt-of-lt-of-le q (le (pow-mono g)))))
+  where
+    le : 2 ^ 52 ≤ 2 ^ (1074 - h) → 4503599627370496 ≤ m
+    le g = omega (arith, p, g)
+
+    go : 1074 - h < 52 → 1022 < h
+    go g = omega arith
+
+halve : (h : ℕ) → 0 < h → 2 ^ h ≡ 2 * 2 ^ (h - 1)
+halve h p = ap (λ (k : ℕ). 2 ^ k) (pred h p) ∙ pow-succ' 2 (h - 1)
+  where
+    pred : (k : ℕ) → 0 < k → k ≡ suc (k - 1)
+    pred k g = omega arith
+
+doubled : (m h : ℕ) → 0 < h → m * 2 * 2 ^ (h - 1) ≡ m * 2 ^ h
+doubled m h p = mul-assoc m 2 (2 ^ (h - 1)) ∙ ap (λ (k : ℕ). m * k) (sym (halve h p))
+
+twice : (m h : ℕ) → 0 < h → h ≤ 1074 → 2 ^ (1074 - h) ≤ m → 2 ^ (1074 - (h - 1)) ≤ m * 2
+twice m h p q g =
+    let e : 2 ^ (1074 - (h - 1)) ≡ 2 * 2 ^ (1074 - h) = ap (λ (k : ℕ). 2 ^ k) (one h p q) ∙ pow-succ' 2 (1074 - h) in
+    omega arith
+  where
+    one : (k : ℕ) → 0 < k → k ≤ 1074 → 1074 - (k - 1) ≡ suc (1074 - k)
+    one k a b = omega arith
+
+at-zero : (f t m h : ℕ) → f ≤ 0 → m * 2 ^ h ≡ t * 2 ^ 1074 → 4503599627370496 ≤ m → m < 9007199254740992 → 1022 ≤ h → h ≤ 1074 → Split (unitsOf f t) m h
+at-zero f t m h z e a b c d = subst (λ (k : ℕ). Split (unitsOf k t) m h) (none f z) (record { same = e; high = a; low = b; least = c; most = omega arith })
+  where
+    none : (k : ℕ) → k ≤ 0 → 0 ≡ k
+    none k g = omega arith
+
+add-t6 : tie.Need-add-t6 Inv-loop μ-loop
+add-t6 c = omega arith
+
+add-t7 : tie.Need-add-t7 Inv-loop μ-loop
+add-t7 c = omega arith
+
+returns : tie.Need-returns Inv-loop μ-loop
+returns c = let a = c .before .args in normal-at (a .field) (a .digits) (omega arith) (omega arith) (omega arith)
+
+loop-holds : tie.Need-loop-holds Inv-loop μ-loop
+loop-holds c = (refl, omega arith, omega arith, lit≤ tt, lit≤ tt)
+
+mul-m : tie.Need-mul-m Inv-loop μ-loop
+mul-m c = omega arith
+
+sub-h : tie.Need-sub-h Inv-loop μ-loop
+sub-h c = omega arith
+
+loop-less : tie.Need-loop-less Inv-loop μ-loop
+loop-less c = omega arith
+
+loop-again : tie.Need-loop-again Inv-loop μ-loop
+loop-again c =
+    let l = c .before .loop in
+    let p : 1022 < l .h = above (l .m) (l .h) (l .inv .1) (c .loop-test .taken) in
+    let z : 0 < l .h = omega arith in
+    (doubled (l .m) (l .h) z ∙ l .inv .0, twice (l .m) (l .h) z (l .inv .4) (l .inv .1), omega arith, omega arith, omega arith)
+
+returns-2 : tie.Need-returns-2 Inv-loop μ-loop
+returns-2 c =
+    let a = c .before .before .before .args in
+    let l = c .before .loop in
+    at-zero (a .field) (a .digits) (l .m) (l .h) (omega arith) (l .inv .0) (omega arith) (l .inv .2) (l .inv .3) (l .inv .4)
+
+pub scaled-spec : {M : Type 1} → statement M
+scaled-spec =
+    tie.close
+    (tie.spec
+    Inv-loop
+    μ-loop
+    add-t6
+    add-t7
+    returns
+    loop-holds
+    mul-m
+    sub-h
+    loop-less
+    loop-again
+    returns-2)

@@ -1,0 +1,211 @@
+// The square root of every f64, correctly rounded (document 01, "Stand-ins"), from its bits and an
+// integer root.
+ghost use mathlib.Core.Path.{_≡_};
+ghost use mathlib.Core.Bool.{true};
+ghost use Prim.Native.Nat.{_+_, _*_, _^_, _<_, _≤_};
+ghost use Rattle.course.specs.Root.{nearWhole, nearestRoot, sqrtOf};
+ghost use lib.Ieee.{binary64, ofBits};
+ghost use Rattle.course.specs.RootSteps.{unitsOf, Split, Leaves};
+
+// The weight of a significand's leading digit, and so of the exponent's field; and that of the sign.
+const LEAD: u64 = 0x10_0000_0000_0000;
+
+const SIGN: u64 = 0x8000_0000_0000_0000;
+
+// The weight of the digits of a significand's upper half, among its bits.
+const HALF: u64 = 0x800_0000;
+
+// The bits of 2.
+const TWO: u64 = 0x4000_0000_0000_0000;
+
+// From this, half the bits of a number from 1 up to 4 leave those of its inverse root, to a fifteenth.
+const START: u64 = 0x5fe6_e8e8_dfce_b8d0;
+
+// `whole` is the whole part of the root of a number n, and `left` is n less its square.
+struct Root {
+    whole: u64,
+    left: u64,
+}
+
+// From n's root to that of 4n + d: one binary digit more.
+fn digit(r: Root, d: u64) -> Root
+    requires { ⌜ (r .left ≤ 2 * r .whole) × (r .whole < 4503599627370496) × (d < 4) ⌝ }
+    ensures { λ s. ⌜ Leaves (4 * (r .whole * r .whole + r .left) + d) (s .whole) (s .left) ⌝ }
+{
+    let v = r.left * 4 + d;
+    let t = r.whole * 4 + 1;
+    if v < t {
+        Root {
+            whole: r.whole * 2,
+            left: v,
+        }
+    } else {
+        Root {
+            whole: r.whole * 2 + 1,
+            left: v - t,
+        }
+    }
+}
+
+// The root of an n below 2^54, two of n's binary digits at a time.
+fn root_of(n: u64) -> Root
+    requires { ⌜ n < 18014398509481984 ⌝ }
+    ensures { λ r. ⌜ Leaves n (r .whole) (r .left) ⌝ }
+{
+    let mut r = Root { whole: 0, left: 0 };
+    let mut s: u64 = 54;
+    while s > 0 {
+        s -= 2;
+        r = digit(r, (n >> s) % 4);
+    }
+    r
+}
+
+// The nearest whole number to the root of n * 4^26, digit by digit.
+fn by_digits(n: u64) -> u64
+    requires { ⌜ n < 18014398509481984 ⌝ }
+    ensures { λ r. ⌜ r ≡ nearWhole (n * 4503599627370496) ⌝ }
+{
+    let mut r = root_of(n);
+    let mut i: u64 = 0;
+    while i < 26 {
+        r = digit(r, 0);
+        i += 1;
+    }
+    if r.whole < r.left {
+        r.whole + 1
+    } else {
+        r.whole
+    }
+}
+
+// What a polynomial makes of the root of a number from 1 up to 4, by its bits: the digits below the
+// leading one. Nothing is promised of it but that it is short; `is_near` decides.
+fn guess(bits: u64) -> u64
+    requires { ⌜ (4607182418800017408 ≤ bits) × (bits < 4616189618054758400) ⌝ }
+    ensures { λ r. ⌜ r < 4503599627370496 ⌝ }
+{
+    let z = f64::from_bits(bits);
+    let y = f64::from_bits(START - bits / 2);
+    let w = z * y;
+    let r = 1.0 - w * y;
+    let s = r * r;
+    let a = 0.99999999999928 + 0.5000000023115836 * r;
+    let b = 0.37500000495761676 + 0.31249602065906124 * r;
+    let c = 0.2734321665415473 + 0.2478048307138952 * r + 0.22742027073043078 * s;
+    let p = a + b * s + c * (s * s);
+    let g = w * p;
+    if g != g {
+        return 0;
+    }
+    let h = 0.5 * y * p;
+    let t = f64::from_bits(f64::to_bits(g) % TWO / HALF * HALF);
+    let k = h + h * ((g - t) * h);
+    let v = t + (z - t * t) * k;
+    if v != v {
+        return 0;
+    }
+    f64::to_bits(v) % LEAD
+}
+
+// Whether e is the nearest whole number to the root of n * 4^26, by e's square in two halves.
+fn is_near(n: u64, e: u64) -> bool
+    requires { ⌜ (n < 18014398509481984) × (0 < e) × (e < 9007199254740992) ⌝ }
+    ensures { λ r. ⌜ (r ≡ true → e ≡ nearWhole (n * 4503599627370496)) ⌝ }
+{
+    let a = e / 0x400_0000;
+    let b = e % 0x400_0000;
+    let square = a * a;
+    if n < square {
+        return false;
+    }
+    let c = n - square;
+    if 0x4000_0000 <= c {
+        return false;
+    }
+    let u = c * 0x400_0000 + 0x4000_0000;
+    let v = a * b * 2;
+    if u < v {
+        return false;
+    }
+    let t = u - v;
+    if 0x8000_0000 <= t {
+        return false;
+    }
+    let p = t * 0x400_0000;
+    let q = b * b + 0x100_0000_0000_0000;
+    if q + e < p {
+        return false;
+    }
+    q < p + e
+}
+
+// The nearest whole number to the root of m * 2^o * 4^26, for an m of 53 digits.
+fn near_root(m: u64, o: u64) -> u64
+    requires { ⌜ (4503599627370496 ≤ m) × (m < 9007199254740992) × (o < 2) ⌝ }
+    ensures { λ r. ⌜ r ≡ nearWhole (m * 2 ^ o * 4503599627370496) ⌝ }
+{
+    let n = m << o;
+    let e = LEAD + guess(m + (1022 + o) * LEAD);
+    if is_near(n, e) {
+        return e;
+    }
+    by_digits(n)
+}
+
+// A positive number of 53 digits, and the power of two that it is multiplied by.
+struct Parts {
+    m: u64,
+    h: u64,
+}
+
+// The digits and the power of a positive finite value, in units of 2^-2148.
+fn scaled(field: u64, digits: u64) -> Parts
+    requires { ⌜ (field < 2047) × (digits < 4503599627370496) × (0 < field + digits) ⌝ }
+    ensures { λ p. ⌜ Split (unitsOf field digits) (p .m) (p .h) ⌝ }
+{
+    if field > 0 {
+        return Parts {
+            m: LEAD + digits,
+            h: 1073 + field,
+        };
+    }
+    let mut m = digits;
+    let mut h: u64 = 1074;
+    while m < LEAD {
+        m = m * 2;
+        h -= 1;
+    }
+    Parts { m: m, h: h }
+}
+
+// The bits of the f64 nearest to the root of m * 2^h * 2^-2148, for an m of 53 digits.
+fn root_bits(m: u64, h: u64) -> u64
+    requires { ⌜ (4503599627370496 ≤ m) × (m < 9007199254740992) × (1022 ≤ h) × (h ≤ 3119) ⌝ }
+    ensures { λ r. ⌜ (ofBits binary64 r ≡ nearestRoot (m * 2 ^ h)) × (r < 9218868437227405312) ⌝ }
+{
+    (h - 52) / 2 * LEAD + near_root(m, h % 2)
+}
+
+// The square root, as IEEE 754 has it.
+pub fn sqrt(x: f64) -> f64
+    ensures { λ r. ⌜ r ≡ sqrtOf x ⌝ }
+{
+    if x != x {
+        return x;
+    }
+    let b = f64::to_bits(x);
+    let magnitude = b % SIGN;
+    if magnitude == 0 {
+        return x;
+    }
+    if b != magnitude {
+        return 0.0 / 0.0;
+    }
+    let field = b / LEAD;
+    if field == 2047 {
+        return x;
+    }
+    let p = scaled(field, b % LEAD);
+    f64::from_bits(root_bits(p.m, p.h))
+}
