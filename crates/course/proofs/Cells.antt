@@ -38,6 +38,9 @@ pub cell-cut : (v : Float) → cellOf v ≡ min 66 (toUnsigned 64 (along v))
 unfolding cellOf
 cell-cut v = count-cut (λ k. le (natural k) (along v)) (toUnsigned 64 (along v)) 66 (λ k a b. natural-le k a (le-trans b (lit≤ tt)) (along v))
 
+pub cell-high : (v : Float) → cellOf v ≤ 66
+cell-high v = let e = cell-cut v in omega arith
+
 -- the three answers of `cell_of`
 pub at-top : (v : Float) → le (natural 66) (along v) ≡ true → 66 ≡ cellOf v
 at-top v h =

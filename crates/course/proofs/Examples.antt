@@ -7,7 +7,6 @@ use lib.Ieee.{Float, nan, binary64, ofInt, add, sub, div, le, lt, neg, ofBits}
 use Rattle.course.specs.Arithmetic.{natural}
 use Rattle.course.specs.Constants.{playfield, scale, gridCell}
 use Rattle.course.specs.Cell.{along, cellOf, count}
-use Rattle.course.proofs.Cells.{cell-cut}
 
 -- NaN 0, −400 0, 0 33, 7 34, 1000 66
 pub cells : (cellOf nan ≡ 0) × (cellOf (neg (natural 400)) ≡ 0) × (cellOf (natural 0) ≡ 33) × (cellOf (natural 7) ≡ 34) × (cellOf (natural 1000) ≡ 66)
@@ -18,6 +17,3 @@ cells = (refl, refl, refl, refl, refl)
 pub misread : (lt (ofBits binary64 0x401aaaaaaaaaaabf) (sub binary64 (natural 340) playfield) ≡ true) × (cellOf (ofBits binary64 0x401aaaaaaaaaaabf) ≡ 34)
 unfolding cellOf count along natural playfield ofInt add sub div le lt ofBits scale gridCell
 misread = (refl, refl)
-
-pub cell-high : (v : Float) → cellOf v ≤ 66
-cell-high v = let e = cell-cut v in omega arith

@@ -11,3 +11,10 @@ pub mod RootScale
 pub mod RootFields
 pub mod RootLaw
 pub mod Examples
+pub mod IndexLaws
+pub mod Rects
+pub mod CellRuns
+pub mod RowSweeps
+pub mod TileSteps
+pub mod CourseRects
+pub mod Listing

@@ -8,3 +8,7 @@ pub mod Root
 pub mod Nearest
 pub mod Steps
 pub mod RootSteps
+pub mod Lengths
+pub mod Rect
+pub mod Index
+pub mod IndexSteps

@@ -4,6 +4,7 @@
 // `requires`. The definitions that the contracts cite stand in specs/, a file for each heading of document 01.
 pub mod cell;
 pub mod constants;
+pub mod index;
 pub mod numeric;
 pub mod root;
 pub mod trig;

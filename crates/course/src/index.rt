@@ -1,0 +1,272 @@
+// The index of a course's tiles (document 01, "Tiles and index"): which tiles each cell of the grid lists.
+// Built in two passes over the rectangles, count and then fill, in the lent columns alone.
+ghost use mathlib.Core.Path.{_≡_};
+ghost use mathlib.Core.Bool.{true};
+ghost use mathlib.Core.List.{List, _++_};
+ghost use Prim.Native.Nat.{ℕ, _+_, _*_, _-_, _<_, _≤_};
+ghost use lib.ListN.{length, getD, take, drop, replicate};
+ghost use Rattle.course.specs.Cell.{cellOf};
+ghost use Rattle.course.specs.Rect.{leastOf, greatestOf, rectOf, holds, holdsOf, areaOf, needed};
+ghost use Rattle.course.specs.Index.{listed, start, indexOf, offsetsOf, lookup};
+ghost use Rattle.course.specs.IndexSteps.{Small, Built, Inside, RunCounted, RectCounted, Counts, Summed, RunPlaced, RectPlaced, Placed};
+use crate::cell::cell_of;
+use crate::constants::MAX;
+use crate::constants::MIN;
+use crate::numeric::max;
+use crate::numeric::min;
+
+// A tile's rectangle of cells, its first and last column and row.
+pub(crate) struct Rect {
+    pub x0: usize,
+    pub x1: usize,
+    pub y0: usize,
+    pub y1: usize,
+}
+
+// The least of four numbers, a NaN passed over.
+fn least(a: f64, b: f64, c: f64, d: f64) -> f64
+    ensures { λ r. ⌜ r ≡ leastOf a b c d ⌝ }
+{
+    min(min(min(min(MAX, a), b), c), d)
+}
+
+// The greatest of four numbers, a NaN passed over.
+fn greatest(a: f64, b: f64, c: f64, d: f64) -> f64
+    ensures { λ r. ⌜ r ≡ greatestOf a b c d ⌝ }
+{
+    max(max(max(max(MIN, a), b), c), d)
+}
+
+// The cells from the least to the greatest coordinates of tile i.
+fn rect_of(tiles: &[f64], i: usize) -> Rect
+    requires { ⌜ (i < 2500) × (i * 8 + 8 ≤ length (now tiles)) ⌝ }
+    ensures { λ r. ⌜ r ≡ rectOf (now (tiles .entry)) i ⌝ }
+{
+    let q = i * 8;
+    let xa = tiles[q];
+    let ya = tiles[q + 1];
+    let xb = tiles[q + 2];
+    let yb = tiles[q + 3];
+    let xc = tiles[q + 4];
+    let yc = tiles[q + 5];
+    let xd = tiles[q + 6];
+    let yd = tiles[q + 7];
+    let x0 = cell_of(least(xa, xb, xc, xd));
+    let x1 = cell_of(greatest(xa, xb, xc, xd));
+    let y0 = cell_of(least(ya, yb, yc, yd));
+    let y1 = cell_of(greatest(ya, yb, yc, yd));
+    Rect { x0, x1, y0, y1 }
+}
+
+// The number of a rectangle's cells.
+fn area(r: Rect) -> usize
+    requires { ⌜ Small r ⌝ }
+    ensures { λ a. ⌜ a ≡ areaOf r ⌝ }
+{
+    let x0 = r.x0;
+    let x1 = r.x1;
+    let y0 = r.y0;
+    let y1 = r.y1;
+    if x1 < x0 {
+        return 0;
+    }
+    if y1 < y0 {
+        return 0;
+    }
+    (x1 + 1 - x0) * (y1 + 1 - y0)
+}
+
+// The rectangles' cells, summed.
+fn total(tiles: &[f64], n: usize) -> usize
+    requires { ⌜ (n ≤ 2500) × (n * 8 ≤ length (now tiles)) ⌝ }
+    ensures { λ r. ⌜ r ≡ needed (now (tiles .entry)) n ⌝ }
+{
+    let mut sum: usize = 0;
+    let mut i = 0;
+    while i < n {
+        sum += area(rect_of(tiles, i));
+        i += 1;
+    }
+    sum
+}
+
+// All zeros.
+fn clear(o: &mut [u32])
+    ensures { λ r. ⌜ now (o .exit) ≡ replicate (length (now (o .entry))) 0 ⌝ }
+{
+    let mut c = 0;
+    while c < o.len() {
+        o[c] = 0;
+        c += 1;
+    }
+}
+
+// One more for each cell of a run.
+fn count_run(o: &mut [u32], a: usize, b: usize)
+    requires { ⌜ b ≤ length (now o) ⌝ }
+    requires { ⌜ ((c : ℕ) → Inside a b c → getD (now o) c 0 < 2500) ⌝ }
+    ensures { λ r. ⌜ RunCounted (now (o .entry)) (now (o .exit)) a b ⌝ }
+{
+    let mut c = a;
+    while c < b {
+        o[c] = o[c] + 1;
+        c += 1;
+    }
+}
+
+// One more for each cell of a rectangle.
+fn count_rect(o: &mut [u32], r: Rect)
+    requires { ⌜ Small r ⌝ }
+    requires { ⌜ length (now o) ≡ 4490 ⌝ }
+    requires { ⌜ ((c : ℕ) → c < 4489 → getD (now o) c 0 < 2500) ⌝ }
+    ensures { λ u. ⌜ RectCounted (now (o .entry)) (now (o .exit)) r ⌝ }
+{
+    let x0 = r.x0;
+    let x1 = r.x1;
+    let y1 = r.y1;
+    let mut y = r.y0;
+    while y <= y1 {
+        count_run(o, y * 67 + x0, y * 67 + x1 + 1);
+        y += 1;
+    }
+}
+
+// How many tiles each cell lists.
+fn count_all(tiles: &[f64], n: usize, o: &mut [u32])
+    requires { ⌜ (n ≤ 2500) × (n * 8 ≤ length (now tiles)) ⌝ }
+    requires { ⌜ Counts (holdsOf (now tiles)) 0 (now o) ⌝ }
+    ensures { λ r. ⌜ Counts (holdsOf (now (tiles .entry))) n (now (o .exit)) ⌝ }
+{
+    let mut i = 0;
+    while i < n {
+        count_rect(o, rect_of(tiles, i));
+        i += 1;
+    }
+}
+
+// Counts become the ends of the cells' parts.
+fn sum_up(o: &mut [u32])
+    requires { ⌜ length (now o) ≡ 4490 ⌝ }
+    requires { ⌜ ((c : ℕ) → c < 4489 → getD (now o) c 0 ≤ 2500) ⌝ }
+    ensures { λ r. ⌜ Summed (now (o .entry)) (now (o .exit)) ⌝ }
+{
+    let mut sum: u32 = 0;
+    let mut c = 0;
+    while c < 4489 {
+        sum += o[c];
+        o[c] = sum;
+        c += 1;
+    }
+    o[4489] = sum;
+}
+
+fn wide(x: u32) -> usize
+    ensures { λ r. ⌜ r ≡ x ⌝ }
+{
+    x as usize
+}
+
+// The id before the part of each cell of a run.
+fn place_run(o: &mut [u32], l: &mut [u32], id: u32, a: usize, b: usize)
+    requires { ⌜ b ≤ length (now o) ⌝ }
+    requires { ⌜ ((c : ℕ) → Inside a b c → (0 < getD (now o) c 0) × (getD (now o) c 0 ≤ length (now l))) ⌝ }
+    ensures { λ r. ⌜ RunPlaced (now (o .entry)) (now (l .entry)) (now (o .exit)) (now (l .exit)) id a b ⌝ }
+{
+    let mut c = a;
+    while c < b {
+        let at = o[c] - 1;
+        o[c] = at;
+        let j = wide(at);
+        l[j] = id;
+        c += 1;
+    }
+}
+
+// The id before the part of each cell of a rectangle.
+fn place_rect(o: &mut [u32], l: &mut [u32], id: u32, r: Rect)
+    requires { ⌜ Small r ⌝ }
+    requires { ⌜ length (now o) ≡ 4490 ⌝ }
+    requires { ⌜ ((c : ℕ) → c < 4489 → holds r c ≡ true → (0 < getD (now o) c 0) × (getD (now o) c 0 ≤ length (now l))) ⌝ }
+    ensures { λ u. ⌜ RectPlaced (now (o .entry)) (now (l .entry)) (now (o .exit)) (now (l .exit)) id r ⌝ }
+{
+    let x0 = r.x0;
+    let x1 = r.x1;
+    let y1 = r.y1;
+    let mut y = r.y0;
+    while y <= y1 {
+        place_run(o, l, id, y * 67 + x0, y * 67 + x1 + 1);
+        y += 1;
+    }
+}
+
+// All ids, the last one first: the ends become starts, and each part ascends.
+fn place_all(tiles: &[f64], n: usize, o: &mut [u32], l: &mut [u32])
+    requires { ⌜ (n ≤ 2500) × (n * 8 ≤ length (now tiles)) ⌝ }
+    requires { ⌜ Placed (holdsOf (now tiles)) n n (now o) (now l) ⌝ }
+    ensures { λ r. ⌜ Placed (holdsOf (now (tiles .entry))) n 0 (now (o .exit)) (now (l .exit)) ⌝ }
+{
+    let mut i = n;
+    while 0 < i {
+        i -= 1;
+        place_rect(o, l, i as u32, rect_of(tiles, i));
+    }
+}
+
+// The index of the tiles below n, in columns of just the lengths that it has.
+fn lay_index(tiles: &[f64], n: usize, o: &mut [u32], l: &mut [u32])
+    requires { ⌜ (n ≤ 2500) × (n * 8 ≤ length (now tiles)) ⌝ }
+    requires { ⌜ length (now o) ≡ 4490 ⌝ }
+    requires { ⌜ length (now l) ≡ needed (now tiles) n ⌝ }
+    ensures { λ r. ⌜ now (o .exit) ≡ offsetsOf (holdsOf (now (tiles .entry))) n 4489 ⌝ }
+    ensures { λ r. ⌜ now (l .exit) ≡ indexOf (holdsOf (now (tiles .entry))) n 4489 ⌝ }
+{
+    clear(o);
+    count_all(tiles, n, o);
+    sum_up(o);
+    place_all(tiles, n, o, l);
+}
+
+// Whether the list is too short, and the length needed.
+pub(crate) struct IndexRoom {
+    pub short: bool,
+    pub need: usize,
+}
+
+// The index of the tiles below n, in the lent columns. Where the list is shorter than the cells summed (cause 3), nothing is written.
+pub(crate) fn build_index(
+    tiles: &[f64],
+    n: usize,
+    offsets: &mut [u32],
+    list: &mut [u32],
+) -> IndexRoom
+    requires { ⌜ (n ≤ 2500) × (n * 8 ≤ length (now tiles)) ⌝ }
+    requires { ⌜ 4490 ≤ length (now offsets) ⌝ }
+    ensures { λ r. ⌜ Built (now (tiles .entry)) n (now (offsets .entry)) (now (list .entry)) (now (offsets .exit)) (now (list .exit)) (r .short) (r .need) ⌝ }
+{
+    let need = total(tiles, n);
+    if list.len() < need {
+        return IndexRoom { short: true, need };
+    }
+    lay_index(tiles, n, &mut offsets[..4490], &mut list[..need]);
+    IndexRoom { short: false, need }
+}
+
+// The part of the lent list for the point's cell.
+pub fn candidate_tiles<'a>(offsets: &[u32], list: &'a [u32], x: f64, y: f64) -> &'a [u32]
+    ensures { λ r. ⌜ now r ≡ lookup (now (offsets .entry)) (now (list .entry)) (cellOf y * 67 + cellOf x) ⌝ }
+{
+    let row = cell_of(y);
+    let c = row * 67 + cell_of(x);
+    if offsets.len() <= c + 1 {
+        return &list[0..0];
+    }
+    let a = wide(offsets[c]);
+    let e = wide(offsets[c + 1]);
+    if e < a {
+        return &list[0..0];
+    }
+    if list.len() < e {
+        return &list[0..0];
+    }
+    &list[a..e]
+}
