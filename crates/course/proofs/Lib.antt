@@ -18,3 +18,8 @@ pub mod RowSweeps
 pub mod TileSteps
 pub mod CourseRects
 pub mod Listing
+pub mod Literals
+pub mod ColumnLaws
+pub mod CourseTiles
+pub mod LaidColumns
+pub mod CurbLaws

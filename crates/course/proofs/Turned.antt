@@ -20,6 +20,15 @@ turned a q r S C hq hr hs hc = cc
 pub sin-cos-is : (a c s c′ s′ : Float) → c ≡ c′ → s ≡ s′ → record { cos = c′; sin = s′ } ≡ sinCosOf a → record { cos = c; sin = s } ≡ sinCosOf a
 sin-cos-is a c s c′ s′ p q h = (λ i. record { cos = p i; sin = q i }) ∙ h
 
+-- the two results of `sin_cos`
+pub cos-is : (a : Float) (r : SinCos) → r ≡ sinCosOf a → r .cos ≡ cosineOf a
+unfolding sinCosOf
+cos-is a r h = ap (λ (x : SinCos). x .cos) h
+
+pub sin-is : (a : Float) (r : SinCos) → r ≡ sinCosOf a → r .sin ≡ sineOf a
+unfolding sinCosOf
+sin-is a r h = ap (λ (x : SinCos). x .sin) h
+
 pub pick-0 : (q : ℕ) (a b c d : Float) → q ≡ 0 → a ≡ pick q a b c d
 unfolding pick
 pick-0 q a b c d h = rw h

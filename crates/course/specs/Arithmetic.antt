@@ -2,7 +2,7 @@
 use mathlib.Core.Bool.{false}
 use Prim.Native.Nat.{ℕ}
 use lib.IntN.{pos}
-use lib.Ieee.{Float, binary64, add, sub, mul, div, ofInt, round}
+use lib.Ieee.{Float, binary64, add, sub, mul, div, ofInt, ofBits, round}
 
 infixl 6 _⊕_
 infixl 6 _⊖_
@@ -27,3 +27,7 @@ natural n = ofInt binary64 (pos n)
 -- the f64 nearest to n / d: what a decimal literal of Rust stands for
 unfoldable pub decimal : ℕ → ℕ → Float
 decimal n d = round binary64 false n d
+
+-- 0.0: all bits zero
+abbrev pub nought : Float
+nought = ofBits binary64 0

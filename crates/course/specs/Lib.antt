@@ -12,3 +12,9 @@ pub mod Lengths
 pub mod Rect
 pub mod Index
 pub mod IndexSteps
+pub mod Tiles
+pub mod Course
+pub mod Lent
+pub mod Points
+pub mod Curbs
+pub mod CourseSteps

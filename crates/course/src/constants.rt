@@ -29,3 +29,10 @@ pub const HALF_PI: f64 = 1.5707963267948966;
 pub const PI: f64 = 3.14159265358979323846264338327950288;
 
 pub const TAU: f64 = 2.0 * PI;
+
+// The lengths of lent columns (document 01, "Lay": Lent): points, numbers of tiles or curbs, offsets.
+pub const MOST_POINTS: usize = 2500;
+
+pub const MOST_NUMBERS: usize = 20000;
+
+pub const OFFSET_COUNT: usize = 4490;

@@ -1,0 +1,252 @@
+-- What `finish` leaves is what lay and points write. Assumes nothing.
+use Prim.Native.Nat.{ℕ, zero, suc, _+_, _*_, _-_, _<_, _≤_}
+use native.Mathlib.Omega.{arith}
+use mathlib.Core.Path.{_≡_, refl, sym, ap, ap₂, _∙_, subst}
+use mathlib.Core.Bool.{Bool, true, false, cond, _&&_, not}
+use mathlib.Core.List.{List, [], _∷_, _++_}
+use lib.ListN.{length, getD, take, drop, replicate, length-append, length-map}
+use lib.Seq.{take-at, length-take-le}
+use lib.Dec.{leb, ltb, eqb}
+use borrow.Author.Tests.{leb-true, lt-ltb}
+use native.Mathlib.Decide.{decLt}
+use lib.Ieee.{Float, nan}
+use Rattle.course.specs.Rect.{holdsOf, needed}
+use Rattle.course.specs.IndexSteps.{Built}
+use Rattle.course.specs.Index.{offsetsOf, indexOf, start, pickList}
+use Rattle.course.proofs.IndexLaws.{index-length}
+use Rattle.course.proofs.CourseRects.{needed-start, needed-small}
+use Rattle.course.specs.Arithmetic.{nought}
+use Rattle.course.specs.Course.{Course, fromPoints, cellsOf}
+use Rattle.course.specs.Tiles.{betas, xs, ys, pointAt, pointsOf, noPoint, tilesTo, tilesOf}
+use Rattle.course.specs.Lent.{Lent, lent, Outcome, outcome, filled, written, answered, layInto, roomyOf}
+use Rattle.course.specs.CourseSteps.{Roomy}
+use Rattle.course.specs.Points.{givenOf, allGood, givenCause, pointsCause, pointsAt, pointsCall}
+use Rattle.course.specs.declared.tiles.TrackPoint.{TrackPoint}
+use Rattle.course.specs.declared.points.Laid.{Laid}
+use Rattle.course.specs.declared.points.Laid.the-variants.{Course as Made, Short, Refused}
+use Rattle.course.proofs.ColumnLaws.{drop-past}
+use Rattle.course.proofs.CourseTiles.{points-long, point-read, tiles-long, betas-taken, xs-taken, ys-taken, points-front}
+
+-- equal columns and equal answers
+pub same-outcome : {r r′ : Laid} {a a′ b b′ e e′ n n′ t t′ : List Float} {o o′ l l′ : List ℕ} → r ≡ r′ → a ≡ a′ → b ≡ b′ → e ≡ e′ → n ≡ n′ → t ≡ t′ → o ≡ o′ → l ≡ l′
+    → outcome r (lent a b e n t o l) ≡ outcome r′ (lent a′ b′ e′ n′ t′ o′ l′)
+same-outcome pr pa pb pe pn pt po pl = λ i. outcome (pr i) (lent (pa i) (pb i) (pe i) (pn i) (pt i) (po i) (pl i))
+
+same-made : {k k′ m m′ : ℕ} {p p′ : TrackPoint} {f : Bool} → k ≡ k′ → m ≡ m′ → p ≡ p′ → Made k f m p ≡ Made k′ f m′ p′
+same-made {f = f} pk pm pp = λ i. Made (pk i) f (pm i) (pp i)
+
+fill-column : (own c c′ : List Float) (k m : ℕ) → own ≡ take k c → k ≤ length c → c′ ≡ take k c ++ (replicate (m - k) nought ++ drop m c) → c′ ≡ filled m own c
+unfolding filled
+fill-column own c c′ k m e h is = is ∙ ap₂ (λ (z : List Float) (j : ℕ). z ++ (replicate (m - j) nought ++ drop m c)) (sym e) (sym (ap length e ∙ length-take-le k c h))
+
+pub fill-tiles : (own t t1 t2 : List Float) (k m : ℕ) → length own ≡ k → k ≤ m → t1 ≡ own ++ drop k t → t2 ≡ take k t1 ++ (replicate (m - k) nought ++ drop m t1) → t2 ≡ filled m own t
+unfolding filled
+fill-tiles own t t1 t2 k m e h p q =
+    q ∙ ap (λ (z : List Float). take k z ++ (replicate (m - k) nought ++ drop m z)) p
+    ∙ ap₂ (λ (y z : List Float). y ++ (replicate (m - k) nought ++ z)) (take-at own (drop k t) k e) (drop-past own t k m e h)
+    ∙ ap (λ (j : ℕ). own ++ (replicate (m - j) nought ++ drop m t)) (sym e)
+
+front-tiles : (own t t1 t2 : List Float) (k m : ℕ) → length own ≡ k → k ≤ m → t1 ≡ own ++ drop k t → t2 ≡ take k t1 ++ (replicate (m - k) nought ++ drop m t1) → take k t2 ≡ own
+unfolding filled
+front-tiles own t t1 t2 k m e h p q = ap (take k) (fill-tiles own t t1 t2 k m e h p q) ∙ take-at own _ k e
+
+-- after the code: the columns that `finish` was lent, and what it made of them
+pub record Done (a b e n t : List Float) (o l : List ℕ) (k : ℕ) (a′ b′ e′ n′ t1 t2 : List Float) (o′ l′ : List ℕ) (short : Bool) (need : ℕ) : Type 0 where
+  pub few : k ≤ 2500
+  pub room-b : 2500 ≤ length b
+  pub room-e : 2500 ≤ length e
+  pub room-n : 2500 ≤ length n
+  pub alpha : a′ ≡ take 0 a ++ (replicate (2500 - 0) nought ++ drop 2500 a)
+  pub beta : b′ ≡ take k b ++ (replicate (2500 - k) nought ++ drop 2500 b)
+  pub x : e′ ≡ take k e ++ (replicate (2500 - k) nought ++ drop 2500 e)
+  pub y : n′ ≡ take k n ++ (replicate (2500 - k) nought ++ drop 2500 n)
+  pub made : t1 ≡ tilesTo (pointsOf b e n k) k ++ drop (k * 8) t
+  pub tiles : t2 ≡ take (k * 8) t1 ++ (replicate (20000 - k * 8) nought ++ drop 20000 t1)
+  pub index : Built (take (k * 8) t2) k o l o′ l′ short need
+
+module _ (a b e n t : List Float) (o l : List ℕ) (k : ℕ) (a′ b′ e′ n′ t1 t2 : List Float) (o′ l′ : List ℕ) (short : Bool) (need : ℕ) (d : Done a b e n t o l k a′ b′ e′ n′ t1 t2 o′ l′ short need) where
+  own-tiles : take (k * 8) t2 ≡ tilesOf (pointsOf b e n k)
+  own-tiles =
+      front-tiles _ t t1 t2 (k * 8) 20000 (tiles-long (pointsOf b e n k) k) (omega (arith, d .few)) (d .made) (d .tiles)
+      ∙ ap (tilesTo (pointsOf b e n k)) (sym (points-long b e n k))
+
+  built : Built (tilesOf (pointsOf b e n k)) (length (pointsOf b e n k)) o l o′ l′ short need
+  built = subst (λ (z : List Float). Built z (length (pointsOf b e n k)) o l o′ l′ short need) own-tiles (subst (λ (j : ℕ). Built (take (k * 8) t2) j o l o′ l′ short need) (sym (points-long b e n k)) (d .index))
+
+  pub need-is : need ≡ cellsOf (pointsOf b e n k)
+  unfolding cellsOf
+  need-is = built .length-needed
+
+  short-is : short ≡ ltb (length l) (cellsOf (pointsOf b e n k))
+  unfolding cellsOf
+  short-is = built .too-short
+
+  list-long : length (indexOf (holdsOf (tilesOf (pointsOf b e n k))) (length (pointsOf b e n k)) 4489) ≡ needed (tilesOf (pointsOf b e n k)) (length (pointsOf b e n k))
+  list-long = index-length _ _ 4489 ∙ sym (needed-start _ (length (pointsOf b e n k)))
+
+  t2-is : t2 ≡ filled 20000 (tilesOf (pointsOf b e n k)) t
+  t2-is =
+      fill-tiles _ t t1 t2 (k * 8) 20000 (tiles-long (pointsOf b e n k) k) (omega (arith, d .few)) (d .made) (d .tiles)
+      ∙ ap (λ (j : ℕ). filled 20000 (tilesTo (pointsOf b e n k) j) t) (sym (points-long b e n k))
+
+  -- the columns without the index
+  b-is : b′ ≡ filled 2500 (betas (pointsOf b e n k)) b
+  b-is = fill-column _ b b′ k 2500 (betas-taken b e n k (omega (arith, d .few, d .room-b))) (omega (arith, d .few, d .room-b)) (d .beta)
+
+  e-is : e′ ≡ filled 2500 (xs (pointsOf b e n k)) e
+  e-is = fill-column _ e e′ k 2500 (xs-taken b e n k (omega (arith, d .few, d .room-e))) (omega (arith, d .few, d .room-e)) (d .x)
+
+  n-is : n′ ≡ filled 2500 (ys (pointsOf b e n k)) n
+  n-is = fill-column _ n n′ k 2500 (ys-taken b e n k (omega (arith, d .few, d .room-n))) (omega (arith, d .few, d .room-n)) (d .y)
+
+  a-is : a′ ≡ filled 2500 [] a
+  unfolding filled
+  a-is = d .alpha
+
+  o-is : (s : Bool) → short ≡ s → o′ ≡ cond s o (fromPoints (pointsOf b e n k) .offsets ++ drop 4490 o)
+  unfolding fromPoints
+  o-is true h = built .offsets ∙ ap (λ (z : Bool). pickList z o (offsetsOf (holdsOf (tilesOf (pointsOf b e n k))) (length (pointsOf b e n k)) 4489 ++ drop 4490 o)) (sym (built .too-short) ∙ h)
+  o-is false h = built .offsets ∙ ap (λ (z : Bool). pickList z o (offsetsOf (holdsOf (tilesOf (pointsOf b e n k))) (length (pointsOf b e n k)) 4489 ++ drop 4490 o)) (sym (built .too-short) ∙ h)
+
+  l-is : (s : Bool) → short ≡ s → l′ ≡ cond s l (fromPoints (pointsOf b e n k) .list ++ drop (length (fromPoints (pointsOf b e n k) .list)) l)
+  unfolding fromPoints
+  l-is true h = built .entries ∙ ap (λ (z : Bool). pickList z l (indexOf (holdsOf (tilesOf (pointsOf b e n k))) (length (pointsOf b e n k)) 4489 ++ drop (needed (tilesOf (pointsOf b e n k)) (length (pointsOf b e n k))) l)) (sym (built .too-short) ∙ h)
+  l-is false h =
+      built .entries ∙ ap (λ (z : Bool). pickList z l (indexOf (holdsOf (tilesOf (pointsOf b e n k))) (length (pointsOf b e n k)) 4489 ++ drop (needed (tilesOf (pointsOf b e n k)) (length (pointsOf b e n k))) l)) (sym (built .too-short) ∙ h)
+      ∙ ap (λ (j : ℕ). indexOf (holdsOf (tilesOf (pointsOf b e n k))) (length (pointsOf b e n k)) 4489 ++ drop j l) (sym list-long)
+
+  pub done : (fallback : Bool) (r : Laid) → r ≡ answered short fallback (pointsOf b e n k) → outcome r (lent a′ b′ e′ n′ t2 o′ l′) ≡ layInto fallback (pointsOf b e n k) (lent a b e n t o l)
+  unfolding layInto written fromPoints
+  done fallback r is =
+      same-outcome (is ∙ ap (λ (s : Bool). answered s fallback (pointsOf b e n k)) short-is) a-is b-is e-is n-is t2-is (o-is _ short-is) (l-is _ short-is)
+
+  pub done-short : (fallback : Bool) → short ≡ true → Short need ≡ answered short fallback (pointsOf b e n k)
+  unfolding answered
+  done-short fallback h = ap Short need-is ∙ sym (ap (λ (s : Bool). answered s fallback (pointsOf b e n k)) h)
+
+  pub done-laid : (fallback : Bool) (first : TrackPoint) → 0 < k → first ≡ pointAt b e n 0 → short ≡ false → Made k fallback need first ≡ answered short fallback (pointsOf b e n k)
+  unfolding answered
+  done-laid fallback first z f h =
+      same-made (sym (points-long b e n k)) need-is (f ∙ sym (point-read b e n k 0 z))
+      ∙ sym (ap (λ (s : Bool). answered s fallback (pointsOf b e n k)) h)
+
+  pub need-small : need ≤ 4489 * 2500
+  need-small = omega (arith, need-is-needed, needed-small (tilesOf (pointsOf b e n k)) (length (pointsOf b e n k)), points-long b e n k, d .few)
+    where
+      need-is-needed : need ≡ needed (tilesOf (pointsOf b e n k)) (length (pointsOf b e n k))
+      need-is-needed = built .length-needed
+
+-- ---- points: what stood in the first 2,500 entries does not matter
+pub lay-past : (fallback : Bool) (ps : List TrackPoint) (a b e n b′ e′ n′ t : List Float) (o l : List ℕ) → drop 2500 b′ ≡ drop 2500 b → drop 2500 e′ ≡ drop 2500 e → drop 2500 n′ ≡ drop 2500 n
+    → layInto fallback ps (lent a b′ e′ n′ t o l) ≡ layInto fallback ps (lent a b e n t o l)
+unfolding layInto written filled
+lay-past fallback ps a b e n b′ e′ n′ t o l pb pe pn = simp (pb, pe, pn)
+
+-- the lengths, from the tests
+off-on : false ≡ true → ⊥
+off-on e = subst (λ (z : Bool). cond z ⊥ (Unit {0})) e tt
+
+pub left : (p q : Bool) → p && q ≡ true → p ≡ true
+left true q h = refl
+left false q h = h
+
+pub right : (p q : Bool) → p && q ≡ true → q ≡ true
+right true q h = h
+right false q h = absurd (off-on h)
+
+pub room : (a b e n t : List Float) (o : List ℕ) → roomyOf a b e n t o ≡ true → Roomy a b e n t o
+unfolding roomyOf
+room a b e n t o h =
+    let h1 = right (leb 2500 (length a)) _ h in
+    let h2 = right (leb 2500 (length b)) _ h1 in
+    let h3 = right (leb 2500 (length e)) _ h2 in
+    let h4 = right (leb 2500 (length n)) _ h3 in
+    record {
+      alpha = leb-true 2500 (length a) (left _ _ h);
+      beta = leb-true 2500 (length b) (left _ _ h1);
+      x = leb-true 2500 (length e) (left _ _ h2);
+      y = leb-true 2500 (length n) (left _ _ h3);
+      tiles = leb-true 20000 (length t) (left _ _ h4);
+      offsets = leb-true 4490 (length o) (right (leb 20000 (length t)) _ h4);
+    }
+
+pub record Given (b e n : List Float) (k : ℕ) : Type 0 where
+  pub beta : k ≤ length b
+  pub x : k ≤ length e
+  pub y : k ≤ length n
+
+pub given-long : (b e n : List Float) (k : ℕ) → givenOf b e n k ≡ true → Given b e n k
+unfolding givenOf
+given-long b e n k h =
+    let h1 = right (leb k (length b)) _ h in
+    record { beta = leb-true k (length b) (left _ _ h); x = leb-true k (length e) (left _ _ h1); y = leb-true k (length n) (right (leb k (length e)) _ h1) }
+
+-- where no cause holds
+pub record Passed (p q r s : Bool) : Type 0 where
+  pub some : p ≡ false
+  pub few : q ≡ false
+  pub room : r ≡ true
+  pub given : s ≡ true
+
+abbrev pub first-cause : Bool → Bool → Bool → Bool → Bool → ℕ
+first-cause p q r s t = cond p 9 (cond q 9 (cond (not r) 2 (cond (not s) 2 (cond (not t) 8 0))))
+
+pub passed : (p q r s t : Bool) → first-cause p q r s t ≡ 0 → Passed p q r s
+passed true q r s t h = absurd (omega (arith, h))
+passed false true r s t h = absurd (omega (arith, h))
+passed false false false s t h = absurd (omega (arith, h))
+passed false false true false t h = absurd (omega (arith, h))
+passed false false true true t h = record { some = refl; few = refl; room = refl; given = refl }
+
+pub positive : (k : ℕ) → eqb k 0 ≡ false → 0 < k
+positive zero h = absurd (off-on (sym h))
+positive (suc k) h = omega arith
+
+pub at-most : (m k : ℕ) → ltb m k ≡ false → k ≤ m
+at-most m k h = elim (decLt m k) [ yes l ↦ absurd (off-on (sym h ∙ lt-ltb m k l)) | no l ↦ omega arith ]
+
+pub record Fit (b e n : List Float) (k : ℕ) (a′ b′ e′ n′ t′ : List Float) (o′ : List ℕ) : Type 0 where
+  pub some : 0 < k
+  pub few : k ≤ 2500
+  pub room : Roomy a′ b′ e′ n′ t′ o′
+  pub given : Given b e n k
+
+-- no cause: what was tested, and what the tests answered
+pub none-of : (r : ℕ) → r ≤ 0 → r ≡ 0
+none-of r h = omega arith
+
+pub no-cause : (b e n : List Float) (k : ℕ) (room wide : Bool) (r : ℕ) → r ≡ givenCause wide b e n k → wide ≡ room → r ≤ 0 → givenCause room b e n k ≡ 0
+no-cause b e n k room wide r h w z = sym (h ∙ ap (λ (x : Bool). givenCause x b e n k) w) ∙ none-of r z
+
+pub fit : (b e n : List Float) (k : ℕ) (a′ b′ e′ n′ t′ : List Float) (o′ : List ℕ) → givenCause (roomyOf a′ b′ e′ n′ t′ o′) b e n k ≡ 0 → Fit b e n k a′ b′ e′ n′ t′ o′
+unfolding givenCause
+fit b e n k a′ b′ e′ n′ t′ o′ h =
+    let p = passed (eqb k 0) (ltb 2500 k) (roomyOf a′ b′ e′ n′ t′ o′) (givenOf b e n k) (allGood (pointsOf b e n k)) h in
+    record { some = positive k (p .some); few = at-most 2500 k (p .few); room = room a′ b′ e′ n′ t′ o′ (p .room); given = given-long b e n k (p .given) }
+
+-- refused: nothing is written
+pub refused : (b e n : List Float) (k : ℕ) (a′ b′ e′ n′ t′ : List Float) (o′ l′ : List ℕ) (wide : Bool) (r : ℕ) → r ≡ givenCause wide b e n k → wide ≡ roomyOf a′ b′ e′ n′ t′ o′ → 0 < r
+    → outcome (Refused r) (lent a′ b′ e′ n′ t′ o′ l′) ≡ pointsCall b e n k (lent a′ b′ e′ n′ t′ o′ l′)
+unfolding pointsCall pointsCause pointsAt
+refused b e n k a′ b′ e′ n′ t′ o′ l′ wide zero h w z = absurd (omega (arith, z))
+refused b e n k a′ b′ e′ n′ t′ o′ l′ wide (suc r) h w z = ap (λ (j : ℕ). pointsAt j (pointsOf b e n k) (lent a′ b′ e′ n′ t′ o′ l′)) (h ∙ ap (λ (x : Bool). givenCause x b e n k) w)
+
+-- accepted: the given points go in front, and the rest is what lay does
+pub accepted : (b e n : List Float) (k : ℕ) (a′ b′ e′ n′ t′ : List Float) (o′ l′ : List ℕ) (b1 e1 n1 : List Float) (w : Outcome) → givenCause (roomyOf a′ b′ e′ n′ t′ o′) b e n k ≡ 0
+    → b1 ≡ take k b ++ drop k b′ → e1 ≡ take k e ++ drop k e′ → n1 ≡ take k n ++ drop k n′
+    → w ≡ layInto false (pointsOf b1 e1 n1 k) (lent a′ b1 e1 n1 t′ o′ l′) → w ≡ pointsCall b e n k (lent a′ b′ e′ n′ t′ o′ l′)
+unfolding pointsCall pointsCause pointsAt
+accepted b e n k a′ b′ e′ n′ t′ o′ l′ b1 e1 n1 w h pb pe pn is =
+    let f = fit b e n k a′ b′ e′ n′ t′ o′ h in
+    let g = f .given in
+    is
+    ∙ lay-past false (pointsOf b1 e1 n1 k) a′ b′ e′ n′ b1 e1 n1 t′ o′ l′ (past b b′ b1 (g .beta) (f .few) pb) (past e e′ e1 (g .x) (f .few) pe) (past n n′ n1 (g .y) (f .few) pn)
+    ∙ ap (λ (ps : List TrackPoint). layInto false ps (lent a′ b′ e′ n′ t′ o′ l′)) (fronts (g .beta) (g .x) (g .y))
+    ∙ ap (λ (j : ℕ). pointsAt j (pointsOf b e n k) (lent a′ b′ e′ n′ t′ o′ l′)) (sym h)
+  where
+    past : (s l c : List Float) → k ≤ length s → k ≤ 2500 → c ≡ take k s ++ drop k l → drop 2500 c ≡ drop 2500 l
+    past s l c m few p = ap (drop 2500) p ∙ drop-past (take k s) l k 2500 (length-take-le k s m) few
+
+    fronts : k ≤ length b → k ≤ length e → k ≤ length n → pointsOf b1 e1 n1 k ≡ pointsOf b e n k
+    fronts mb me mn =
+        (λ i. pointsOf (pb i) (pe i) (pn i) k) ∙ points-front b e n (drop k b′) (drop k e′) (drop k n′) k k mb me mn (omega arith)

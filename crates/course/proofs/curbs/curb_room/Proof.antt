@@ -1,0 +1,12 @@
+-- `course::curbs::curb_room` meets its contract, which is the code's own term. Assumes nothing.
+use mathlib.Core.Path.{refl}
+use Rattle.course.specs.Curbs.{curbRoom}
+use Rattle.course.proofs.curbs.curb_room.Statement.{statement}
+use Rattle.course.proofs.curbs.curb_room.Tie as tie
+
+returns : tie.Need-returns
+unfolding curbRoom
+returns c = refl
+
+pub curb-room-spec : {M : Type 1} → statement M
+curb-room-spec = tie.close (tie.spec returns)

@@ -1,0 +1,95 @@
+-- Document 01, "Lay" (Lent) and "Refusals by cause": what a course leaves in the lent columns, and what is answered. Assumes nothing.
+use Prim.Native.Nat.{ℕ, _-_}
+use mathlib.Core.Bool.{Bool, true, false, cond, _&&_}
+use mathlib.Core.List.{List, [], _++_}
+use lib.Dec.{leb, ltb}
+use lib.ListN.{length, getD, drop, replicate}
+use lib.Ieee.{Float}
+use Rattle.course.specs.Arithmetic.{nought}
+use Rattle.course.specs.Lengths.{mostPoints, mostNumbers, offsetCount}
+use Rattle.course.specs.Tiles.{noPoint}
+use Rattle.course.specs.Course.{Course, fromPoints, cellsOf}
+use Rattle.course.specs.declared.tiles.TrackPoint.{TrackPoint}
+use Rattle.course.specs.declared.points.Laid.{Laid}
+use Rattle.course.specs.declared.points.Laid.the-variants.{Course as Made, Short, Refused}
+
+-- the lent columns
+pub record Lent : Type 0 where
+  pub alpha : List Float
+  pub beta : List Float
+  pub x : List Float
+  pub y : List Float
+  pub tiles : List Float
+  pub offsets : List ℕ
+  pub list : List ℕ
+
+abbrev pub lent : List Float → List Float → List Float → List Float → List Float → List ℕ → List ℕ → Lent
+lent a b x y t o l = record { alpha = a; beta = b; x = x; y = y; tiles = t; offsets = o; list = l }
+
+-- an answer, and the lent columns after the call
+pub record Outcome : Type 0 where
+  pub answer : Laid
+  pub lent : Lent
+
+abbrev pub outcome : Laid → Lent → Outcome
+outcome r l = record { answer = r; lent = l }
+
+-- the lent columns have their lengths; the index list has none
+unfoldable pub roomyOf : List Float → List Float → List Float → List Float → List Float → List ℕ → Bool
+roomyOf a b x y t o =
+    leb mostPoints (length a)
+    && (leb mostPoints (length b)
+    && (leb mostPoints (length x) && (leb mostPoints (length y) && (leb mostNumbers (length t) && leb offsetCount (length o)))))
+
+-- a column of m entries afterwards: the course's own, 0 up to m, and what stood beyond
+unfoldable pub filled : ℕ → List Float → List Float → List Float
+filled m own c = own ++ (replicate (m - length own) nought ++ drop m c)
+
+-- the columns with the course; offsets and list as before where the list is too short (cause 3)
+unfoldable pub written : Bool → Course → Lent → Lent
+written short c l = record {
+  alpha = filled mostPoints [] (l .alpha);
+  beta = filled mostPoints (c .beta) (l .beta);
+  x = filled mostPoints (c .x) (l .x);
+  y = filled mostPoints (c .y) (l .y);
+  tiles = filled mostNumbers (c .tiles) (l .tiles);
+  offsets = cond short (l .offsets) (c .offsets ++ drop offsetCount (l .offsets));
+  list = cond short (l .list) (c .list ++ drop (length (c .list)) (l .list));
+}
+
+-- the answer: n, fallback, list length and the first point; cause 3 with the length needed
+unfoldable pub answered : Bool → Bool → List TrackPoint → Laid
+answered true fallback ps = Short (cellsOf ps)
+answered false fallback ps = Made (length ps) fallback (cellsOf ps) (getD ps 0 noPoint)
+
+-- what lay and points do once the course's points are known
+unfoldable pub layInto : Bool → List TrackPoint → Lent → Outcome
+layInto fallback ps l =
+    outcome (answered (ltb (length (l .list)) (cellsOf ps)) fallback ps) (written (ltb (length (l .list)) (cellsOf ps)) (fromPoints ps) l)
+
+-- ---- number and values of each case of an answer; 0 and no point where a case has none
+
+unfoldable pub causeOf : Laid → ℕ
+causeOf (Made n fallback entries first) = 0
+causeOf (Short length-needed) = 3
+causeOf (Refused k) = k
+
+unfoldable pub countOf : Laid → ℕ
+countOf (Made n fallback entries first) = n
+countOf (Short length-needed) = 0
+countOf (Refused k) = 0
+
+unfoldable pub fallbackOf : Laid → Bool
+fallbackOf (Made n fallback entries first) = fallback
+fallbackOf (Short length-needed) = false
+fallbackOf (Refused k) = false
+
+unfoldable pub lengthOf : Laid → ℕ
+lengthOf (Made n fallback entries first) = entries
+lengthOf (Short length-needed) = length-needed
+lengthOf (Refused k) = 0
+
+unfoldable pub firstOf : Laid → TrackPoint
+firstOf (Made n fallback entries first) = first
+firstOf (Short length-needed) = record { beta = nought; x = nought; y = nought }
+firstOf (Refused k) = record { beta = nought; x = nought; y = nought }

@@ -1,0 +1,47 @@
+-- Document 01, "Beside the run" (Points) and "Refusals by cause": points 9, 2, 8, 3. Assumes nothing.
+use Prim.Native.Nat.{ℕ, zero, suc}
+use mathlib.Core.Bool.{Bool, true, false, cond, _&&_, not}
+use mathlib.Core.List.{List, [], _∷_}
+use lib.Dec.{leb, ltb, eqb}
+use lib.ListN.{length}
+use lib.Ieee.{Float}
+use Rattle.course.specs.Arithmetic.{natural}
+use Rattle.course.specs.Numeric.{within}
+use Rattle.course.specs.Lengths.{mostPoints}
+use Rattle.course.specs.Tiles.{pointsOf}
+use Rattle.course.specs.Lent.{Lent, Outcome, outcome, roomyOf, layInto}
+use Rattle.course.specs.declared.tiles.TrackPoint.{TrackPoint}
+use Rattle.course.specs.declared.points.Laid.the-variants.{Refused}
+
+-- beta within ±16, x and y within ±1,000
+unfoldable pub goodPoint : TrackPoint → Bool
+goodPoint p = within (natural 16) (p .beta) && (within (natural 1000) (p .x) && within (natural 1000) (p .y))
+
+unfoldable pub allGood : List TrackPoint → Bool
+allGood [] = true
+allGood (p ∷ ps) = goodPoint p && allGood ps
+
+-- the given columns have the count given with them
+unfoldable pub givenOf : List Float → List Float → List Float → ℕ → Bool
+givenOf b x y k = leb k (length b) && (leb k (length x) && leb k (length y))
+
+-- The first cause of given points b, x, y and their count k that holds: 9 for none or over 2,500, 2 where a lent column (`roomy` says that
+-- none is) or a given one is short, 8; 0 where none does.
+unfoldable pub givenCause : Bool → List Float → List Float → List Float → ℕ → ℕ
+givenCause roomy b x y k =
+    cond (eqb k 0) 9
+    (cond (ltb mostPoints k) 9
+    (cond (not roomy) 2
+    (cond (not (givenOf b x y k)) 2
+    (cond (not (allGood (pointsOf b x y k))) 8 0))))
+
+unfoldable pub pointsCause : List Float → List Float → List Float → ℕ → Lent → ℕ
+pointsCause b x y k l = givenCause (roomyOf (l .alpha) (l .beta) (l .x) (l .y) (l .tiles) (l .offsets)) b x y k
+
+-- an accepted call lays the course of the given points; a refused one leaves the columns as they were
+unfoldable pub pointsAt : ℕ → List TrackPoint → Lent → Outcome
+pointsAt zero ps l = layInto false ps l
+pointsAt (suc k) ps l = outcome (Refused (suc k)) l
+
+unfoldable pub pointsCall : List Float → List Float → List Float → ℕ → Lent → Outcome
+pointsCall b x y k l = pointsAt (pointsCause b x y k l) (pointsOf b x y k) l

@@ -1,0 +1,161 @@
+// A course from the caller's own points (document 01, "Beside the run": Points), and what lay shares with it.
+ghost use mathlib.Core.Path.{_≡_};
+ghost use mathlib.Core.Bool.{Bool};
+ghost use Prim.Native.Nat.{_+_, _*_, _-_, _<_, _≤_};
+ghost use lib.ListN.{length, take, drop};
+ghost use Rattle.course.specs.Lengths.{mostPoints};
+ghost use Rattle.course.specs.Tiles.{pointsOf};
+ghost use Rattle.course.specs.Lent.{lent, outcome, roomyOf, layInto};
+ghost use Rattle.course.specs.Points.{goodPoint, allGood, givenOf, givenCause, pointsCall};
+ghost use Rattle.course.specs.CourseSteps.{Roomy};
+use crate::columns;
+use crate::constants::MOST_NUMBERS;
+use crate::constants::MOST_POINTS;
+use crate::constants::OFFSET_COUNT;
+use crate::index;
+use crate::numeric;
+use crate::tiles;
+use crate::tiles::TrackPoint;
+
+// What lay and points answer.
+pub enum Laid {
+    // n, fallback, list length, first point
+    Course(u32, bool, u32, TrackPoint),
+    // cause 3, with the list length needed
+    Short(u32),
+    // another cause's number
+    Refused(u32),
+}
+
+// Whether a given point is within its range (cause 8).
+fn good_point(p: TrackPoint) -> bool
+    ensures { λ r. ⌜ r ≡ goodPoint p ⌝ }
+{
+    numeric::inside(p.beta, 16.0) & (numeric::inside(p.x, 1000.0) & numeric::inside(p.y, 1000.0))
+}
+
+// Whether the first n points pass.
+pub(crate) fn all_good(beta: &[f64], x: &[f64], y: &[f64], n: usize) -> bool
+    requires { ⌜ (n ≤ length (now beta)) × (n ≤ length (now x)) × (n ≤ length (now y)) ⌝ }
+    ensures { λ r. ⌜ r ≡ allGood (pointsOf (now (beta .entry)) (now (x .entry)) (now (y .entry)) n) ⌝ }
+{
+    let mut ok = true;
+    let mut i: usize = 0;
+    while i < n {
+        ok = good_point(tiles::point_at(beta, x, y, i)) & ok;
+        i += 1;
+    }
+    ok
+}
+
+// Whether the lent columns have their lengths (cause 2).
+pub(crate) fn roomy(
+    alpha: &[f64],
+    beta: &[f64],
+    x: &[f64],
+    y: &[f64],
+    tiles: &[f64],
+    offsets: &[u32],
+) -> bool
+    ensures { λ r. ⌜ r ≡ roomyOf (now (alpha .entry)) (now (beta .entry)) (now (x .entry)) (now (y .entry)) (now (tiles .entry)) (now (offsets .entry)) ⌝ }
+{
+    let a = MOST_POINTS <= alpha.len();
+    let b = MOST_POINTS <= beta.len();
+    let c = MOST_POINTS <= x.len();
+    let d = MOST_POINTS <= y.len();
+    let e = MOST_NUMBERS <= tiles.len();
+    let f = OFFSET_COUNT <= offsets.len();
+    a & (b & (c & (d & (e & f))))
+}
+
+// Whether the given columns have the count given with them.
+pub(crate) fn given(beta: &[f64], x: &[f64], y: &[f64], n: usize) -> bool
+    ensures { λ r. ⌜ r ≡ givenOf (now (beta .entry)) (now (x .entry)) (now (y .entry)) n ⌝ }
+{
+    let a = n <= beta.len();
+    let b = n <= x.len();
+    let c = n <= y.len();
+    a & (b & c)
+}
+
+// The first of the causes 9, 2 and 8 of given points that holds, else 0; `room`: no lent column is short.
+pub(crate) fn given_cause(room: bool, b: &[f64], x: &[f64], y: &[f64], count: usize) -> u32
+    ensures { λ r. ⌜ r ≡ givenCause room (now (b .entry)) (now (x .entry)) (now (y .entry)) count ⌝ }
+{
+    if count == 0 {
+        return 9;
+    }
+    if MOST_POINTS < count {
+        return 9;
+    }
+    if !room {
+        return 2;
+    }
+    if !given(b, x, y, count) {
+        return 2;
+    }
+    if !all_good(b, x, y, count) {
+        return 8;
+    }
+    0
+}
+
+// Zeros, tiles and index, once the columns begin with the n points.
+pub(crate) fn finish(
+    fallback: bool,
+    n: usize,
+    alpha: &mut [f64],
+    beta: &mut [f64],
+    x: &mut [f64],
+    y: &mut [f64],
+    tiles: &mut [f64],
+    offsets: &mut [u32],
+    list: &mut [u32],
+) -> Laid
+    requires { ⌜ (0 < n) × (n ≤ mostPoints) ⌝ }
+    requires { ⌜ Roomy (now alpha) (now beta) (now x) (now y) (now tiles) (now offsets) ⌝ }
+    ensures { λ r. ⌜ outcome r (lent (now (alpha .exit)) (now (beta .exit)) (now (x .exit)) (now (y .exit)) (now (tiles .exit)) (now (offsets .exit)) (now (list .exit))) ≡ layInto fallback (pointsOf (now (beta .entry)) (now (x .entry)) (now (y .entry)) n) (lent (now (alpha .entry)) (now (beta .entry)) (now (x .entry)) (now (y .entry)) (now (tiles .entry)) (now (offsets .entry)) (now (list .entry))) ⌝ }
+{
+    let first = tiles::point_at(beta, x, y, 0);
+    let m = n * 8;
+    tiles::write_tiles(beta, x, y, n, tiles);
+    columns::clear_from(alpha, 0, MOST_POINTS);
+    columns::clear_from(beta, n, MOST_POINTS);
+    columns::clear_from(x, n, MOST_POINTS);
+    columns::clear_from(y, n, MOST_POINTS);
+    columns::clear_from(tiles, m, MOST_NUMBERS);
+    let built = index::build_index(&tiles[..m], n, offsets, list);
+    let need = built.need as u32;
+    if built.short {
+        return Laid::Short(need);
+    }
+    Laid::Course(n as u32, fallback, need, first)
+}
+
+// The course of the given points in the lent columns.
+pub fn points(
+    pbeta: &[f64],
+    px: &[f64],
+    py: &[f64],
+    count: u32,
+    alpha: &mut [f64],
+    beta: &mut [f64],
+    x: &mut [f64],
+    y: &mut [f64],
+    tiles: &mut [f64],
+    offsets: &mut [u32],
+    list: &mut [u32],
+) -> Laid
+    ensures { λ r. ⌜ outcome r (lent (now (alpha .exit)) (now (beta .exit)) (now (x .exit)) (now (y .exit)) (now (tiles .exit)) (now (offsets .exit)) (now (list .exit))) ≡ pointsCall (now (pbeta .entry)) (now (px .entry)) (now (py .entry)) count (lent (now (alpha .entry)) (now (beta .entry)) (now (x .entry)) (now (y .entry)) (now (tiles .entry)) (now (offsets .entry)) (now (list .entry))) ⌝ }
+{
+    let n = count as usize;
+    let room = roomy(alpha, beta, x, y, tiles, offsets);
+    let k = given_cause(room, pbeta, px, py, n);
+    if 0 < k {
+        return Laid::Refused(k);
+    }
+    columns::copy_front(pbeta, n, beta);
+    columns::copy_front(px, n, x);
+    columns::copy_front(py, n, y);
+    finish(false, n, alpha, beta, x, y, tiles, offsets, list)
+}
