@@ -1,0 +1,5 @@
+// Runs on a course: contact, credit, lap, tyre forces, and the calls start, drive, settle, sheet and reward.
+//
+// Every function here is proved, and the crate assumes nothing of its own. No public function has a
+// `requires`. The definitions that the contracts cite stand in specs/, a file for each heading of document 01.
+pub mod state;

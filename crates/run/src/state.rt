@@ -1,0 +1,88 @@
+// The state of a run, and the tests of arguments and states that the calls share (document 01,
+// "Refusals by cause").
+ghost use mathlib.Core.Path.{_≡_};
+ghost use Rattle.run.specs.State.{inRange, poseOk, posesOk, shortColumns, unfitCore};
+use course::constants::MOST_NUMBERS;
+use course::constants::OFFSET_COUNT;
+use course::numeric;
+
+// A wheel's control record: what it keeps from drive to drive.
+#[repr(C)]
+pub struct WheelCtl {
+    pub gas: f64,
+    pub brake: f64,
+    pub steer: f64,
+    pub omega: f64,
+    pub phase: f64,
+}
+
+// A wheel's pose: its place, and cosine and sine of its direction.
+#[repr(C)]
+pub struct Pose {
+    pub x: f64,
+    pub y: f64,
+    pub cos: f64,
+    pub sin: f64,
+}
+
+// The part of the state that has no bit set: the same for every number of words.
+#[repr(C)]
+pub struct Core {
+    // The course's tile count.
+    pub n: u32,
+    // How many tiles are credited.
+    pub visited_count: u32,
+    pub tick: u32,
+    pub tick_limit: u32,
+    pub lap_share: f64,
+    pub lap: bool,
+    pub ended: bool,
+    pub fallback: bool,
+    // A drive awaits its settle.
+    pub driven: bool,
+    pub ctl: [WheelCtl; 4],
+    pub fuel_spent: f64,
+}
+
+// The state of a run: 40 words of credited tiles, and 40 words of touched tiles for each wheel.
+#[repr(C)]
+pub struct Run {
+    pub core: Core,
+    pub credited: [u64; 40],
+    pub wheels: [u64; 160],
+}
+
+// Finite and within a million of 0 (cause 8).
+pub fn in_range(x: f64) -> bool
+    ensures { λ r. ⌜ r ≡ inRange x ⌝ }
+{
+    numeric::inside(x, 1000000.0)
+}
+
+// A pose's four numbers are in range.
+pub fn pose_ok(p: Pose) -> bool
+    ensures { λ r. ⌜ r ≡ poseOk p ⌝ }
+{
+    in_range(p.x) & in_range(p.y) & in_range(p.cos) & in_range(p.sin)
+}
+
+// Four poses are in range.
+pub fn poses_ok(p: [Pose; 4]) -> bool
+    ensures { λ r. ⌜ r ≡ posesOk p ⌝ }
+{
+    pose_ok(p[0]) & pose_ok(p[1]) & pose_ok(p[2]) & pose_ok(p[3])
+}
+
+// A lent column is short, by the lengths of tiles and offsets (cause 2).
+pub fn is_short(tiles: usize, offsets: usize) -> bool
+    ensures { λ r. ⌜ r ≡ shortColumns tiles offsets ⌝ }
+{
+    (tiles < MOST_NUMBERS) | (offsets < OFFSET_COUNT)
+}
+
+// Cause 4 but for its ended part, where sets hold `most` tiles: the sheet's whole cause.
+pub fn is_unfit(most: u32, s: Core) -> bool
+    ensures { λ r. ⌜ r ≡ unfitCore most s ⌝ }
+{
+    (s.n < 1) | (most < s.n) | (s.n < s.visited_count)
+}
