@@ -1,2 +1,4 @@
 pub mod Words
 pub mod State
+pub mod Overlap
+pub mod Wheel
