@@ -4,4 +4,5 @@
 // `requires`. The definitions that the contracts cite stand in specs/, a file for each heading of document 01.
 pub mod quad;
 pub mod state;
+pub mod touch;
 mod words;

@@ -138,7 +138,7 @@ four p q r s = λ i. p i ∷ q i ∷ r i ∷ s i ∷ []
 
 returns : tie.Need-returns
 unfolding boxCells leastX leastY greatestX greatestY
-returns c = 
+returns c =
     let x0 = c .before .before .before .before .before .before .before .before .before .before .before .before .before .before .before .before .before .before .before .least .ensures in
     let y0 = c .before .before .before .before .before .before .before .before .before .before .before .before .before .before .least2 .ensures in
     let x1 = c .before .before .before .before .before .before .before .before .before .greatest .ensures in

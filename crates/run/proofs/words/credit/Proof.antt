@@ -41,19 +41,21 @@ slice-read-fresh : tie.Need-slice-read-fresh Inv-loop μ-loop
 slice-read-fresh c = search needs
 
 add-fresh : tie.Need-add-fresh Inv-loop μ-loop
-add-fresh c = 
+add-fresh c =
     let l = c .before .before .before .before in
     let n = l .loop .inv in
     let a = l .before .args in
-    record { fits = omega (
-      arith,
-      n .count,
-      few (64 * l .loop .i) (New (a .credited .now) (a .last .now) (a .cur .now)),
-      ones-few _ (new-lt _ _ _ (c .slice-known .given (l .loop .i) .fits) (c .before .shared-slice-known2 .given (l .loop .i) .fits) (c .before .before .shared-slice-known .given (l .loop .i) .fits)),
-      l .before .pre .1,
-      n .long,
-      c .before .before .before .loop-test .taken,
-    ) }
+    record {
+      fits = omega (
+        arith,
+        n .count,
+        few (64 * l .loop .i) (New (a .credited .now) (a .last .now) (a .cur .now)),
+        ones-few _ (new-lt _ _ _ (c .slice-known .given (l .loop .i) .fits) (c .before .shared-slice-known2 .given (l .loop .i) .fits) (c .before .before .shared-slice-known .given (l .loop .i) .fits)),
+        l .before .pre .1,
+        n .long,
+        c .before .before .before .loop-test .taken,
+      );
+    }
 
 mul-credited : tie.Need-mul-credited Inv-loop μ-loop
 mul-credited c = search needs
@@ -74,7 +76,7 @@ loop-less : tie.Need-loop-less Inv-loop μ-loop
 loop-less c = search needs
 
 loop-again : tie.Need-loop-again Inv-loop μ-loop
-loop-again c = 
+loop-again c =
     let l = c .before .before .before .before .before in
     let i = l .loop .i in
     one-more _ _ _ _ _ _ (l .loop .inv) (c .before .before .before .before .loop-test .taken) (c .slice-known2 .given i .fits) (c .before .before .shared-slice-known2 .given i .fits) (c .before .before .before .shared-slice-known .given i .fits)
@@ -83,7 +85,7 @@ same-length : tie.Need-same-length Inv-loop μ-loop
 same-length c = search needs
 
 returns : tie.Need-returns Inv-loop μ-loop
-returns c = 
+returns c =
     let n = c .before .loop .inv in
     let full : c .before .loop .i ≡ length (c .before .before .args .credited .now) = omega (arith, n .bound, n .long, c .loop-test .left) in
     (all-credited _ _ _ _ _ _ full n, all-counted _ _ _ _ _ _ full n)

@@ -31,7 +31,7 @@ same-length : tie.Need-same-length
 same-length c = search needs
 
 returns : tie.Need-returns
-returns c = 
+returns c =
     let a = c .before .args in
     let ws = a .set .now in
     ap (λ (v : ℕ). set ws (a .id / 64) (bitOr (getD ws (a .id / 64) 0) v)) (shl-one (a .id % 64) (omega arith))
