@@ -1,3 +1,4 @@
 pub mod WordLaws
 pub mod CreditLaws
 pub mod TouchLaws
+pub mod ContactLaws

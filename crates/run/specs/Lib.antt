@@ -5,3 +5,4 @@ pub mod Wheel
 pub mod Below
 pub mod Touch
 pub mod TouchSteps
+pub mod Contact
