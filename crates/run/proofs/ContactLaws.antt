@@ -17,7 +17,7 @@ use Rattle.run.specs.Wheel.{wheelQuad, quadOf}
 use Rattle.run.specs.Touch.{soundQuad, soundPoses}
 use Rattle.run.specs.declared.state.Pose.{Pose}
 use Rattle.run.specs.Words.{member, setOf, howMany}
-use Rattle.run.specs.Contact.{wheelPart, enters, entered, wheelSets, Contacted, contactOf}
+use Rattle.run.specs.Contact.{wheelPart, enters, entered, wheelSets, Contacted, contacted, contactOf}
 use Rattle.run.proofs.WordLaws.{Fit, member-setOf, setOf-cong, length-setOf, is-setOf, howMany-cong, howMany-or, howMany-none, or-chain}
 use Rattle.run.proofs.CreditLaws.{few}
 use Rattle.run.proofs.TouchLaws.{or-false, or-assoc}
@@ -247,3 +247,8 @@ wheel-is ps w q e = e
 -- no more new tiles than the words have bits
 pub fresh-few : (m : ℕ) (c₀ W₀ : List ℕ) (P : ℕ → ℕ → Bool) (c W tested touched : List ℕ) (new : ℕ) (first : Bool) (w : ℕ) → Wheeled m c₀ W₀ P c W tested touched new first w → new ≤ 64 * m
 fresh-few m c₀ W₀ P c W tested touched new first w h = subst (λ (x : ℕ). x ≤ 64 * m) (sym (h .fresh)) (few (64 * m) (λ t. anyBelow w (λ v. enters m W₀ P v t) && not (member c₀ t)))
+
+-- the four parts of a contact, where the words' number is known by an equation
+pub full-passed : (m m′ : ℕ) (c₀ W₀ : List ℕ) (P : ℕ → ℕ → Bool) (c W : List ℕ) (new : ℕ) {first : Bool} → m′ ≡ m → c ≡ contactOf m′ c₀ W₀ P .credited → W ≡ contactOf m′ c₀ W₀ P .wheels
+    → new ≡ contactOf m′ c₀ W₀ P .fresh → first ≡ contactOf m′ c₀ W₀ P .zero → contacted c W new first ≡ contactOf m c₀ W₀ P
+full-passed m m′ c₀ W₀ P c W new e ec ew ef ez = (λ i. contacted (ec i) (ew i) (ef i) (ez i)) ∙ ap (λ (k : ℕ). contactOf k c₀ W₀ P) e

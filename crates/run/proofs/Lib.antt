@@ -2,3 +2,4 @@ pub mod WordLaws
 pub mod CreditLaws
 pub mod TouchLaws
 pub mod ContactLaws
+pub mod CallLaws

@@ -32,11 +32,10 @@ pub record Contacted : Type 0 where
   -- some wheel touches tile 0 that did not at the contact before
   pub zero : Bool
 
+abbrev pub contacted : List ℕ → List ℕ → ℕ → Bool → Contacted
+contacted c ws fresh first = record { credited = c; wheels = ws; fresh = fresh; zero = first }
+
 unfoldable pub contactOf : ℕ → List ℕ → List ℕ → (ℕ → ℕ → Bool) → Contacted
 contactOf m credited ws P =
-    record {
-      credited = setOf m (λ t. member credited t || entered m ws P t);
-      wheels = wheelSets m P 4;
-      fresh = howMany (64 * m) (λ t. entered m ws P t && not (member credited t));
-      zero = entered m ws P 0;
-    }
+    contacted (setOf m (λ t. member credited t || entered m ws P t)) (wheelSets m P 4)
+    (howMany (64 * m) (λ t. entered m ws P t && not (member credited t))) (entered m ws P 0)

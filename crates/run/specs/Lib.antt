@@ -6,3 +6,7 @@ pub mod Below
 pub mod Touch
 pub mod TouchSteps
 pub mod Contact
+pub mod Widths
+pub mod Lap
+pub mod Start
+pub mod Settle

@@ -7,7 +7,8 @@ ghost use lib.ListN.{length};
 ghost use Rattle.run.specs.Words.{member, setOf, howMany};
 ghost use Rattle.run.specs.Wheel.{quadOf};
 ghost use Rattle.run.specs.Touch.{touchedBy, soundQuad, soundPoses};
-ghost use Rattle.run.specs.Contact.{contactOf};
+ghost use Rattle.run.specs.Contact.{contacted, contactOf};
+ghost use Rattle.run.specs.Widths.{fullWords, mostTiles};
 use crate::quad;
 use crate::state::Pose;
 use crate::touch;
@@ -90,4 +91,47 @@ pub(crate) fn contact_pass(
         w += 1;
     }
     Contact { fresh, zero }
+}
+
+// The same over the full state's sets by value.
+pub(crate) struct FullContact {
+    pub credited: [u64; 40],
+    pub wheels: [u64; 160],
+    pub fresh: u32,
+    pub zero: bool,
+}
+
+pub(crate) fn full_contact(
+    poses: [Pose; 4],
+    tiles: &[f64],
+    offsets: &[u32],
+    list: &[u32],
+    n: usize,
+    credited: [u64; 40],
+    wheels: [u64; 160],
+) -> FullContact
+    requires { ⌜ (0 < n) × (n ≤ mostTiles) × (n * 8 ≤ length (now tiles)) × (soundPoses (now offsets) (now list) n poses ≡ true) ⌝ }
+    ensures { λ r. ⌜ contacted (r .credited) (r .wheels) (r .fresh) (r .zero) ≡ contactOf fullWords credited wheels (λ w. touchedBy (now (tiles .entry)) (now (offsets .entry)) (now (list .entry)) (quadOf poses w)) ⌝ }
+{
+    let mut next = credited;
+    let mut sets = wheels;
+    let mut tested = [0u64; 40];
+    let mut touched = [0u64; 40];
+    let c = contact_pass(
+        poses,
+        tiles,
+        offsets,
+        list,
+        n,
+        &mut next,
+        &mut sets,
+        &mut tested,
+        &mut touched,
+    );
+    FullContact {
+        credited: next,
+        wheels: sets,
+        fresh: c.fresh,
+        zero: c.zero,
+    }
 }

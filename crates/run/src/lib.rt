@@ -3,7 +3,10 @@
 // Every function here is proved, and the crate assumes nothing of its own. No public function has a
 // `requires`. The definitions that the contracts cite stand in specs/, a file for each heading of document 01.
 mod contact;
+mod lap;
 pub mod quad;
+pub mod settle;
+pub mod start;
 pub mod state;
 pub mod touch;
 mod words;

@@ -1,0 +1,30 @@
+-- `run::lap::is_off` meets its contract. Assumes nothing.
+use lib.Ieee.{ofInt, ofBits, div}
+use Rattle.course.specs.Arithmetic.{natural}
+use Rattle.course.specs.Constants.{playfield, scale}
+use Rattle.run.specs.Lap.{offField}
+use lib.ListN.{length}
+use Prim.Native.Nat.{ℕ, _+_, _-_, _*_, _≤_, _<_}
+use mathlib.Core.List.{List}
+use mathlib.Core.Bool.{Bool, true, false, not, _&&_, _||_}
+use mathlib.Core.Path.{_≡_, refl, sym, ap, ap₂, _∙_, subst}
+use native.Mathlib.Omega.{arith}
+use borrow.Author.Needs.{needs}
+use Rattle.run.proofs.lap.is_off.Statement.{statement}
+use Rattle.run.proofs.lap.is_off.Tie as tie
+use Rattle.run.proofs.lap.is_off.Reads as reads
+use Rattle.run.proofs.lap.is_off.Lts as lts
+use Rattle.course.proofs.numeric.abs.Reads as abs-reads
+
+abs-requires : tie.Need-abs-requires
+abs-requires c κs = search needs
+
+abs-requires-2 : tie.Need-abs-requires-2
+abs-requires-2 c κs = search needs
+
+returns : tie.Need-returns
+unfolding offField playfield scale natural ofInt ofBits div
+returns c = simp (← c .before .abs .ensures, ← c .abs2 .ensures)
+
+pub is-off-spec : {M : Type 1} → statement M
+is-off-spec = tie.close (tie.spec abs-requires abs-requires-2 returns)

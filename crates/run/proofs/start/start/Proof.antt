@@ -1,0 +1,61 @@
+-- `run::start::start` meets its contract. Assumes nothing.
+use Rattle.run.proofs.CallLaws.{start-facts, start-refused, start-accepted}
+use Rattle.run.specs.Start.{firstContact}
+use Rattle.run.specs.State.{view}
+use lib.Dec.{lit≤, lit<}
+use lib.ListN.{length}
+use Prim.Native.Nat.{ℕ, _+_, _-_, _*_, _≤_, _<_}
+use mathlib.Core.List.{List}
+use mathlib.Core.Path.{_≡_, refl, sym, ap, ap₂, _∙_, subst}
+use native.Mathlib.Omega.{arith}
+use borrow.Author.Needs.{needs}
+use Rattle.run.proofs.start.start.Statement.{statement}
+use Rattle.run.proofs.start.start.Tie as tie
+use Rattle.run.proofs.start.start.Reads as reads
+use Rattle.run.proofs.start.start.Lts as lts
+use Rattle.run.proofs.contact.full_contact.Reads as full-contact-reads
+use Rattle.run.proofs.lap.update_lap.Reads as update-lap-reads
+use Rattle.run.proofs.start.begun_core.Reads as begun-core-reads
+use Rattle.run.proofs.start.start_cause.Reads as start-cause-reads
+use Rattle.run.proofs.start.zero_run.Reads as zero-run-reads
+
+start-cause-requires : tie.Need-start-cause-requires
+start-cause-requires c κs = search needs
+
+zero-run-requires : tie.Need-zero-run-requires
+zero-run-requires c κs = search needs
+
+returns : tie.Need-returns
+returns c = start-refused _ _ _ _ _ _ (c .before .before .start-cause .ensures) (c .before .if1 .taken) (c .zero-run .ensures)
+
+full-contact-requires : tie.Need-full-contact-requires
+full-contact-requires c κs =
+    let k = c .before .start-cause in
+    let z : k .result ≡ 0 = omega (arith, c .if1 .left) in
+    let h = start-facts _ _ _ (lit≤ tt) (sym (k .ensures) ∙ z) in
+    (h .some, h .few, h .tiles, h .sound)
+
+update-lap-requires : tie.Need-update-lap-requires
+update-lap-requires c κs = search needs
+
+begun-core-requires : tie.Need-begun-core-requires
+begun-core-requires c κs = search needs
+
+returns-2 : tie.Need-returns-2
+unfolding view firstContact
+returns-2 c =
+    let k = c .before .before .before .before .before .before .start-cause in
+    let z : k .result ≡ 0 = omega (arith, c .before .before .before .before .before .if1 .left) in
+    start-accepted _ _ _ _ _ _ _ _ _ _ _ (k .ensures) z (c .before .before .before .before .full-contact .ensures) (c .before .before .before .update-lap .ensures) (c .before .before .begun-core .ensures)
+
+pub start-spec : {M : Type 1} → statement M
+start-spec =
+    tie.close
+    (tie.spec
+    start-cause-requires
+    zero-run-requires
+    returns
+    full-contact-requires
+    update-lap-requires
+    begun-core-requires
+    returns-2)
