@@ -1,2 +1,9 @@
 pub mod Words
 pub mod State
+pub mod Widths
+pub mod Grip
+pub mod Dynamics
+pub mod Drive
+pub mod DriveSteps
+pub mod Reward
+pub mod Sheet

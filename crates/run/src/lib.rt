@@ -2,4 +2,10 @@
 //
 // Every function here is proved, and the crate assumes nothing of its own. No public function has a
 // `requires`. The definitions that the contracts cite stand in specs/, a file for each heading of document 01.
+pub mod drive;
+pub mod dynamics;
+pub mod reward;
+pub mod sheet;
 pub mod state;
+pub mod widths;
+mod words;
