@@ -5,4 +5,5 @@ pub mod PassLaws
 pub mod Tests
 pub mod AnyLaws
 pub mod DriveLaws
+pub mod Examples
 pub mod SheetLaws

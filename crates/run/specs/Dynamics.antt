@@ -67,6 +67,10 @@ brakedOf brake omega =
     (cond (lt (natural 0) brake) (omega ⊕ neg (signumOf omega) ⊗ val)
     omega)
 
+-- omega after the engine, then the brake
+unfoldable pub turningOf : WheelCtl → Float
+turningOf w = brakedOf (w .brake) (spunOf (w .gas) (w .omega))
+
 -- `friction_limit`: grip is 1 on the road, else 0.6
 unfoldable pub limitOf : Bool → Float
 limitOf road = frictionLimit ⊗ cond road (natural 1) (decimal 6 10)
@@ -87,7 +91,7 @@ slipOf limit omega m =
 -- the wheel's controls, its force and the fuel spent after the pass, for a wheel on the road or not
 unfoldable pub tyreOf : WheelCtl → Motion → Bool → Float → Turned
 tyreOf w m road fuel =
-    let omega = brakedOf (w .brake) (spunOf (w .gas) (w .omega)) in
+    let omega = turningOf w in
     let s = slipOf (limitOf road) omega m in
     record {
       ctl = record {

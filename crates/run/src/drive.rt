@@ -69,9 +69,10 @@ fn front(w: WheelCtl, action: u32) -> WheelCtl
 fn rear(w: WheelCtl, action: u32) -> WheelCtl
     ensures { λ r. ⌜ r ≡ rearOf action w ⌝ }
 {
-    let gas = numeric::clamp(0.2 * as_number(action == 3), 0.0, 1.0);
+    let gas = w.gas;
+    let wish = numeric::clamp(0.2 * as_number(action == 3), 0.0, 1.0);
     let mut v = w;
-    v.gas = w.gas + numeric::min(gas - w.gas, 0.1);
+    v.gas = gas + numeric::min(wish - gas, 0.1);
     v.brake = 0.8 * as_number(action == 4);
     v
 }

@@ -4,7 +4,7 @@ ghost use mathlib.Core.Path.{_≡_};
 ghost use mathlib.Core.Bool.{true, false};
 ghost use lib.Ieee.{lt};
 ghost use Rattle.course.specs.Root.{sqrtOf};
-ghost use Rattle.run.specs.Dynamics.{motorOf, spunOf, brakedOf, limitOf, heldOf, slipOf, tyreOf};
+ghost use Rattle.run.specs.Dynamics.{motorOf, spunOf, brakedOf, turningOf, limitOf, heldOf, slipOf, tyreOf};
 use crate::state::WheelCtl;
 use course::constants::FPS;
 use course::numeric;
@@ -92,6 +92,13 @@ pub fn braked(brake: f64, omega: f64) -> f64
     omega
 }
 
+// Omega after the engine, then the brake.
+fn turning(w: WheelCtl) -> f64
+    ensures { λ r. ⌜ r ≡ turningOf w ⌝ }
+{
+    braked(w.brake, spun(w.gas, w.omega))
+}
+
 // The Rust's `friction_limit`: what the ground under the wheel bears.
 pub(crate) fn limit(road: bool) -> f64
     ensures { λ r. ⌜ r ≡ limitOf road ⌝ }
@@ -148,11 +155,11 @@ pub(crate) fn slip(road: bool, omega: f64, m: Motion) -> TyreForce
     held(road, f, p)
 }
 
-// One wheel's pass: engine, then brake, then the ground. Phase is turned by omega as the brake leaves it.
+// One wheel's pass. Phase is turned by omega as the brake leaves it, before the ground acts on the wheel.
 pub(crate) fn tyre(w: WheelCtl, m: Motion, road: bool, fuel: f64) -> Turned
     ensures { λ r. ⌜ r ≡ tyreOf w m road fuel ⌝ }
 {
-    let omega = braked(w.brake, spun(w.gas, w.omega));
+    let omega = turning(w);
     let s = slip(road, omega, m);
     let ctl = WheelCtl {
         gas: w.gas,

@@ -25,8 +25,8 @@ as-number-requires-2 c κs = search needs
 returns : tie.Need-returns
 unfolding rearOf brakeOf gasOf raisedOf
 returns c =
-    let m = c .before .before in
-    simp (eight-tenths, two-tenths, tenth, zero-bits, one, ← c .as-number2 .ensures, ← m .before .before .before .as-number .ensures, ← m .before .before .clamp .ensures, ← m .min .ensures)
+    let m = c .before in
+    simp (eight-tenths, two-tenths, tenth, zero-bits, one, ← m .before .before .as-number .ensures, ← m .before .clamp .ensures, ← m .min .ensures, ← c .as-number2 .ensures)
 
 pub rear-spec : {M : Type 1} → statement M
 rear-spec =

@@ -6,16 +6,12 @@ use Rattle.run.proofs.dynamics.tyre.Statement.{statement}
 use Rattle.run.proofs.dynamics.tyre.Tie as tie
 use Rattle.run.proofs.dynamics.tyre.Reads as reads
 use Rattle.run.proofs.dynamics.tyre.Lts as lts
-use Rattle.run.proofs.dynamics.braked.Reads as braked-reads
 use Rattle.run.proofs.dynamics.motor.Reads as motor-reads
 use Rattle.run.proofs.dynamics.slip.Reads as slip-reads
-use Rattle.run.proofs.dynamics.spun.Reads as spun-reads
+use Rattle.run.proofs.dynamics.turning.Reads as turning-reads
 
-spun-requires : tie.Need-spun-requires
-spun-requires c κs = search needs
-
-braked-requires : tie.Need-braked-requires
-braked-requires c κs = search needs
+turning-requires : tie.Need-turning-requires
+turning-requires c κs = search needs
 
 slip-requires : tie.Need-slip-requires
 slip-requires c κs = search needs
@@ -28,8 +24,7 @@ unfolding tyreOf
 returns c =
     let m = c .before .before .before .before .before .before .before .before .before in
     let s = m .before .before .before in
-    let b = s .before in
-    simp (wheel-rad, inertia, dt-bits, engine-power, ← b .before .spun .ensures, ← b .braked .ensures, ← s .slip .ensures, ← m .motor .ensures)
+    simp (wheel-rad, inertia, dt-bits, engine-power, ← s .before .turning .ensures, ← s .slip .ensures, ← m .motor .ensures)
 
 pub tyre-spec : {M : Type 1} → statement M
-tyre-spec = tie.close (tie.spec spun-requires braked-requires slip-requires motor-requires returns)
+tyre-spec = tie.close (tie.spec turning-requires slip-requires motor-requires returns)
