@@ -1,6 +1,6 @@
 -- Document 01, "Drive" and "Refusals by cause" (drive 4, 5, 6, 7, 8): the action rule, the pass over the wheels, the causes in their order, the
 -- answer and the state after. Assumes nothing.
-use mathlib.Core.Bool.{Bool, true, false, cond, _&&_, _||_}
+use mathlib.Core.Bool.{Bool, true, false, cond, not, _&&_, _||_}
 use mathlib.Core.List.{List, [], _∷_}
 use Prim.Native.Nat.{ℕ, zero, suc}
 use lib.Dec.{eqb, ltb, leb}
@@ -87,7 +87,7 @@ driveCause most s action ms =
     (cond (s .driven) 5
     (cond (leb (s .«tick_limit») (s .tick)) 6
     (cond (ltb 4 action) 7
-    (cond (motionsOk ms) 0 8))))
+    (cond (not (motionsOk ms)) 8 0))))
 
 -- ---- the call
 

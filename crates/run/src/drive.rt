@@ -32,7 +32,7 @@ pub struct Drove {
 }
 
 // The same without the bit sets, which no drive changes.
-pub struct CoreDrove {
+pub(crate) struct CoreDrove {
     pub answer: DriveAnswer,
     pub forces: [Force; 4],
     pub core: Core,
@@ -157,14 +157,14 @@ pub(crate) fn cause(most: u32, s: Core, action: u32, motion: [Motion; 4]) -> u32
     if 4 < action {
         return 7;
     }
-    if motions_ok(motion) {
-        return 0;
+    if !motions_ok(motion) {
+        return 8;
     }
-    8
+    0
 }
 
 // The call but for the bit sets, where sets hold `most` tiles: the same for every number of words.
-pub fn core_drive(
+pub(crate) fn core_drive(
     most: u32,
     s: Core,
     action: u32,
@@ -180,10 +180,9 @@ pub fn core_drive(
             fx: 0.0,
             fy: 0.0,
         };
-        let zeros = [z, z, z, z];
         return CoreDrove {
             answer: DriveAnswer::Refused(number),
-            forces: zeros,
+            forces: [z, z, z, z],
             core: s,
         };
     }

@@ -35,7 +35,7 @@ fn share(credited: u32, n: u32) -> u32
 }
 
 // The sheet of a state whose sets hold `most` tiles: it reads no bit set.
-pub fn core_sheet(most: u32, s: Core) -> SheetAnswer
+pub(crate) fn core_sheet(most: u32, s: Core) -> SheetAnswer
     ensures { λ r. ⌜ r ≡ coreSheetOf most s ⌝ }
 {
     if state::is_unfit(most, s) {
