@@ -1,19 +1,35 @@
--- Marked example 3 of document 01, cells; and the misreading that it names. Assumes nothing.
+-- The examples that document 01 marks for proof, of the course: 3 (cells) and 8 (square roots); and the misreading of cells that it names.
+-- Assumes nothing.
 use mathlib.Core.Path.{_≡_, refl}
-use Prim.Native.Nat.{ℕ, _≤_}
-use native.Mathlib.Omega.{arith}
-use mathlib.Core.Bool.{Bool, true, false}
-use lib.Ieee.{Float, nan, binary64, ofInt, add, sub, div, le, lt, neg, ofBits}
-use Rattle.course.specs.Arithmetic.{natural}
+use mathlib.Core.Bool.{true}
+use lib.Ieee.{nan, binary64, ofInt, add, sub, div, le, lt, neg, ofBits}
+use Rattle.course.specs.Arithmetic.{_⊖_, natural}
 use Rattle.course.specs.Constants.{playfield, scale, gridCell}
 use Rattle.course.specs.Cell.{along, cellOf, count}
+use Rattle.course.specs.Root.{sqrtOf}
 
--- NaN 0, −400 0, 0 33, 7 34, 1000 66
-pub cells : (cellOf nan ≡ 0) × (cellOf (neg (natural 400)) ≡ 0) × (cellOf (natural 0) ≡ 33) × (cellOf (natural 7) ≡ 34) × (cellOf (natural 1000) ≡ 66)
-unfolding cellOf count along natural playfield ofInt add div le neg scale gridCell
-cells = (refl, refl, refl, refl, refl)
+pub record Marked : Type 0 where
+  pub cell-nan : cellOf nan ≡ 0
+  pub cell-low : cellOf (neg (natural 400)) ≡ 0
+  pub cell-middle : cellOf (natural 0) ≡ 33
+  pub cell-seven : cellOf (natural 7) ≡ 34
+  pub cell-high : cellOf (natural 1000) ≡ 66
+  pub root-four : sqrtOf (natural 4) ≡ natural 2
+  pub root-below : sqrtOf (neg (natural 1)) ≡ nan
 
--- a v below 340 − P whose cell is 34
-pub misread : (lt (ofBits binary64 0x401aaaaaaaaaaabf) (sub binary64 (natural 340) playfield) ≡ true) × (cellOf (ofBits binary64 0x401aaaaaaaaaaabf) ≡ 34)
-unfolding cellOf count along natural playfield ofInt add sub div le lt ofBits scale gridCell
+pub marked : Marked
+unfolding cellOf count along natural playfield scale gridCell ofInt add div le neg sqrtOf
+marked = record {
+  cell-nan = refl;
+  cell-low = refl;
+  cell-middle = refl;
+  cell-seven = refl;
+  cell-high = refl;
+  root-four = refl;
+  root-below = refl;
+}
+
+-- the float just below 340 − P has cell 34: v ≥ 340 − P would give 33
+pub misread : (lt (ofBits binary64 0x401aaaaaaaaaaabf) (natural 340 ⊖ playfield) ≡ true) × (cellOf (ofBits binary64 0x401aaaaaaaaaaabf) ≡ 34)
+unfolding cellOf count along natural playfield scale gridCell ofInt add sub div le lt ofBits
 misread = (refl, refl)

@@ -1,7 +1,7 @@
 -- Laws of the index: of `listed`, `start`, `indexOf` and `table`. Assumes nothing.
 use Prim.Native.Nat.{ℕ, zero, suc, _+_, _*_, _-_, _≤_, _<_, zero-le, suc-le-suc}
 use mathlib.Core.Path.{_≡_, refl, sym, ap, _∙_, subst}
-use mathlib.Core.Bool.{Bool, true, false}
+use mathlib.Core.Bool.{Bool, true, false, _&&_, false≢true}
 use mathlib.Core.List.{List, [], _∷_, _++_, append-assoc, append-nil}
 use mathlib.Core.Logic.{_⊎_, inl, inr, ⊎-elim}
 use native.Mathlib.Decide.{decLt}
@@ -12,8 +12,8 @@ use lib.ListN.{length, getD, take, drop, length-append, List·getD-append}
 use lib.Seq.{ext-getD, getD-at, getD-take, getD-drop, take-add, take-all, length-take-le, take-at, drop-at}
 use lib.ListN.{length-take, length-drop}
 use lib.Dec.{leb, ltb}
-use borrow.Author.Tests.{lt-ltb, le-ltb, le-leb, lt-leb}
-use Rattle.course.specs.Index.{addIf, listed, start, indexOf, table, offsetsOf, lookup, pickList}
+use borrow.Author.Tests.{lt-ltb, le-ltb, le-leb, lt-leb, ltb-true, leb-true}
+use Rattle.course.specs.Index.{addIf, listed, start, indexOf, table, offsetsOf, partOk, lookup, pickList}
 use Rattle.course.specs.IndexSteps.{one}
 
 -- two numbers, in order or not
@@ -47,19 +47,51 @@ table-at f (suc k) i l =
     (λ m. List·getD-append (table f k) (f k ∷ []) 0 i (omega (arith, table-length f k)) ∙ table-at f k i m)
     (eq-or-lt-of-le (le-of-suc-le-suc l))
 
--- the lookup by its tests
+-- ---- the lookup by its tests
+pub and-left : (a b : Bool) → (a && b) ≡ true → a ≡ true
+and-left true b h = refl
+and-left false b h = h
+
+pub and-right : (a b : Bool) → (a && b) ≡ true → b ≡ true
+and-right true b h = h
+and-right false b h = absurd (false≢true h)
+
 module _ (o l : List ℕ) (c : ℕ) where
-  pub lookup-short : length o ≤ c + 1 → lookup o l c ≡ []
-  lookup-short a = simp (le-ltb (c + 1) (length o) a)
+  -- the part of a cell, as facts
+  pub record Part : Type 0 where
+    pub has : c + 1 < length o
+    pub rises : getD o c 0 ≤ getD o (c + 1) 0
+    pub ends : getD o (c + 1) 0 ≤ length l
 
-  pub lookup-falls : c + 1 < length o → getD o (c + 1) 0 < getD o c 0 → lookup o l c ≡ []
-  lookup-falls a b = simp (lt-ltb (c + 1) (length o) a, lt-leb (getD o c 0) (getD o (c + 1) 0) b)
+  pub part-facts : partOk o l c ≡ true → Part
+  unfolding partOk
+  part-facts h =
+      let r = and-right (ltb (c + 1) (length o)) (leb (getD o c 0) (getD o (c + 1) 0) && leb (getD o (c + 1) 0) (length l)) h in
+      record {
+        has = ltb-true _ _ (and-left (ltb (c + 1) (length o)) _ h);
+        rises = leb-true _ _ (and-left (leb (getD o c 0) (getD o (c + 1) 0)) _ r);
+        ends = leb-true _ _ (and-right (leb (getD o c 0) (getD o (c + 1) 0)) _ r);
+      }
 
-  pub lookup-passes : c + 1 < length o → getD o c 0 ≤ getD o (c + 1) 0 → length l < getD o (c + 1) 0 → lookup o l c ≡ []
-  lookup-passes a b d = simp (lt-ltb (c + 1) (length o) a, le-leb (getD o c 0) (getD o (c + 1) 0) b, lt-leb (getD o (c + 1) 0) (length l) d)
+  pub part-holds : Part → partOk o l c ≡ true
+  unfolding partOk
+  part-holds p = simp (lt-ltb (c + 1) (length o) (p .has), le-leb (getD o c 0) (getD o (c + 1) 0) (p .rises), le-leb (getD o (c + 1) 0) (length l) (p .ends))
 
-  pub lookup-part : c + 1 < length o → getD o c 0 ≤ getD o (c + 1) 0 → getD o (c + 1) 0 ≤ length l → lookup o l c ≡ take (getD o (c + 1) 0 - getD o c 0) (drop (getD o c 0) l)
-  lookup-part a b d = simp (lt-ltb (c + 1) (length o) a, le-leb (getD o c 0) (getD o (c + 1) 0) b, le-leb (getD o (c + 1) 0) (length l) d)
+  pub part-short : length o ≤ c + 1 → partOk o l c ≡ false
+  unfolding partOk
+  part-short h = simp (le-ltb (c + 1) (length o) h)
+
+  pub part-rest : c + 1 < length o → partOk o l c ≡ (leb (getD o c 0) (getD o (c + 1) 0) && leb (getD o (c + 1) 0) (length l))
+  unfolding partOk
+  part-rest h = simp (lt-ltb (c + 1) (length o) h)
+
+  pub lookup-none : partOk o l c ≡ false → lookup o l c ≡ []
+  unfolding lookup
+  lookup-none h = simp h
+
+  pub lookup-part : partOk o l c ≡ true → lookup o l c ≡ take (getD o (c + 1) 0 - getD o c 0) (drop (getD o c 0) l)
+  unfolding lookup
+  lookup-part h = simp h
 
 module _ (h : ℕ → ℕ → Bool) where
   pub listed-none : (c : ℕ) → length (listed h 0 c) ≡ 0
@@ -165,30 +197,44 @@ module _ (h : ℕ → ℕ → Bool) (n : ℕ) where
       more : (t : List ℕ) × (indexOf h n q ≡ indexOf h n c ++ (listed h n c ++ t)) → (t : List ℕ) × (indexOf h n q ++ listed h n q ≡ indexOf h n c ++ (listed h n c ++ t))
       more s = (s .0 ++ listed h n q, ap (λ (z : List ℕ). z ++ listed h n q) (s .1) ∙ simp append-assoc)
 
-  -- the law of the lookup: on a laid index, whatever stands past it, the lookup of cell c is what cell c lists
-  pub lookup-laid : (cells c : ℕ) (past past′ : List ℕ) → c < cells → lookup (offsetsOf h n cells ++ past) (indexOf h n cells ++ past′) c ≡ listed h n c
-  lookup-laid cells c past past′ l =
-      let o = offsetsOf h n cells ++ past in
-      let i = indexOf h n cells ++ past′ in
-      let lo : length o ≡ cells + 1 + length past = length-append (offsetsOf h n cells) past ∙ ap (λ (z : ℕ). z + length past) (table-length (start h n) (cells + 1)) in
-      let at : (k : ℕ) → k < cells + 1 → getD o k 0 ≡ start h n k =
-      λ k m. List·getD-append (offsetsOf h n cells) past 0 k (omega (arith, table-length (start h n) (cells + 1))) ∙ table-at (start h n) (cells + 1) k m
-      in
-      let a : getD o c 0 ≡ start h n c = at c (omega arith) in
-      let b : getD o (c + 1) 0 ≡ start h n c + length (listed h n c) = at (c + 1) (omega arith) ∙ start-more c in
-      let s : (t : List ℕ) × (indexOf h n cells ≡ indexOf h n c ++ (listed h n c ++ t)) = index-split c cells l in
-      let e : i ≡ indexOf h n c ++ (listed h n c ++ (s .0 ++ past′)) = ap (λ (z : List ℕ). z ++ past′) (s .1) ∙ simp append-assoc in
-      let li : start h n c + length (listed h n c) ≤ length i =
-      omega (arith, ap length e, length-append (indexOf h n c) (listed h n c ++ (s .0 ++ past′)), length-append (listed h n c) (s .0 ++ past′), index-length c)
-      in
-      let d : drop (getD o c 0) i ≡ listed h n c ++ (s .0 ++ past′) =
-      ap (λ (z : List ℕ). drop (getD o c 0) z) e ∙ drop-at (indexOf h n c) (listed h n c ++ (s .0 ++ past′)) (getD o c 0) (index-length c ∙ sym a)
-      in
-      let w : length (listed h n c) ≡ getD o (c + 1) 0 - getD o c 0 = omega arith in
-      let f : take (getD o (c + 1) 0 - getD o c 0) (drop (getD o c 0) i) ≡ listed h n c =
-      ap (λ (z : List ℕ). take (getD o (c + 1) 0 - getD o c 0) z) d ∙ take-at (listed h n c) (s .0 ++ past′) (getD o (c + 1) 0 - getD o c 0) w
-      in
-      lookup-part o i c (omega arith) (omega arith) (omega arith) ∙ f
+  -- ---- the law of the lookup: on a laid index, whatever stands past it, the lookup of cell c is what cell c lists
+  module _ (cells c : ℕ) (past past′ : List ℕ) (l : c < cells) where
+    offset-at : (k : ℕ) → k < cells + 1 → getD (offsetsOf h n cells ++ past) k 0 ≡ start h n k
+    offset-at k m = List·getD-append (offsetsOf h n cells) past 0 k (omega (arith, table-length (start h n) (cells + 1))) ∙ table-at (start h n) (cells + 1) k m
+
+    from-at : getD (offsetsOf h n cells ++ past) c 0 ≡ start h n c
+    from-at = offset-at c (omega arith)
+
+    to-at : getD (offsetsOf h n cells ++ past) (c + 1) 0 ≡ start h n c + length (listed h n c)
+    to-at = offset-at (c + 1) (omega arith) ∙ start-more c
+
+    abbrev rest : List ℕ
+    rest = index-split c cells l .0 ++ past′
+
+    parts : indexOf h n cells ++ past′ ≡ indexOf h n c ++ (listed h n c ++ rest)
+    parts = ap (λ (z : List ℕ). z ++ past′) (index-split c cells l .1) ∙ simp append-assoc
+
+    pub part-laid : partOk (offsetsOf h n cells ++ past) (indexOf h n cells ++ past′) c ≡ true
+    part-laid =
+        let o = offsetsOf h n cells ++ past in
+        let i = indexOf h n cells ++ past′ in
+        let lo : length o ≡ cells + 1 + length past = length-append (offsetsOf h n cells) past ∙ ap (λ (z : ℕ). z + length past) (table-length (start h n) (cells + 1)) in
+        let li : start h n c + length (listed h n c) ≤ length i =
+        omega (arith, ap length parts, length-append (indexOf h n c) (listed h n c ++ rest), length-append (listed h n c) rest, index-length c)
+        in
+        part-holds o i c (record { has = omega arith; rises = omega (arith, from-at, to-at); ends = omega (arith, to-at) })
+
+    pub lookup-laid : lookup (offsetsOf h n cells ++ past) (indexOf h n cells ++ past′) c ≡ listed h n c
+    lookup-laid =
+        let o = offsetsOf h n cells ++ past in
+        let i = indexOf h n cells ++ past′ in
+        let d : drop (getD o c 0) i ≡ listed h n c ++ rest =
+        ap (λ (z : List ℕ). drop (getD o c 0) z) parts ∙ drop-at (indexOf h n c) (listed h n c ++ rest) (getD o c 0) (index-length c ∙ sym from-at)
+        in
+        let w : length (listed h n c) ≡ getD o (c + 1) 0 - getD o c 0 = omega (arith, from-at, to-at) in
+        lookup-part o i c part-laid
+        ∙ ap (λ (z : List ℕ). take (getD o (c + 1) 0 - getD o c 0) z) d
+        ∙ take-at (listed h n c) rest (getD o (c + 1) 0 - getD o c 0) w
 
 -- how many of the cells below q the rectangle of tile i holds
 unfoldable pub heldBelow : (ℕ → Bool) → ℕ → ℕ

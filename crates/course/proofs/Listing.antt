@@ -12,10 +12,10 @@ use lib.Seq.{getD-at}
 use lib.Ieee.{Float}
 use lib.Dec.{ltb}
 use borrow.Author.Tests.{le-ltb}
-use Rattle.course.specs.Index.{addIf, listed, lookup, offsetsOf, indexOf, pickList}
+use Rattle.course.specs.Index.{addIf, listed, partOk, lookup, offsetsOf, indexOf, pickList}
 use Rattle.course.specs.Rect.{holdsOf, needed}
 use Rattle.course.specs.IndexSteps.{Built}
-use Rattle.course.proofs.IndexLaws.{order, listed-at, lookup-laid}
+use Rattle.course.proofs.IndexLaws.{order, listed-at, part-laid, lookup-laid}
 
 -- what stands at k after one element more
 snoc-at : (l : List ℕ) (x k : ℕ) → k < length (l ++ (x ∷ [])) → (k < length l) ⊎ (k ≡ length l)
@@ -69,7 +69,11 @@ Lists xs t = (k : ℕ) × (k < length xs) × (getD xs k 0 ≡ t)
 
 -- on a laid index, whatever stands past it, a cell lists t exactly where t is a tile whose rectangle holds the cell: for demand 3
 module _ (h : ℕ → ℕ → Bool) (n cells c : ℕ) (past past′ : List ℕ) (in-grid : c < cells) where
-  laid : lookup (offsetsOf h n cells ++ past) (indexOf h n cells ++ past′) c ≡ listed h n c
+  -- and the cell is no cause for refusal 10 by its offsets
+  pub part-ok : partOk (offsetsOf h n cells ++ past) (indexOf h n cells ++ past′) c ≡ true
+  part-ok = part-laid h n cells c past past′ in-grid
+
+  pub laid : lookup (offsetsOf h n cells ++ past) (indexOf h n cells ++ past′) c ≡ listed h n c
   laid = lookup-laid h n cells c past past′ in-grid
 
   pub lists-held : (t : ℕ) → Lists (lookup (offsetsOf h n cells ++ past) (indexOf h n cells ++ past′) c) t → (t < n) × (h t c ≡ true)

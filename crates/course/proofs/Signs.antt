@@ -23,6 +23,21 @@ nan-test nan = nan-differs
 nan-test (inf s) = same-test _ _ (λ t. subst (λ (x : Float). T (isNan x)) (sym (differs-from-itself (inf s) t)) tt) (λ t. absurd t)
 nan-test (fin s m e) = same-test _ _ (λ t. subst (λ (x : Float). T (isNan x)) (sym (differs-from-itself (fin s m e) t)) tt) (λ t. absurd t)
 
+-- what stands in a true comparison is no NaN
+pub number-of-lt : (x y : Float) → lt x y ≡ true → isNan x ≡ false
+unfolding lt isNan
+number-of-lt nan y h = absurd (false≢true h)
+number-of-lt (inf s) y h = refl
+number-of-lt (fin s m e) y h = refl
+
+pub number-of-lt-right : (x y : Float) → lt x y ≡ true → isNan y ≡ false
+unfolding lt isNan
+number-of-lt-right nan nan h = absurd (false≢true h)
+number-of-lt-right (inf s) nan h = absurd (false≢true h)
+number-of-lt-right (fin s m e) nan h = absurd (false≢true h)
+number-of-lt-right x (inf s) h = refl
+number-of-lt-right x (fin s m e) h = refl
+
 -- ---- signum
 abbrev nought : Float
 nought = fin false 0 (pos 0)

@@ -1,7 +1,7 @@
 -- Document 01, "Tiles and index": which ids each cell lists, and how the lists stand in the two lent columns. `h i c` says whether
 -- the rectangle of tile i holds cell c. Assumes nothing.
 use Prim.Native.Nat.{ℕ, zero, suc, _+_, _-_, _≤_, _<_}
-use mathlib.Core.Bool.{Bool, true, false}
+use mathlib.Core.Bool.{Bool, true, false, cond, _&&_}
 use mathlib.Core.List.{List, [], _∷_, _++_}
 use lib.ListN.{length, take, drop, getD}
 use lib.Dec.{leb, ltb}
@@ -39,13 +39,11 @@ abbrev pub pickList : Bool → List ℕ → List ℕ → List ℕ
 pickList true a b = a
 pickList false a b = b
 
+-- the offsets have cell c, do not fall there and do not pass the list
+unfoldable pub partOk : List ℕ → List ℕ → ℕ → Bool
+partOk offsets list c =
+    ltb (c + 1) (length offsets) && (leb (getD offsets c 0) (getD offsets (c + 1) 0) && leb (getD offsets (c + 1) 0) (length list))
+
 -- the lookup of cell c: the part of the list between its two offsets; the empty part where the offsets are short, fall there or pass the list
-abbrev pub lookup : List ℕ → List ℕ → ℕ → List ℕ
-lookup offsets list c =
-    pickList (ltb (c + 1) (length offsets))
-    (pickList (leb (getD offsets c 0) (getD offsets (c + 1) 0))
-    (pickList (leb (getD offsets (c + 1) 0) (length list))
-    (take (getD offsets (c + 1) 0 - getD offsets c 0) (drop (getD offsets c 0) list))
-    [])
-    [])
-    []
+unfoldable pub lookup : List ℕ → List ℕ → ℕ → List ℕ
+lookup offsets list c = cond (partOk offsets list c) (take (getD offsets (c + 1) 0 - getD offsets c 0) (drop (getD offsets c 0) list)) []

@@ -2,6 +2,7 @@
 use mathlib.Core.Bool.{Bool, true, false, cond, _&&_}
 use lib.Ieee.{Float, nan, inf, fin, lt, le, eq, neg, isNan}
 use Rattle.course.specs.Arithmetic.{natural}
+use Rattle.course.specs.Constants.{f64Max, f64Min}
 
 -- abs: the sign cleared, also of −0; NaN gives NaN
 unfoldable pub absOf : Float → Float
@@ -15,6 +16,13 @@ minOf a b = cond (lt b a) b (cond (isNan a) b a)
 
 unfoldable pub maxOf : Float → Float → Float
 maxOf a b = cond (lt a b) b (cond (isNan a) b a)
+
+-- the least and the greatest of four numbers, folded as in the Rust, from f64::MAX and f64::MIN: a NaN is passed over
+unfoldable pub leastOf : Float → Float → Float → Float → Float
+leastOf a b c d = minOf (minOf (minOf (minOf f64Max a) b) c) d
+
+unfoldable pub greatestOf : Float → Float → Float → Float → Float
+greatestOf a b c d = maxOf (maxOf (maxOf (maxOf f64Min a) b) c) d
 
 -- clamp: raised to lo, then lowered to hi; NaN stays NaN
 unfoldable pub clampOf : Float → Float → Float → Float

@@ -5,17 +5,9 @@ use mathlib.Core.List.{List}
 use lib.ListN.{getD}
 use lib.Dec.{leb}
 use lib.Ieee.{Float, nan}
-use Rattle.course.specs.Constants.{f64Max, f64Min}
-use Rattle.course.specs.Numeric.{minOf, maxOf}
+use Rattle.course.specs.Numeric.{leastOf, greatestOf}
 use Rattle.course.specs.Cell.{cellOf}
 use Rattle.course.specs.declared.index.Rect.{Rect}
-
--- the least and the greatest of four numbers, folded as in the Rust, from f64::MAX and f64::MIN: a NaN is passed over
-unfoldable pub leastOf : Float → Float → Float → Float → Float
-leastOf a b c d = minOf (minOf (minOf (minOf f64Max a) b) c) d
-
-unfoldable pub greatestOf : Float → Float → Float → Float → Float
-greatestOf a b c d = maxOf (maxOf (maxOf (maxOf f64Min a) b) c) d
 
 -- the k-th number of tile i: the corners' x and y in turn
 abbrev pub coordinate : List Float → ℕ → ℕ → Float

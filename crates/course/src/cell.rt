@@ -1,6 +1,6 @@
-// The cells of the grid along one axis (document 01, "Tiles and index").
+// The cells of the grid (document 01, "Tiles and index").
 ghost use mathlib.Core.Path.{_≡_};
-ghost use Rattle.course.specs.Cell.{cellOf};
+ghost use Rattle.course.specs.Cell.{cellOf, cellAt};
 use crate::constants::GRID_CELL;
 use crate::constants::PLAYFIELD;
 
@@ -16,4 +16,11 @@ pub fn cell_of(v: f64) -> usize
         return std::num::truncating_f64_to_u64(w) as usize;
     }
     0
+}
+
+// The number of a point's cell: row times 67 plus column.
+pub fn cell_at(x: f64, y: f64) -> usize
+    ensures { λ r. ⌜ r ≡ cellAt x y ⌝ }
+{
+    cell_of(y) * 67 + cell_of(x)
 }

@@ -5,15 +5,14 @@ ghost use mathlib.Core.Bool.{true};
 ghost use mathlib.Core.List.{List, _++_};
 ghost use Prim.Native.Nat.{ℕ, _+_, _*_, _-_, _<_, _≤_};
 ghost use lib.ListN.{length, getD, take, drop, replicate};
-ghost use Rattle.course.specs.Cell.{cellOf};
-ghost use Rattle.course.specs.Rect.{leastOf, greatestOf, rectOf, holds, holdsOf, areaOf, needed};
-ghost use Rattle.course.specs.Index.{listed, start, indexOf, offsetsOf, lookup};
+ghost use Rattle.course.specs.Cell.{cellAt};
+ghost use Rattle.course.specs.Rect.{rectOf, holds, holdsOf, areaOf, needed};
+ghost use Rattle.course.specs.Index.{listed, start, indexOf, offsetsOf, partOk, lookup};
 ghost use Rattle.course.specs.IndexSteps.{Small, Built, Inside, RunCounted, RectCounted, Counts, Summed, RunPlaced, RectPlaced, Placed};
+use crate::cell::cell_at;
 use crate::cell::cell_of;
-use crate::constants::MAX;
-use crate::constants::MIN;
-use crate::numeric::max;
-use crate::numeric::min;
+use crate::numeric::greatest;
+use crate::numeric::least;
 
 // A tile's rectangle of cells, its first and last column and row.
 pub(crate) struct Rect {
@@ -21,20 +20,6 @@ pub(crate) struct Rect {
     pub x1: usize,
     pub y0: usize,
     pub y1: usize,
-}
-
-// The least of four numbers, a NaN passed over.
-fn least(a: f64, b: f64, c: f64, d: f64) -> f64
-    ensures { λ r. ⌜ r ≡ leastOf a b c d ⌝ }
-{
-    min(min(min(min(MAX, a), b), c), d)
-}
-
-// The greatest of four numbers, a NaN passed over.
-fn greatest(a: f64, b: f64, c: f64, d: f64) -> f64
-    ensures { λ r. ⌜ r ≡ greatestOf a b c d ⌝ }
-{
-    max(max(max(max(MIN, a), b), c), d)
 }
 
 // The cells from the least to the greatest coordinates of tile i.
@@ -251,22 +236,36 @@ pub(crate) fn build_index(
     IndexRoom { short: false, need }
 }
 
+// Whether the offsets have the cell, do not fall there and do not pass the list.
+pub fn part_ok(offsets: &[u32], list: &[u32], cell: usize) -> bool
+    ensures { λ r. ⌜ r ≡ partOk (now (offsets .entry)) (now (list .entry)) cell ⌝ }
+{
+    if offsets.len() < 2 {
+        return false;
+    }
+    if offsets.len() - 2 < cell {
+        return false;
+    }
+    let from = wide(offsets[cell]);
+    let to = wide(offsets[cell + 1]);
+    (from <= to) & (to <= list.len())
+}
+
+// The part of the lent list for a cell.
+pub fn cell_tiles<'a>(offsets: &[u32], list: &'a [u32], cell: usize) -> &'a [u32]
+    ensures { λ r. ⌜ now r ≡ lookup (now (offsets .entry)) (now (list .entry)) cell ⌝ }
+{
+    if !part_ok(offsets, list, cell) {
+        return &list[0..0];
+    }
+    let from = wide(offsets[cell]);
+    let to = wide(offsets[cell + 1]);
+    &list[from..to]
+}
+
 // The part of the lent list for the point's cell.
 pub fn candidate_tiles<'a>(offsets: &[u32], list: &'a [u32], x: f64, y: f64) -> &'a [u32]
-    ensures { λ r. ⌜ now r ≡ lookup (now (offsets .entry)) (now (list .entry)) (cellOf y * 67 + cellOf x) ⌝ }
+    ensures { λ r. ⌜ now r ≡ lookup (now (offsets .entry)) (now (list .entry)) (cellAt x y) ⌝ }
 {
-    let row = cell_of(y);
-    let c = row * 67 + cell_of(x);
-    if offsets.len() <= c + 1 {
-        return &list[0..0];
-    }
-    let a = wide(offsets[c]);
-    let e = wide(offsets[c + 1]);
-    if e < a {
-        return &list[0..0];
-    }
-    if list.len() < e {
-        return &list[0..0];
-    }
-    &list[a..e]
+    cell_tiles(offsets, list, cell_at(x, y))
 }

@@ -1,7 +1,12 @@
 // Rust's methods on f64, at NaN and -0 too.
 ghost use mathlib.Core.Path.{_≡_};
-ghost use Rattle.course.specs.Numeric.{absOf, minOf, maxOf, clampOf, signumOf, within};
+ghost use mathlib.Core.Bool.{false};
+ghost use lib.Ieee.{isNan};
+ghost use Rattle.course.specs.Numeric.{absOf, minOf, maxOf, leastOf, greatestOf, clampOf, signumOf, within};
+use crate::constants::MAX;
+use crate::constants::MIN;
 
+// x with its sign cleared.
 pub fn abs(x: f64) -> f64
     ensures { λ r. ⌜ r ≡ absOf x ⌝ }
 {
@@ -14,6 +19,7 @@ pub fn abs(x: f64) -> f64
     x
 }
 
+// The lesser of two; the other where one is NaN.
 pub fn min(a: f64, b: f64) -> f64
     ensures { λ r. ⌜ r ≡ minOf a b ⌝ }
 {
@@ -26,6 +32,7 @@ pub fn min(a: f64, b: f64) -> f64
     a
 }
 
+// The greater of two; the other where one is NaN.
 pub fn max(a: f64, b: f64) -> f64
     ensures { λ r. ⌜ r ≡ maxOf a b ⌝ }
 {
@@ -38,6 +45,39 @@ pub fn max(a: f64, b: f64) -> f64
     a
 }
 
+// The least so far, and a number: the lesser, a NaN passed over.
+fn lesser(least: f64, x: f64) -> f64
+    requires { ⌜ isNan least ≡ false ⌝ }
+    ensures { λ r. ⌜ r ≡ minOf least x ⌝ }
+    ensures { λ r. ⌜ isNan r ≡ false ⌝ }
+{
+    if x < least { x } else { least }
+}
+
+// The greatest so far, and a number: the greater, a NaN passed over.
+fn greater(greatest: f64, x: f64) -> f64
+    requires { ⌜ isNan greatest ≡ false ⌝ }
+    ensures { λ r. ⌜ r ≡ maxOf greatest x ⌝ }
+    ensures { λ r. ⌜ isNan r ≡ false ⌝ }
+{
+    if greatest < x { x } else { greatest }
+}
+
+// The least of four numbers, a NaN passed over.
+pub fn least(a: f64, b: f64, c: f64, d: f64) -> f64
+    ensures { λ r. ⌜ r ≡ leastOf a b c d ⌝ }
+{
+    lesser(lesser(lesser(lesser(MAX, a), b), c), d)
+}
+
+// The greatest of four numbers, a NaN passed over.
+pub fn greatest(a: f64, b: f64, c: f64, d: f64) -> f64
+    ensures { λ r. ⌜ r ≡ greatestOf a b c d ⌝ }
+{
+    greater(greater(greater(greater(MIN, a), b), c), d)
+}
+
+// x, raised to lo, then lowered to hi.
 pub fn clamp(x: f64, lo: f64, hi: f64) -> f64
     ensures { λ r. ⌜ r ≡ clampOf x lo hi ⌝ }
 {
@@ -53,6 +93,7 @@ pub fn clamp(x: f64, lo: f64, hi: f64) -> f64
     x
 }
 
+// 1 with the sign of x, also of 0 and -0; NaN gives NaN.
 pub fn signum(x: f64) -> f64
     ensures { λ r. ⌜ r ≡ signumOf x ⌝ }
 {

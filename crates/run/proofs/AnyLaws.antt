@@ -9,7 +9,8 @@ use native.Mathlib.Decide.{ℕ-discrete}
 use lib.Dec.{lit<}
 use lib.ListN.{length, getD, take, drop, length-drop}
 use lib.Seq.{getD-take, getD-drop, length-take-le}
-use Rattle.run.specs.Words.{bitOf, member, anyBelow}
+use Rattle.run.specs.Below.{anyBelow}
+use Rattle.run.specs.Words.{bitOf, member}
 use Rattle.run.specs.Grip.{onRoad}
 use Rattle.run.proofs.Tests.{left-false, right-false, not-false}
 use Rattle.run.proofs.WordLaws.{member-at, word-ext, bit-none}

@@ -1,4 +1,6 @@
 pub mod WordLaws
+pub mod CreditLaws
+pub mod TouchLaws
 pub mod Literals
 pub mod SmallForces
 pub mod PassLaws

@@ -3,7 +3,8 @@ use mathlib.Core.Path.{_≡_, refl}
 use lib.Ieee.{binary64, ofBits, ofInt, round, mul, div}
 use Rattle.course.specs.Arithmetic.{natural, decimal}
 use Rattle.course.specs.Constants.{fps}
-use Rattle.run.specs.Dynamics.{size, enginePower, wheelMomentOfInertia, frictionLimit, wheelR, wheelRad, stiffness, dt}
+use Rattle.run.specs.Dynamics.{enginePower, wheelMomentOfInertia, frictionLimit, wheelRad, stiffness, dt}
+use Rattle.run.specs.Wheel.{size, wheelR}
 
 -- ---- the constants of the reference's dynamics.rs
 

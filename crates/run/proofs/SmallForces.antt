@@ -6,7 +6,8 @@ use lib.Ieee.{Float, binary64, ofBits, ofInt, round, mul, fits, lt, le}
 use Rattle.course.specs.Arithmetic.{natural, decimal}
 use Rattle.course.specs.Root.{sqrtOf}
 use Rattle.course.proofs.RootLaw.{root-within}
-use Rattle.run.specs.Dynamics.{size, frictionLimit, limitOf}
+use Rattle.run.specs.Dynamics.{frictionLimit, limitOf}
+use Rattle.run.specs.Wheel.{size}
 
 no-T : (b : Bool) → (T b → ⊥) → b ≡ false
 no-T true h = absurd (h tt)

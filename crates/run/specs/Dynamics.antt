@@ -6,16 +6,13 @@ use Rattle.course.specs.Arithmetic.{_⊕_, _⊖_, _⊗_, _⊘_, natural, decima
 use Rattle.course.specs.Constants.{fps}
 use Rattle.course.specs.Numeric.{absOf, minOf, signumOf}
 use Rattle.course.specs.Root.{sqrtOf}
+use Rattle.run.specs.Wheel.{size, wheelR}
 use Rattle.run.specs.declared.state.WheelCtl.{WheelCtl}
 use Rattle.run.specs.declared.dynamics.Motion.{Motion}
 use Rattle.run.specs.declared.dynamics.TyreForce.{TyreForce}
 use Rattle.run.specs.declared.dynamics.Turned.{Turned}
 
--- ---- the constants of the reference's dynamics.rs, each the Rust's expression
-
--- SIZE
-unfoldable pub size : Float
-size = decimal 2 100
+-- ---- the constants of the reference's dynamics.rs, each the Rust's expression; SIZE and WHEEL_R stand in Wheel
 
 -- ENGINE_POWER
 unfoldable pub enginePower : Float
@@ -28,10 +25,6 @@ wheelMomentOfInertia = natural 4000 ⊗ size ⊗ size
 -- FRICTION_LIMIT
 unfoldable pub frictionLimit : Float
 frictionLimit = natural 1000000 ⊗ size ⊗ size
-
--- WHEEL_R
-unfoldable pub wheelR : Float
-wheelR = natural 27
 
 -- `wheel_rad`
 unfoldable pub wheelRad : Float

@@ -2,7 +2,8 @@
 use mathlib.Core.Bool.{Bool}
 use mathlib.Core.List.{List, [], _∷_}
 use Prim.Native.Nat.{ℕ, _+_, _*_}
-use Rattle.run.specs.Words.{member, anyBelow}
+use Rattle.run.specs.Below.{anyBelow}
+use Rattle.run.specs.Words.{member}
 
 -- some tile is in the set of wheel w
 unfoldable pub onRoad : ℕ → List ℕ → ℕ → Bool

@@ -36,11 +36,6 @@ unfoldable pub howMany : ℕ → (ℕ → Bool) → ℕ
 howMany zero p = 0
 howMany (suc n) p = howMany n p + digit (p n)
 
--- some number below n has p
-unfoldable pub anyBelow : ℕ → (ℕ → Bool) → Bool
-anyBelow zero p = false
-anyBelow (suc n) p = anyBelow n p || p n
-
 -- how many bits of the words are set
 unfoldable pub countOf : List ℕ → ℕ
 countOf [] = 0

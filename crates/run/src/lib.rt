@@ -4,8 +4,10 @@
 // `requires`. The definitions that the contracts cite stand in specs/, a file for each heading of document 01.
 pub mod drive;
 pub mod dynamics;
+pub mod quad;
 pub mod reward;
 pub mod sheet;
 pub mod state;
+pub mod touch;
 pub mod widths;
 mod words;

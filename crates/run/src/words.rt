@@ -1,10 +1,22 @@
-// Sets of numbers kept as words of 64 bits, for any number of words.
+// Sets of tiles kept as words of 64 bits: tile t is bit t % 64 of word t / 64. Every function takes
+// slices of any number of words, so that states of several widths share it.
 ghost use mathlib.Core.Path.{_≡_};
-ghost use Prim.Native.Nat.{_*_};
+ghost use mathlib.Core.Bool.{false, not, _&&_, _||_};
+ghost use Prim.Native.Nat.{_*_, _<_};
+ghost use lib.Dec.{eqb};
 ghost use lib.ListN.{length};
-ghost use Rattle.run.specs.Words.{member, anyBelow};
+ghost use Rattle.run.specs.Below.{anyBelow};
+ghost use Rattle.run.specs.Words.{member, setOf, howMany};
 
-// Whether the set has a member.
+// Whether the set has a tile.
+pub(crate) fn has(set: &[u64], id: usize) -> bool
+    requires { ⌜ id < 64 * length (now set) ⌝ }
+    ensures { λ r. ⌜ r ≡ member (now (set .entry)) id ⌝ }
+{
+    (set[id / 64] >> (id % 64)) % 2 == 1
+}
+
+// Whether the set has any tile.
 pub(crate) fn any(set: &[u64]) -> bool
     ensures { λ r. ⌜ r ≡ anyBelow (64 * length (now (set .entry))) (member (now (set .entry))) ⌝ }
 {
@@ -16,4 +28,53 @@ pub(crate) fn any(set: &[u64]) -> bool
         i += 1;
     }
     false
+}
+
+// The set with a tile more.
+pub(crate) fn put(set: &mut [u64], id: usize)
+    requires { ⌜ id < 64 * length (now set) ⌝ }
+    ensures { λ _. ⌜ now (set .exit) ≡ setOf (length (now (set .entry))) (λ t. member (now (set .entry)) t || eqb t id) ⌝ }
+{
+    set[id / 64] = set[id / 64] | (1u64 << (id % 64));
+}
+
+// The empty set.
+pub(crate) fn clear(set: &mut [u64])
+    ensures { λ _. ⌜ now (set .exit) ≡ setOf (length (now (set .entry))) (λ t. false) ⌝ }
+{
+    let mut i: usize = 0;
+    while i < set.len() {
+        set[i] = 0;
+        i += 1;
+    }
+}
+
+// The set `to` becomes the set `from`.
+pub(crate) fn copy(from: &[u64], to: &mut [u64])
+    requires { ⌜ length (now from) ≡ length (now to) ⌝ }
+    ensures { λ _. ⌜ now (to .exit) ≡ now (from .entry) ⌝ }
+{
+    let mut i: usize = 0;
+    while i < to.len() {
+        to[i] = from[i];
+        i += 1;
+    }
+}
+
+// What is in `cur` and not in `last` is credited; how many of these tiles were not credited before.
+pub(crate) fn credit(credited: &mut [u64], last: &[u64], cur: &[u64]) -> u32
+    requires { ⌜ (length (now last) ≡ length (now credited)) × (length (now cur) ≡ length (now credited)) ⌝ }
+    requires { ⌜ 64 * length (now credited) < 4294967296 ⌝ }
+    ensures { λ r. ⌜ now (credited .exit) ≡ setOf (length (now (credited .entry))) (λ t. member (now (credited .entry)) t || (member (now (cur .entry)) t && not (member (now (last .entry)) t))) ⌝ }
+    ensures { λ r. ⌜ r ≡ howMany (64 * length (now (credited .entry))) (λ t. (member (now (cur .entry)) t && not (member (now (last .entry)) t)) && not (member (now (credited .entry)) t)) ⌝ }
+{
+    let mut fresh: u32 = 0;
+    let mut i: usize = 0;
+    while i < credited.len() {
+        let entered = cur[i] & !last[i];
+        fresh += u64::count_ones(entered & !credited[i]);
+        credited[i] = credited[i] | entered;
+        i += 1;
+    }
+    fresh
 }

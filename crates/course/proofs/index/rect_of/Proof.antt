@@ -5,7 +5,8 @@ use mathlib.Core.List.{List}
 use lib.ListN.{getD}
 use lib.Ieee.{Float, nan}
 use Rattle.course.proofs.CourseRects.{rect-same}
-use Rattle.course.specs.Rect.{rectOf, leastOf, greatestOf}
+use Rattle.course.specs.Rect.{rectOf}
+use Rattle.course.specs.Numeric.{leastOf, greatestOf}
 use Rattle.course.specs.Cell.{cellOf}
 use native.Mathlib.Nat.{add-zero}
 use borrow.Author.Needs.{needs}
@@ -14,8 +15,8 @@ use Rattle.course.proofs.index.rect_of.Tie as tie
 use Rattle.course.proofs.index.rect_of.Reads as reads
 use Rattle.course.proofs.index.rect_of.Lts as lts
 use Rattle.course.proofs.cell.cell_of.Reads as cell-of-reads
-use Rattle.course.proofs.index.greatest.Reads as greatest-reads
-use Rattle.course.proofs.index.least.Reads as least-reads
+use Rattle.course.proofs.numeric.greatest.Reads as greatest-reads
+use Rattle.course.proofs.numeric.least.Reads as least-reads
 
 mul-q : tie.Need-mul-q
 mul-q c = search needs

@@ -1,0 +1,51 @@
+-- `course_vectors::hash::marks` is safe and ends. Assumes nothing.
+use Prim.Native.Nat.{_-_}
+use lib.ListN.{length}
+use borrow.Author.Needs.{needs}
+use Rattle.course_vectors.proofs.hash.marks.Statement.{statement}
+use Rattle.course_vectors.proofs.hash.marks.Tie as tie
+
+abbrev Inv-loop : tie.InvT-loop
+Inv-loop col h₀ i₀ h i = Unit
+
+abbrev μ-loop : tie.MeasureT-loop
+μ-loop col h₀ i₀ h i = length col - i
+
+loop-holds : tie.Need-loop-holds Inv-loop μ-loop
+loop-holds c = search needs
+
+shared-slice-read-wide-mark : tie.Need-shared-slice-read-wide-mark Inv-loop μ-loop
+shared-slice-read-wide-mark c = search needs
+
+wide-mark-requires : tie.Need-wide-mark-requires Inv-loop μ-loop
+wide-mark-requires c κs = search needs
+
+mix-requires : tie.Need-mix-requires Inv-loop μ-loop
+mix-requires c κs = search needs
+
+add-i : tie.Need-add-i Inv-loop μ-loop
+add-i c = search needs
+
+loop-less : tie.Need-loop-less Inv-loop μ-loop
+loop-less c = search needs
+
+loop-again : tie.Need-loop-again Inv-loop μ-loop
+loop-again c = search needs
+
+returns : tie.Need-returns Inv-loop μ-loop
+returns c = search needs
+
+pub marks-spec : {M : Type 1} → statement M
+marks-spec =
+    tie.close
+    (tie.spec
+    Inv-loop
+    μ-loop
+    loop-holds
+    shared-slice-read-wide-mark
+    wide-mark-requires
+    mix-requires
+    add-i
+    loop-less
+    loop-again
+    returns)

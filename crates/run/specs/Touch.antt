@@ -1,0 +1,47 @@
+-- Document 01, "Touch", over lent tiles, offsets and list: a wheel touches tile t when the cell of one of the four corners of its box lists t, and the
+-- quads overlap; and cause 10. Assumes nothing.
+use mathlib.Core.Bool.{Bool, _&&_}
+use mathlib.Core.List.{List, [], _∷_}
+use Prim.Native.Nat.{ℕ, _+_, _*_}
+use lib.Dec.{eqb, ltb}
+use lib.ListN.{getD}
+use lib.Ieee.{Float, nan}
+use Rattle.course.specs.Tiles.{pair}
+use Rattle.course.specs.Index.{partOk, lookup}
+use Rattle.run.specs.Below.{everyBelow, someOf, everyOf}
+use Rattle.run.specs.Overlap.{overlapOf}
+use Rattle.run.specs.Wheel.{quadOf, boxCells}
+use Rattle.run.specs.declared.state.Pose.{Pose}
+
+-- tile t of the lent tiles, eight numbers to a tile, as a quad
+unfoldable pub tileOf : List Float → ℕ → List (List Float)
+tileOf ts t =
+    pair (getD ts (t * 8) nan) (getD ts (t * 8 + 1) nan)
+    ∷ pair (getD ts (t * 8 + 2) nan) (getD ts (t * 8 + 3) nan)
+    ∷ pair (getD ts (t * 8 + 4) nan) (getD ts (t * 8 + 5) nan)
+    ∷ pair (getD ts (t * 8 + 6) nan) (getD ts (t * 8 + 7) nan)
+    ∷ []
+
+-- the list has t
+abbrev pub lists : List ℕ → ℕ → Bool
+lists ids t = someOf (eqb t) ids
+
+-- the cell of one of the four corners of the quad's box lists t
+unfoldable pub listedBy : List ℕ → List ℕ → List (List Float) → ℕ → Bool
+listedBy offs l q t = someOf (λ c. lists (lookup offs l c) t) (boxCells q)
+
+unfoldable pub touchedBy : List Float → List ℕ → List ℕ → List (List Float) → ℕ → Bool
+touchedBy ts offs l q t = listedBy offs l q t && overlapOf q (tileOf ts t)
+
+-- ---- cause 10: in a cell looked up, offsets fall or pass the list, or an id is n or more
+
+unfoldable pub soundCell : List ℕ → List ℕ → ℕ → ℕ → Bool
+soundCell offs l n c = partOk offs l c && everyOf (λ t. ltb t n) (lookup offs l c)
+
+-- the four cells of a quad's box
+unfoldable pub soundQuad : List ℕ → List ℕ → ℕ → List (List Float) → Bool
+soundQuad offs l n q = everyOf (soundCell offs l n) (boxCells q)
+
+-- all sixteen look-ups of the four wheels
+unfoldable pub soundPoses : List ℕ → List ℕ → ℕ → List Pose → Bool
+soundPoses offs l n ps = everyBelow 4 (λ w. soundQuad offs l n (quadOf ps w))

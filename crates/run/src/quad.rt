@@ -1,0 +1,106 @@
+// Quads of four corners: a wheel's, a tile's, and whether two of them overlap (document 01, "Touch").
+ghost use mathlib.Core.Path.{_≡_};
+ghost use Prim.Native.Nat.{_+_, _*_, _≤_};
+ghost use lib.ListN.{length};
+ghost use Rattle.course.specs.Tiles.{corner};
+ghost use Rattle.run.specs.Overlap.{leastOn, greatestOn, apartOn, apartAlong, apartByEdges, overlapOf};
+ghost use Rattle.run.specs.Wheel.{placed, wheelQuad, boxCells};
+use crate::dynamics::SIZE;
+use crate::dynamics::WHEEL_R;
+use crate::state::Pose;
+use course::cell::cell_at;
+use course::numeric::greatest;
+use course::numeric::least;
+
+const WHEEL_W: f64 = 14.0;
+
+// The least projection of a quad on the axis (nx, ny).
+fn least_on(nx: f64, ny: f64, q: [[f64; 2]; 4]) -> f64
+    ensures { λ r. ⌜ r ≡ leastOn nx ny q ⌝ }
+{
+    least(
+        nx * q[0][0] + ny * q[0][1],
+        nx * q[1][0] + ny * q[1][1],
+        nx * q[2][0] + ny * q[2][1],
+        nx * q[3][0] + ny * q[3][1],
+    )
+}
+
+// The greatest projection of a quad on the axis (nx, ny).
+fn greatest_on(nx: f64, ny: f64, q: [[f64; 2]; 4]) -> f64
+    ensures { λ r. ⌜ r ≡ greatestOn nx ny q ⌝ }
+{
+    greatest(
+        nx * q[0][0] + ny * q[0][1],
+        nx * q[1][0] + ny * q[1][1],
+        nx * q[2][0] + ny * q[2][1],
+        nx * q[3][0] + ny * q[3][1],
+    )
+}
+
+// The quads lie apart on the axis (nx, ny).
+fn apart_on(nx: f64, ny: f64, a: [[f64; 2]; 4], b: [[f64; 2]; 4]) -> bool
+    ensures { λ r. ⌜ r ≡ apartOn nx ny a b ⌝ }
+{
+    (greatest_on(nx, ny, a) < least_on(nx, ny, b)) | (greatest_on(nx, ny, b) < least_on(nx, ny, a))
+}
+
+// The quads lie apart on a normal of one of the four edges of q.
+fn apart_by_edges(q: [[f64; 2]; 4], a: [[f64; 2]; 4], b: [[f64; 2]; 4]) -> bool
+    ensures { λ r. ⌜ r ≡ apartByEdges q a b ⌝ }
+{
+    if apart_on(q[1][1] - q[0][1], q[0][0] - q[1][0], a, b) {
+        return true;
+    }
+    if apart_on(q[2][1] - q[1][1], q[1][0] - q[2][0], a, b) {
+        return true;
+    }
+    if apart_on(q[3][1] - q[2][1], q[2][0] - q[3][0], a, b) {
+        return true;
+    }
+    apart_on(q[0][1] - q[3][1], q[3][0] - q[0][0], a, b)
+}
+
+// Whether two quads overlap, by the eight normals of their edges.
+pub fn quad_overlap(a: [[f64; 2]; 4], b: [[f64; 2]; 4]) -> bool
+    ensures { λ r. ⌜ r ≡ overlapOf a b ⌝ }
+{
+    if apart_by_edges(a, a, b) {
+        return false;
+    }
+    !apart_by_edges(b, a, b)
+}
+
+// The place (u, v) of a wheel's own frame under its pose.
+fn place(p: Pose, u: f64, v: f64) -> [f64; 2]
+    ensures { λ r. ⌜ r ≡ placed p u v ⌝ }
+{
+    [p.x + p.cos * u - p.sin * v, p.y + p.sin * u + p.cos * v]
+}
+
+// The quad of a wheel.
+pub fn wheel_quad(p: Pose) -> [[f64; 2]; 4]
+    ensures { λ r. ⌜ r ≡ wheelQuad p ⌝ }
+{
+    let a = place(p, -WHEEL_W * SIZE, WHEEL_R * SIZE);
+    let b = place(p, WHEEL_W * SIZE, WHEEL_R * SIZE);
+    let c = place(p, WHEEL_W * SIZE, -WHEEL_R * SIZE);
+    let d = place(p, -WHEEL_W * SIZE, -WHEEL_R * SIZE);
+    [a, b, c, d]
+}
+
+// The cells of the four corners of a quad's box.
+pub fn box_cells(q: [[f64; 2]; 4]) -> [usize; 4]
+    ensures { λ r. ⌜ r ≡ boxCells q ⌝ }
+{
+    let x0 = least(q[0][0], q[1][0], q[2][0], q[3][0]);
+    let y0 = least(q[0][1], q[1][1], q[2][1], q[3][1]);
+    let x1 = greatest(q[0][0], q[1][0], q[2][0], q[3][0]);
+    let y1 = greatest(q[0][1], q[1][1], q[2][1], q[3][1]);
+    [
+        cell_at(x0, y0),
+        cell_at(x1, y0),
+        cell_at(x0, y1),
+        cell_at(x1, y1),
+    ]
+}
