@@ -1,6 +1,7 @@
 pub mod WordLaws
 pub mod CreditLaws
 pub mod TouchLaws
+pub mod ContactLaws
 pub mod Literals
 pub mod SmallForces
 pub mod PassLaws

@@ -5,6 +5,7 @@ pub mod Wheel
 pub mod Below
 pub mod Touch
 pub mod TouchSteps
+pub mod Contact
 pub mod Widths
 pub mod Grip
 pub mod Dynamics
