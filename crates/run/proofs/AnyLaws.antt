@@ -2,30 +2,18 @@
 use mathlib.Core.Bool.{Bool, true, false, _||_}
 use mathlib.Core.List.{List}
 use mathlib.Core.Path.{_≡_, refl, sym, ap, ap₂, _∙_}
-use Prim.Native.Nat.{ℕ, zero, suc, _+_, _-_, _*_, _/_, _%_, _^_, _≤_, _<_}
-use native.Mathlib.Nat.{mul-assoc}
+use Prim.Native.Nat.{ℕ, zero, suc, _+_, _*_, _/_, _%_, _^_, _≤_, _<_}
 use native.Mathlib.Omega.{arith}
 use native.Mathlib.Decide.{ℕ-discrete}
 use lib.Dec.{lit<}
 use lib.ListN.{length, getD, take, drop, length-drop}
-use lib.Seq.{getD-take, getD-drop, length-take-le}
+use lib.Seq.{length-take-le}
 use Rattle.run.specs.Below.{anyBelow}
 use Rattle.run.specs.Words.{bitOf, member}
+use Rattle.run.specs.Contact.{wheelPart}
 use Rattle.run.specs.Grip.{onRoad}
 use Rattle.run.proofs.Tests.{left-false, right-false, not-false}
 use Rattle.run.proofs.WordLaws.{member-at, word-ext, bit-none}
-
--- where a number of wheel w has its word and bit
-word-of : (m w t : ℕ) → m * w + t / 64 ≡ (64 * m * w + t) / 64
-word-of m w t = omega (arith, mul-assoc 64 m w)
-
-bit-of : (m w t : ℕ) → t % 64 ≡ (64 * m * w + t) % 64
-bit-of m w t = omega (arith, mul-assoc 64 m w)
-
-pub any-cong : (n : ℕ) (p q : ℕ → Bool) → ((t : ℕ) → t < n → p t ≡ q t) → anyBelow n p ≡ anyBelow n q
-unfolding anyBelow
-any-cong zero p q e = refl
-any-cong (suc n) p q e = ap₂ _||_ (any-cong n p q (λ t h. e t (omega arith))) (e n (omega arith))
 
 pub any-none : (n : ℕ) (p : ℕ → Bool) → ((t : ℕ) → t < n → p t ≡ false) → anyBelow n p ≡ false
 unfolding anyBelow
@@ -59,14 +47,10 @@ pub zero-more : (ws : List ℕ) (i : ℕ) → ((j : ℕ) → j < i → getD ws j
 zero-more ws i z e j h =
     elim (ℕ-discrete j i) [ yes q ↦ ap (λ (x : ℕ). getD ws x 0) q ∙ e | no q ↦ z j (omega arith) ]
 
--- the set of wheel w is the part of k words from word m * w on, where k is m
-pub part-any : (m w k : ℕ) (ws : List ℕ) → k ≡ m → m * w + m ≤ length ws
-    → anyBelow (64 * length (take k (drop (m * w) ws))) (member (take k (drop (m * w) ws))) ≡ onRoad m ws w
-unfolding onRoad member
+-- the set of wheel w is the part of k words from word w * m on, where k is m
+pub part-any : (m w k : ℕ) (ws : List ℕ) → k ≡ m → w * m + m ≤ length ws
+    → anyBelow (64 * length (take k (drop (w * m) ws))) (member (take k (drop (w * m) ws))) ≡ onRoad m ws w
+unfolding onRoad wheelPart
 part-any m w k ws e h =
-    let part = take m (drop (m * w) ws) in
-    ap (λ (j : ℕ). anyBelow (64 * length (take j (drop (m * w) ws))) (member (take j (drop (m * w) ws)))) e
-    ∙ ap (λ (j : ℕ). anyBelow (64 * j) (member part)) (length-take-le m (drop (m * w) ws) (omega (arith, length-drop (m * w) ws)))
-    ∙ any-cong (64 * m) (member part) (λ t. member ws (64 * m * w + t)) (λ t l.
-    ap (λ (x : ℕ). bitOf x (t % 64)) (getD-take m (drop (m * w) ws) (t / 64) 0 (omega arith) ∙ getD-drop (m * w) ws (t / 64) 0)
-    ∙ ap₂ (λ (x y : ℕ). bitOf (getD ws x 0) y) (word-of m w t) (bit-of m w t))
+    ap (λ (j : ℕ). anyBelow (64 * length (take j (drop (w * m) ws))) (member (take j (drop (w * m) ws)))) e
+    ∙ ap (λ (j : ℕ). anyBelow (64 * j) (member (take m (drop (w * m) ws)))) (length-take-le m (drop (w * m) ws) (omega (arith, length-drop (w * m) ws)))

@@ -203,16 +203,16 @@ pub(crate) fn core_drive(
 
 // Whether wheel w touched a tile at the last contact, by sets of `words` words to a wheel.
 fn on_road(wheels: &[u64], words: usize, w: usize) -> bool
-    requires { do ⌜ words * w + words ≤ (← ⟦wheels.len()⟧) ⌝ }
+    requires { do ⌜ w * words + words ≤ (← ⟦wheels.len()⟧) ⌝ }
     ensures { λ r. ⌜ r ≡ onRoad words (now (wheels .entry)) w ⌝ }
 {
-    let from = words * w;
+    let from = w * words;
     words::any(&wheels[from..from + words])
 }
 
 // Which wheels touched a tile at the last contact.
 pub(crate) fn roads_of(wheels: &[u64], words: usize) -> [bool; 4]
-    requires { do ⌜ words * 4 ≤ (← ⟦wheels.len()⟧) ⌝ }
+    requires { do ⌜ 4 * words ≤ (← ⟦wheels.len()⟧) ⌝ }
     ensures { λ r. ⌜ r ≡ roadsOf words (now (wheels .entry)) ⌝ }
 {
     let a = on_road(wheels, words, 0);

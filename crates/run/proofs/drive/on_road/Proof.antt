@@ -35,7 +35,7 @@ returns : tie.Need-returns
 returns c =
     let s = c .before .before .before in
     let m = s .args .words in
-    let from = m * (s .args .w) in
+    let from = (s .args .w) * m in
     c .any .ensures ∙ part-any m (s .args .w) (from + m - from) (s .args .wheels .now) (omega arith) (s .pre)
 
 pub on-road-spec : {M : Type 1} → statement M
