@@ -3,3 +3,11 @@ pub mod CreditLaws
 pub mod TouchLaws
 pub mod ContactLaws
 pub mod CallLaws
+pub mod Literals
+pub mod SmallForces
+pub mod PassLaws
+pub mod Tests
+pub mod AnyLaws
+pub mod DriveLaws
+pub mod Examples
+pub mod SheetLaws

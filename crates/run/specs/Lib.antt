@@ -10,3 +10,9 @@ pub mod Widths
 pub mod Lap
 pub mod Start
 pub mod Settle
+pub mod Grip
+pub mod Dynamics
+pub mod Drive
+pub mod DriveSteps
+pub mod Reward
+pub mod Sheet

@@ -3,10 +3,15 @@
 // Every function here is proved, and the crate assumes nothing of its own. No public function has a
 // `requires`. The definitions that the contracts cite stand in specs/, a file for each heading of document 01.
 mod contact;
+pub mod drive;
+pub mod dynamics;
 mod lap;
 pub mod quad;
+pub mod reward;
 pub mod settle;
+pub mod sheet;
 pub mod start;
 pub mod state;
 pub mod touch;
+pub mod widths;
 mod words;

@@ -5,16 +5,14 @@ ghost use lib.ListN.{length};
 ghost use Rattle.course.specs.Tiles.{corner};
 ghost use Rattle.run.specs.Overlap.{leastOn, greatestOn, apartOn, apartAlong, apartByEdges, overlapOf};
 ghost use Rattle.run.specs.Wheel.{placed, wheelQuad, boxCells};
+use crate::dynamics::SIZE;
+use crate::dynamics::WHEEL_R;
 use crate::state::Pose;
 use course::cell::cell_at;
 use course::numeric::greatest;
 use course::numeric::least;
 
-const SIZE: f64 = 0.02;
-
 const WHEEL_W: f64 = 14.0;
-
-const WHEEL_R: f64 = 27.0;
 
 // The least projection of a quad on the axis (nx, ny).
 fn least_on(nx: f64, ny: f64, q: [[f64; 2]; 4]) -> f64

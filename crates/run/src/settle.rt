@@ -11,6 +11,7 @@ use crate::state::Core;
 use crate::state::Pose;
 use crate::state::Run;
 use crate::touch;
+use crate::widths::MOST_TILES;
 
 // New tiles, n, off, lap, ended; or the number of the cause.
 pub enum SettleAnswer {
@@ -87,7 +88,7 @@ pub fn settle(
     ensures { λ r. ⌜ done (r .answer) (view (r .run)) ≡ settleOf fullWords mostTiles (view run) (columns (now (tiles .entry)) (now (offsets .entry)) (now (list .entry))) x y poses ⌝ }
 {
     let core = run.core;
-    let k = settle_cause(2500, core, tiles, offsets, list, x, y, poses);
+    let k = settle_cause(MOST_TILES, core, tiles, offsets, list, x, y, poses);
     if k != 0 {
         return Settlement {
             answer: SettleAnswer::Refused(k),

@@ -11,6 +11,7 @@ use crate::state::Pose;
 use crate::state::Run;
 use crate::state::WheelCtl;
 use crate::touch;
+use crate::widths::MOST_TILES;
 
 // How many tiles are credited, and the lap; or the number of the cause.
 pub enum StartAnswer {
@@ -114,7 +115,17 @@ pub fn start(
 ) -> Started
     ensures { λ r. ⌜ begun (r .answer) (view (r .run)) ≡ startOf fullWords mostTiles (columns (now (tiles .entry)) (now (offsets .entry)) (now (list .entry))) (record { n = n; fallback = fallback; share = share; limit = limit; poses = poses }) ⌝ }
 {
-    let k = start_cause(2500, tiles, offsets, list, n, fallback, share, limit, poses);
+    let k = start_cause(
+        MOST_TILES,
+        tiles,
+        offsets,
+        list,
+        n,
+        fallback,
+        share,
+        limit,
+        poses,
+    );
     if k != 0 {
         let run = zero_run();
         return Started {

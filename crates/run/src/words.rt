@@ -5,6 +5,7 @@ ghost use mathlib.Core.Bool.{false, not, _&&_, _||_};
 ghost use Prim.Native.Nat.{_*_, _<_};
 ghost use lib.Dec.{eqb};
 ghost use lib.ListN.{length};
+ghost use Rattle.run.specs.Below.{anyBelow};
 ghost use Rattle.run.specs.Words.{member, setOf, howMany};
 
 // Whether the set has a tile.
@@ -13,6 +14,20 @@ pub(crate) fn has(set: &[u64], id: usize) -> bool
     ensures { λ r. ⌜ r ≡ member (now (set .entry)) id ⌝ }
 {
     (set[id / 64] >> (id % 64)) % 2 == 1
+}
+
+// Whether the set has any tile.
+pub(crate) fn any(set: &[u64]) -> bool
+    ensures { λ r. ⌜ r ≡ anyBelow (64 * length (now (set .entry))) (member (now (set .entry))) ⌝ }
+{
+    let mut i = 0;
+    while i < set.len() {
+        if set[i] != 0 {
+            return true;
+        }
+        i += 1;
+    }
+    false
 }
 
 // The set with a tile more.

@@ -1,0 +1,65 @@
+-- Marked examples 7, 9 and 10 of document 01: reward, gas and the braking rule. Assumes nothing.
+use mathlib.Core.Path.{_≡_, refl, sym, ap, ap₂, _∙_}
+use mathlib.Core.Bool.{Bool, true, false}
+use mathlib.Core.List.{List}
+use Prim.Native.Nat.{ℕ}
+use lib.Ieee.{Float, binary64, ofBits, ofInt, round, add, sub, mul, div, neg, lt, le, isNan}
+use Rattle.course.specs.Arithmetic.{_⊖_, natural, decimal}
+use Rattle.course.specs.Numeric.{absOf, minOf, clampOf, signumOf}
+use Rattle.run.specs.Dynamics.{brakedOf, tyreOf}
+use Rattle.run.specs.Drive.{indicator, gasOf, raisedOf, rearOf, ctlAt, passOf}
+use Rattle.run.specs.Reward.{atLeastOne, rewardOf, defaultWeights}
+use Rattle.run.proofs.Literals.{zero-bits, tenth, two-tenths}
+use Rattle.run.specs.declared.state.WheelCtl.{WheelCtl}
+use Rattle.run.specs.declared.dynamics.Motion.{Motion}
+
+-- 7: 2 new tiles of 250 give 8 − 0.1; off the field, whatever is new, −100
+pub reward : (rewardOf defaultWeights 2 250 false ≡ natural 8 ⊖ decimal 1 10) × ((new n : ℕ) → rewardOf defaultWeights new n true ≡ neg (natural 100))
+unfolding rewardOf defaultWeights atLeastOne natural decimal ofInt round add sub mul div neg
+reward = (refl, λ new n. refl)
+
+-- gas on its way from 0 to the wish of action 3, by bits, which are quick to compare
+wish-bits : gasOf 3 ≡ ofBits binary64 0x3fc999999999999a
+unfolding gasOf indicator clampOf natural decimal ofInt round mul lt ofBits
+wish-bits = refl
+
+first-bits : raisedOf (ofBits binary64 0x3fc999999999999a) (ofBits binary64 0) ≡ ofBits binary64 0x3fb999999999999a
+unfolding raisedOf minOf decimal round add sub lt isNan ofBits
+first-bits = refl
+
+second-bits : raisedOf (ofBits binary64 0x3fc999999999999a) (ofBits binary64 0x3fb999999999999a) ≡ ofBits binary64 0x3fc999999999999a
+unfolding raisedOf minOf decimal round add sub lt isNan ofBits
+second-bits = refl
+
+first-rise : raisedOf (gasOf 3) (natural 0) ≡ decimal 1 10
+first-rise = ap₂ raisedOf wish-bits zero-bits ∙ first-bits ∙ sym tenth
+
+second-rise : raisedOf (gasOf 3) (decimal 1 10) ≡ decimal 2 10
+second-rise = ap₂ raisedOf wish-bits tenth ∙ second-bits ∙ sym two-tenths
+
+-- a pass leaves a rear wheel's gas as the action rule sets it
+rear-gas : (ctl : List WheelCtl) (action : ℕ) (ms : List Motion) (roads : List Bool) (fuel : Float)
+    → (ctlAt (passOf ctl action ms roads fuel .ctl) 2 .gas ≡ raisedOf (gasOf action) (ctlAt ctl 2 .gas))
+    × (ctlAt (passOf ctl action ms roads fuel .ctl) 3 .gas ≡ raisedOf (gasOf action) (ctlAt ctl 3 .gas))
+unfolding passOf tyreOf rearOf
+rear-gas ctl action ms roads fuel = (refl, refl)
+
+-- both rear wheels of a pass have this gas
+abbrev pub RearGas : List WheelCtl → Float → Type 0
+RearGas ctl g = (ctlAt ctl 2 .gas ≡ g) × (ctlAt ctl 3 .gas ≡ g)
+
+-- 9: the gas action from 0, on any ground and at any motion: 0.1, then 0.2
+pub gas : (ctl : List WheelCtl) (ms ms₂ : List Motion) (roads roads₂ : List Bool) (fuel fuel₂ : Float) → RearGas ctl (natural 0)
+    → RearGas (passOf ctl 3 ms roads fuel .ctl) (decimal 1 10)
+    × RearGas (passOf (passOf ctl 3 ms roads fuel .ctl) 3 ms₂ roads₂ fuel₂ .ctl) (decimal 2 10)
+gas ctl ms ms₂ roads roads₂ fuel fuel₂ (p, q) =
+    let a = rear-gas ctl 3 ms roads fuel in
+    let b = rear-gas (passOf ctl 3 ms roads fuel .ctl) 3 ms₂ roads₂ fuel₂ in
+    let p₁ = a .0 ∙ ap (raisedOf (gasOf 3)) p ∙ first-rise in
+    let q₁ = a .1 ∙ ap (raisedOf (gasOf 3)) q ∙ first-rise in
+    ((p₁, q₁), (b .0 ∙ ap (raisedOf (gasOf 3)) p₁ ∙ second-rise, b .1 ∙ ap (raisedOf (gasOf 3)) q₁ ∙ second-rise))
+
+-- 10: the braking rule alone, brake 0.8
+pub brake : (brakedOf (decimal 8 10) (natural 5) ≡ natural 0) × (brakedOf (decimal 8 10) (natural 20) ≡ natural 8)
+unfolding brakedOf absOf signumOf natural decimal ofInt round add mul lt le neg
+brake = (refl, refl)

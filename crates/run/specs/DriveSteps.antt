@@ -1,0 +1,26 @@
+-- Document 01, "Drive": what private functions of the pass say, one wheel after the other by its number. Assumes nothing.
+use mathlib.Core.Bool.{Bool, cond}
+use mathlib.Core.List.{List}
+use Prim.Native.Nat.{ℕ, zero, suc}
+use lib.Dec.{ltb}
+use lib.ListN.{set}
+use Rattle.run.specs.Dynamics.{tyreOf}
+use Rattle.run.specs.Drive.{frontOf, rearOf, ctlAt, motionAt, roadAt}
+use Rattle.run.specs.declared.state.WheelCtl.{WheelCtl}
+use Rattle.run.specs.declared.dynamics.Motion.{Motion}
+use Rattle.run.specs.declared.drive.Passed.{Passed}
+
+-- the controls of wheel i by the action
+unfoldable pub controlOf : ℕ → ℕ → WheelCtl → WheelCtl
+controlOf action i w = cond (ltb i 2) (frontOf action w) (rearOf action w)
+
+-- after wheel i
+unfoldable pub stepOf : ℕ → List Motion → List Bool → ℕ → Passed → Passed
+stepOf action ms roads i p =
+    let t = tyreOf (controlOf action i (ctlAt (p .ctl) i)) (motionAt ms i) (roadAt roads i) (p .«fuel_spent») in
+    record { ctl = set (p .ctl) i (t .ctl); forces = set (p .forces) i (t .force); «fuel_spent» = t .«fuel_spent» }
+
+-- after the first k wheels
+unfoldable pub stepsOf : ℕ → List Motion → List Bool → ℕ → Passed → Passed
+stepsOf action ms roads zero p = p
+stepsOf action ms roads (suc k) p = stepOf action ms roads k (stepsOf action ms roads k p)

@@ -1,0 +1,181 @@
+// The tyre pass of the reference's dynamics.rs for one wheel: `CarWorld::step` up to `add_force`, each
+// operation in the Rust's order (document 01, "Drive").
+ghost use mathlib.Core.Path.{_≡_};
+ghost use mathlib.Core.Bool.{true, false};
+ghost use lib.Ieee.{lt};
+ghost use Rattle.course.specs.Root.{sqrtOf};
+ghost use Rattle.run.specs.Dynamics.{motorOf, spunOf, brakedOf, turningOf, limitOf, heldOf, slipOf, tyreOf};
+use crate::state::WheelCtl;
+use course::constants::FPS;
+use course::numeric;
+use course::root;
+
+pub const SIZE: f64 = 0.02;
+
+const ENGINE_POWER: f64 = 100_000_000.0 * SIZE * SIZE;
+
+const WHEEL_MOMENT_OF_INERTIA: f64 = 4000.0 * SIZE * SIZE;
+
+pub const FRICTION_LIMIT: f64 = 1_000_000.0 * SIZE * SIZE;
+
+pub const WHEEL_R: f64 = 27.0;
+
+// The Rust's `wheel_rad`, its factor of both forces, and the `dt` that `step` is called with.
+const WHEEL_RAD: f64 = WHEEL_R * SIZE;
+
+const STIFFNESS: f64 = 205_000.0 * SIZE * SIZE;
+
+const DT: f64 = 1.0 / FPS;
+
+// What the host says of a wheel: the joint's angle, sine and cosine of the wheel's direction, its speed.
+#[repr(C)]
+pub struct Motion {
+    pub joint_angle: f64,
+    pub sin: f64,
+    pub cos: f64,
+    pub vx: f64,
+    pub vy: f64,
+}
+
+// What the host is told for a wheel: the joint motor's speed, and the force.
+#[repr(C)]
+pub struct Force {
+    pub motor: f64,
+    pub fx: f64,
+    pub fy: f64,
+}
+
+// The forces at a tyre, along its direction and across it.
+pub(crate) struct TyreForce {
+    pub f_force: f64,
+    pub p_force: f64,
+}
+
+// What one wheel's pass leaves.
+pub(crate) struct Turned {
+    pub ctl: WheelCtl,
+    pub force: Force,
+    pub fuel_spent: f64,
+}
+
+// The joint motor's speed: towards the steering angle, by its sign also at -0.
+pub(crate) fn motor(steer: f64, angle: f64) -> f64
+    ensures { λ r. ⌜ r ≡ motorOf steer angle ⌝ }
+{
+    let diff = steer - angle;
+    numeric::signum(diff) * numeric::min(50.0 * numeric::abs(diff), 3.0)
+}
+
+// Omega after the engine.
+pub(crate) fn spun(gas: f64, omega: f64) -> f64
+    ensures { λ r. ⌜ r ≡ spunOf gas omega ⌝ }
+{
+    omega + DT * ENGINE_POWER * gas / WHEEL_MOMENT_OF_INERTIA / (numeric::abs(omega) + 5.0)
+}
+
+// The braking rule: omega after the brake.
+pub fn braked(brake: f64, omega: f64) -> f64
+    ensures { λ r. ⌜ r ≡ brakedOf brake omega ⌝ }
+{
+    if brake >= 0.9 {
+        return 0.0;
+    }
+    if brake > 0.0 {
+        let dir = -numeric::signum(omega);
+        let val = 15.0 * brake;
+        let mag = numeric::abs(omega);
+        if val > mag {
+            return omega + dir * mag;
+        }
+        return omega + dir * val;
+    }
+    omega
+}
+
+// Omega after the engine, then the brake.
+fn turning(w: WheelCtl) -> f64
+    ensures { λ r. ⌜ r ≡ turningOf w ⌝ }
+{
+    braked(w.brake, spun(w.gas, w.omega))
+}
+
+// The Rust's `friction_limit`: what the ground under the wheel bears.
+pub(crate) fn limit(road: bool) -> f64
+    ensures { λ r. ⌜ r ≡ limitOf road ⌝ }
+{
+    if road {
+        return FRICTION_LIMIT * 1.0;
+    }
+    FRICTION_LIMIT * 0.6
+}
+
+// Whether s is so small that its root is certainly not above the limit: by the limit's square.
+fn is_small(road: bool, s: f64) -> bool
+    ensures { λ r. ⌜ (r ≡ true → lt (limitOf road) (sqrtOf s) ≡ false) ⌝ }
+{
+    if road {
+        return s <= 160_000.0;
+    }
+    s <= 57_600.0
+}
+
+// The two forces, cut down together to the limit. A root is taken only where it decides.
+pub(crate) fn held(road: bool, f: f64, p: f64) -> TyreForce
+    ensures { λ r. ⌜ r ≡ heldOf (limitOf road) f p ⌝ }
+{
+    let s = f * f + p * p;
+    if is_small(road, s) {
+        return TyreForce {
+            f_force: f,
+            p_force: p,
+        };
+    }
+    let force = root::sqrt(s);
+    let most = limit(road);
+    if force > most {
+        return TyreForce {
+            f_force: f / force * most,
+            p_force: p / force * most,
+        };
+    }
+    TyreForce {
+        f_force: f,
+        p_force: p,
+    }
+}
+
+// The forces at a tyre that turns at omega: by how its surface slips over the ground.
+pub(crate) fn slip(road: bool, omega: f64, m: Motion) -> TyreForce
+    ensures { λ r. ⌜ r ≡ slipOf (limitOf road) omega m ⌝ }
+{
+    let vf = -m.sin * m.vx + m.cos * m.vy;
+    let vs = m.cos * m.vx + m.sin * m.vy;
+    let f = (-vf + omega * WHEEL_RAD) * STIFFNESS;
+    let p = -vs * STIFFNESS;
+    held(road, f, p)
+}
+
+// One wheel's pass. Phase is turned by omega as the brake leaves it, before the ground acts on the wheel.
+pub(crate) fn tyre(w: WheelCtl, m: Motion, road: bool, fuel: f64) -> Turned
+    ensures { λ r. ⌜ r ≡ tyreOf w m road fuel ⌝ }
+{
+    let omega = turning(w);
+    let s = slip(road, omega, m);
+    let ctl = WheelCtl {
+        gas: w.gas,
+        brake: w.brake,
+        steer: w.steer,
+        omega: omega - DT * s.f_force * WHEEL_RAD / WHEEL_MOMENT_OF_INERTIA,
+        phase: w.phase + omega * DT,
+    };
+    let force = Force {
+        motor: motor(w.steer, m.joint_angle),
+        fx: s.p_force * m.cos + s.f_force * -m.sin,
+        fy: s.p_force * m.sin + s.f_force * m.cos,
+    };
+    Turned {
+        ctl,
+        force,
+        fuel_spent: fuel + DT * ENGINE_POWER * w.gas,
+    }
+}

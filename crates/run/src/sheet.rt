@@ -1,0 +1,61 @@
+// The run sheet (document 01, "Beside the run"; after the Rust's `summary`).
+ghost use mathlib.Core.Path.{_≡_};
+ghost use Prim.Native.Nat.{_≤_, _<_};
+ghost use Rattle.run.specs.Widths.{mostTiles};
+ghost use Rattle.run.specs.Sheet.{shareOf, coreSheetOf, sheetOf};
+use crate::state;
+use crate::state::Core;
+use crate::state::Run;
+use crate::widths::MOST_TILES;
+
+#[repr(C)]
+pub struct RunSheet {
+    pub tick: u32,
+    pub credited: u32,
+    pub n: u32,
+    pub lap: bool,
+    pub ended: bool,
+    pub fallback: bool,
+    // Thousandths of the course, rounded down.
+    pub share: u32,
+}
+
+// How a sheet is answered: with its figures, or refused by a cause's number.
+pub enum SheetAnswer {
+    Sheet(RunSheet),
+    Refused(u32),
+}
+
+// 1000 * credited / n, rounded down. In 64 bits no count is too great for the product.
+fn share(credited: u32, n: u32) -> u32
+    requires { ⌜ (0 < n) × (credited ≤ n) ⌝ }
+    ensures { λ r. ⌜ r ≡ shareOf credited n ⌝ }
+{
+    (1000 * (credited as u64) / (n as u64)) as u32
+}
+
+// The sheet of a state whose sets hold `most` tiles: it reads no bit set.
+pub(crate) fn core_sheet(most: u32, s: Core) -> SheetAnswer
+    ensures { λ r. ⌜ r ≡ coreSheetOf most s ⌝ }
+{
+    if state::is_unfit(most, s) {
+        return SheetAnswer::Refused(4);
+    }
+    SheetAnswer::Sheet(RunSheet {
+        tick: s.tick,
+        credited: s.visited_count,
+        n: s.n,
+        lap: s.lap,
+        ended: s.ended,
+        fallback: s.fallback,
+        share: share(s.visited_count, s.n),
+    })
+}
+
+// The figures of a run, ended or not; refused where its counts are not those of a run.
+pub fn sheet(run: Run) -> SheetAnswer
+    ensures { λ r. ⌜ r ≡ sheetOf mostTiles run ⌝ }
+{
+    let core = run.core;
+    core_sheet(MOST_TILES, core)
+}
