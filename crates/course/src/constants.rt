@@ -17,6 +17,10 @@ pub const BORDER: f64 = 8.0 / SCALE;
 
 pub const GRID_CELL: f64 = 10.0;
 
+pub const CHECKPOINTS: usize = 12;
+
+pub const MAX_ATTEMPTS: u32 = 64;
+
 // `f64::MAX` and `f64::MIN`.
 pub const MAX: f64 = 1.7976931348623157e308;
 
