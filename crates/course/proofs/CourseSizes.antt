@@ -11,7 +11,7 @@ use Rattle.rng.specs.declared.SplitMix64.{SplitMix64}
 use Rattle.rng.specs.SplitMix.{after, seeded}
 use Rattle.course.specs.Checkpoints.{checkpointsOf}
 use Rattle.course.specs.Step.{stepOf}
-use Rattle.course.specs.Track.{stepAlphas, laterPass, earlierPass, between, wellGlued, trackOf}
+use Rattle.course.specs.Track.{stepAlphas, laterPass, earlierPass, betweenPasses, wellGlued, trackOf}
 use Rattle.course.specs.Walk.{Trail, follow, onward, walkFrom, startOf, walkOf}
 use Rattle.course.specs.Lay.{pointOf, accepted, attemptOn, ringPoint, ringOf, CoursePoints, orElse, courseOn, courseFrom, courseWithin}
 use Rattle.course.specs.declared.checkpoints.Checkpoint.{Checkpoint}
@@ -51,7 +51,7 @@ take-few : {A : Type 0} (n : ℕ) (l : List A) → length (take n l) ≤ n
 take-few n l = rw (length-take n l) (omega arith)
 
 track-short : (ps : List TrackStep) → length (trackOf ps) ≤ laterPass ps - 1 - earlierPass ps
-unfolding trackOf between
+unfolding trackOf betweenPasses
 track-short ps = omega (arith, short (eqb (earlierPass ps) 0) (wellGlued (take (laterPass ps - 1 - earlierPass ps) (drop (earlierPass ps) ps))) (take (laterPass ps - 1 - earlierPass ps) (drop (earlierPass ps) ps)), take-few (laterPass ps - 1 - earlierPass ps) (drop (earlierPass ps) ps))
 
 later-few : (ps : List TrackStep) → laterPass ps ≤ length ps - 1

@@ -13,7 +13,7 @@ use lib.Seq.{getD-take, getD-drop, length-take-le}
 use mir.Val.{Fits}
 use mir.Syntax.{w64}
 use lib.Ieee.{Float, nan}
-use Rattle.course.specs.Track.{passesAt, lastPass, stepAlphas, gluedOf, wellGlued, laterPass, earlierPass, between, trackOf}
+use Rattle.course.specs.Track.{passesAt, lastPass, stepAlphas, gluedOf, wellGlued, laterPass, earlierPass, betweenPasses, trackOf}
 use Rattle.course.specs.LaySteps.{Before, Front, Cut}
 use Rattle.course.specs.declared.step.TrackStep.{TrackStep}
 
@@ -80,14 +80,14 @@ unfolding earlierPass lastPass
 none-b ps e = rw e
 
 none-n : (ps : List TrackStep) → laterPass ps - 1 - earlierPass ps ≡ 0 → trackOf ps ≡ []
-unfolding trackOf between
+unfolding trackOf betweenPasses
 none-n ps e = rw (e, cond-same {A = List TrackStep} (wellGlued []) [], cond-same {A = List TrackStep} (eqb (earlierPass ps) 0) [])
 
-none-apart : (ps : List TrackStep) → wellGlued (between ps) ≡ false → trackOf ps ≡ []
+none-apart : (ps : List TrackStep) → wellGlued (betweenPasses ps) ≡ false → trackOf ps ≡ []
 unfolding trackOf
 none-apart ps e = rw (e, cond-same {A = List TrackStep} (eqb (earlierPass ps) 0) [])
 
-track-is : (ps : List TrackStep) → (earlierPass ps ≡ 0 → ⊥) → wellGlued (between ps) ≡ true → trackOf ps ≡ between ps
+track-is : (ps : List TrackStep) → (earlierPass ps ≡ 0 → ⊥) → wellGlued (betweenPasses ps) ≡ true → trackOf ps ≡ betweenPasses ps
 unfolding trackOf
 track-is ps z e = rw (e, ne-eqb (earlierPass ps) 0 z)
 
@@ -144,14 +144,14 @@ module _ (ps : List TrackStep) (a b x y : List Float) (f : Front ps a b x y) whe
       )
 
   module _ (rb ra : ℕ) (eb : rb ≡ laterPass ps) (ea : ra ≡ earlierPass ps) (z : ra ≡ 0 → ⊥) (n : rb - 1 - ra ≡ 0 → ⊥) (l : rb ≤ length ps) where
-    between-is : take (rb - 1 - ra) (drop ra ps) ≡ between ps
-    unfolding between
+    between-is : take (rb - 1 - ra) (drop ra ps) ≡ betweenPasses ps
+    unfolding betweenPasses
     between-is = rw (eb, ea)
 
     more : 0 < rb - 1 - ra
     more = positive (rb - 1 - ra) n
 
-    here : gluedOf (getD b ra nan) (getD x ra nan) (getD y ra nan) (getD x (rb - 1 - 1) nan) (getD y (rb - 1 - 1) nan) ≡ wellGlued (between ps)
+    here : gluedOf (getD b ra nan) (getD x ra nan) (getD y ra nan) (getD x (rb - 1 - 1) nan) (getD y (rb - 1 - 1) nan) ≡ wellGlued (betweenPasses ps)
     here =
         let p = more in
         glued-is ra (rb - 1 - ra) p (omega arith) (rb - 1 - 1) (omega arith) ∙ ap wellGlued between-is

@@ -58,9 +58,9 @@ unfoldable pub earlierPass : List TrackStep → ℕ
 earlierPass ps = lastPass (stepAlphas ps) (laterPass ps - 1)
 
 -- the steps between them, without the last
-unfoldable pub between : List TrackStep → List TrackStep
-between ps = take (laterPass ps - 1 - earlierPass ps) (drop (earlierPass ps) ps)
+unfoldable pub betweenPasses : List TrackStep → List TrackStep
+betweenPasses ps = take (laterPass ps - 1 - earlierPass ps) (drop (earlierPass ps) ps)
 
 -- the track of a walk: empty where there are no two passes, nothing lies between them or the ends do not meet
 unfoldable pub trackOf : List TrackStep → List TrackStep
-trackOf ps = cond (eqb (earlierPass ps) 0) [] (cond (wellGlued (between ps)) (between ps) [])
+trackOf ps = cond (eqb (earlierPass ps) 0) [] (cond (wellGlued (betweenPasses ps)) (betweenPasses ps) [])
