@@ -9,11 +9,12 @@ use lib.Dec.{eqb, ltb}
 use lib.ListN.{length, take, drop, length-map, length-append, length-take}
 use Rattle.rng.specs.declared.SplitMix64.{SplitMix64}
 use Rattle.rng.specs.SplitMix.{after, seeded}
+use Rattle.course.specs.Constants.{maxAttempts}
 use Rattle.course.specs.Checkpoints.{checkpointsOf}
 use Rattle.course.specs.Step.{stepOf}
 use Rattle.course.specs.Track.{stepAlphas, laterPass, earlierPass, betweenPasses, wellGlued, trackOf}
 use Rattle.course.specs.Walk.{Trail, follow, onward, walkFrom, startOf, walkOf}
-use Rattle.course.specs.Lay.{pointOf, accepted, attemptOn, ringPoint, ringOf, CoursePoints, orElse, courseOn, courseFrom, courseWithin}
+use Rattle.course.specs.Lay.{pointOf, accepted, attemptOn, ringPoint, ringOf, CoursePoints, orElse, courseOn, courseFrom, courseWithin, courseOf}
 use Rattle.course.specs.declared.checkpoints.Checkpoint.{Checkpoint}
 use Rattle.course.specs.declared.step.Walk.{Walk}
 use Rattle.course.specs.declared.step.TrackStep.{TrackStep}
@@ -102,3 +103,7 @@ from-sized (suc m) g = or-sized (attemptOn (checkpointsOf 12 g)) (courseFrom m (
 pub within-sized : (attempts seed : ℕ) → Sized (courseWithin attempts seed)
 unfolding courseWithin
 within-sized attempts seed = from-sized attempts (seeded seed)
+
+pub course-sized : (seed : ℕ) → Sized (courseOf seed)
+unfolding courseOf
+course-sized seed = within-sized maxAttempts seed

@@ -9,12 +9,13 @@ use lib.ListN.{length, take, drop, replicate, length-append, length-replicate, l
 use lib.Seq.{take-at}
 use lib.Ieee.{Float}
 use Rattle.course.specs.Arithmetic.{nought}
+use Rattle.course.specs.Constants.{maxAttempts}
 use Rattle.course.specs.Lengths.{mostPoints, mostNumbers}
 use Rattle.course.specs.Tiles.{betas, xs, ys, pointsOf, tilesOf}
 use Rattle.course.specs.Course.{fromPoints, cellsOf}
 use Rattle.course.specs.Lent.{Lent, lent, Outcome, outcome, roomyOf, filled, written, answered, layInto, causeOf}
 use Rattle.course.specs.CourseSteps.{Roomy}
-use Rattle.course.specs.Lay.{CoursePoints, courseWithin, layCause, layAt, layCall}
+use Rattle.course.specs.Lay.{CoursePoints, courseWithin, courseOf, layCause, layAt, layCall}
 use Rattle.course.specs.LaySteps.{InFront}
 use Rattle.course.specs.declared.tiles.TrackPoint.{TrackPoint}
 use Rattle.course.specs.declared.points.Laid.the-variants.{Refused}
@@ -85,6 +86,11 @@ lay-untouched attempts seed l h = sym (refused-short (courseWithin attempts seed
 pub lay-roomy : (attempts seed : ℕ) (l : Lent) → roomy l ≡ true → layCall attempts seed l ≡ layInto (courseWithin attempts seed .fallback) (courseWithin attempts seed .points) l
 unfolding layCall
 lay-roomy attempts seed l h = sym (laid-roomy (courseWithin attempts seed) l h)
+
+-- the same of `lay`, by the seed's course
+pub lay-course : (seed : ℕ) (l : Lent) → roomy l ≡ true → layCall maxAttempts seed l ≡ layInto (courseOf seed .fallback) (courseOf seed .points) l
+unfolding courseOf
+lay-course seed l h = lay-roomy maxAttempts seed l h
 
 -- ---- the course is a function of the seed alone: what lay leaves in the stated lengths
 filled-stated : (m : ℕ) (own c : List Float) → length own ≤ m → take m (filled m own c) ≡ own ++ replicate (m - length own) nought
