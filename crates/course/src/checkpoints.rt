@@ -2,12 +2,11 @@
 ghost use mathlib.Core.Path.{_≡_};
 ghost use Rattle.course.specs.Checkpoints.{spotOf, checkpointOf};
 ghost use Rattle.course.specs.LaySteps.{drawnOf};
+use crate::constants::FAR_RAD;
 use crate::constants::TAU;
 use crate::constants::TRACK_RAD;
 use crate::trig;
 use rng::SplitMix64;
-
-const FAR_RAD: f64 = 1.5 * TRACK_RAD;
 
 const LEAST_RAD: f64 = TRACK_RAD / 3.0;
 

@@ -5,13 +5,11 @@ ghost use lib.ListN.{length};
 ghost use Rattle.course.specs.Walk.{startOf};
 ghost use Rattle.course.specs.LaySteps.{Trod};
 use crate::checkpoints::Checkpoint;
+use crate::constants::FAR_RAD;
 use crate::constants::MOST_POINTS;
-use crate::constants::TRACK_RAD;
 use crate::step;
 use crate::step::Stepped;
 use crate::step::Walk;
-
-const FAR_RAD: f64 = 1.5 * TRACK_RAD;
 
 // How many steps were stored, and whether none was refused.
 pub(crate) struct Walked {
