@@ -1,13 +1,13 @@
 -- A column that is written from the front: the entries so far, and the rest as it was. Assumes nothing.
-use Prim.Native.Nat.{ℕ, zero, suc, _+_, _-_, _<_, _≤_}
+use Prim.Native.Nat.{ℕ, suc, _+_, _-_, _<_, _≤_}
 use native.Mathlib.Omega.{arith}
+use native.Mathlib.Nat.{add-comm}
 use native.Mathlib.Numerals.{add-one}
-use mathlib.Core.Path.{_≡_, refl, sym, ap, ap₂, _∙_, subst}
+use mathlib.Core.Path.{_≡_, refl, sym, ap, _∙_, subst}
 use mathlib.Core.List.{List, [], _∷_, _++_, append-assoc, append-nil}
-use lib.ListN.{length, getD, take, drop, set, replicate, length-set, length-append, replicate-append-replicate, take-append-drop}
-use lib.Seq.{drop-append-add, drop-drop, drop-cons, set-at, append-snoc, take-suc, length-take-le}
-use lib.Ieee.{Float, nan}
-use Rattle.course.specs.Arithmetic.{nought}
+use lib.ListN.{length, getD, take, drop, set, replicate, length-set, length-append, length-drop, replicate-append-replicate, take-append-drop}
+use lib.Seq.{getD-drop, getD-append-add, drop-append-add, drop-drop, drop-cons, set-at, append-snoc, take-suc, length-take-le}
+use lib.Ieee.{Float}
 use Rattle.course.specs.CourseSteps.{puts}
 
 module _ {A : Type 0} where
@@ -35,6 +35,20 @@ module _ {A : Type 0} where
   -- ---- copying the front of another column
   pub copied : (s c l : List A) (i : ℕ) (d : A) → i < length s → i < length l → Grown (take i s) c l i → Grown (take (i + 1) s) (set c i (getD s i d)) l (i + 1)
   copied s c l i d h k g = grown-more _ _ c l i _ g k (rw (add-one, take-suc s i d h))
+
+  -- ---- moving a part to the front: an entry that is not replaced yet, and then one more
+  grown-at : (p c l : List A) (i k : ℕ) (d : A) → Grown p c l i → getD c (k + i) d ≡ getD l (k + i) d
+  grown-at p c l i k d g =
+      ap (λ (y : List A). getD y (k + i) d) (g .is)
+      ∙ ap (λ (n : ℕ). getD (p ++ drop i l) n d) (add-comm k i ∙ ap (λ (n : ℕ). n + k) (sym (g .long)))
+      ∙ getD-append-add p (drop i l) k d ∙ getD-drop i l k d ∙ ap (λ (n : ℕ). getD l n d) (add-comm i k)
+
+  pub shifted : (l c : List A) (from i : ℕ) (d : A) → from + i < length l → Grown (take i (drop from l)) c l i
+      → Grown (take (i + 1) (drop from l)) (set c i (getD c (from + i) d)) l (i + 1)
+  shifted l c from i d h g =
+      let k : i < length (drop from l) = rw (length-drop from l) (omega arith) in
+      grown-more _ _ c l i _ g (omega arith)
+      (rw (grown-at _ c l i from d g, add-one, take-suc (drop from l) i d k, getD-drop from l i d))
 
   -- ---- zeros from n on
   pub cleared-none : (l : List A) (n : ℕ) (z : A) → n ≤ length l → Grown (take n l ++ replicate (n - n) z) l l n

@@ -3,22 +3,22 @@ use Prim.Native.Nat.{ℕ, zero, suc, _+_, _*_, _-_, _<_, _≤_}
 use native.Mathlib.Omega.{arith}
 use mathlib.Core.Path.{_≡_, refl, sym, ap, ap₂, _∙_, subst}
 use mathlib.Core.Bool.{Bool, true, false, cond, _&&_, not}
-use mathlib.Core.List.{List, [], _∷_, _++_}
-use lib.ListN.{length, getD, take, drop, replicate, length-append, length-map}
+use mathlib.Core.List.{List, [], _++_}
+use lib.ListN.{length, take, drop, replicate}
 use lib.Seq.{take-at, length-take-le}
 use lib.Dec.{leb, ltb, eqb}
 use borrow.Author.Tests.{leb-true, lt-ltb}
 use native.Mathlib.Decide.{decLt}
-use lib.Ieee.{Float, nan}
+use lib.Ieee.{Float}
 use Rattle.course.specs.Rect.{holdsOf, needed}
 use Rattle.course.specs.IndexSteps.{Built}
-use Rattle.course.specs.Index.{offsetsOf, indexOf, start, pickList}
+use Rattle.course.specs.Index.{offsetsOf, indexOf, pickList}
 use Rattle.course.proofs.IndexLaws.{index-length}
 use Rattle.course.proofs.CourseRects.{needed-start, needed-small}
 use Rattle.course.specs.Arithmetic.{nought}
-use Rattle.course.specs.Course.{Course, fromPoints, cellsOf}
-use Rattle.course.specs.Tiles.{betas, xs, ys, pointAt, pointsOf, noPoint, tilesTo, tilesOf}
-use Rattle.course.specs.Lent.{Lent, lent, Outcome, outcome, filled, written, answered, layInto, roomyOf}
+use Rattle.course.specs.Course.{fromPoints, cellsOf}
+use Rattle.course.specs.Tiles.{betas, xs, ys, pointAt, pointsOf, tilesTo, tilesOf}
+use Rattle.course.specs.Lent.{lent, Outcome, outcome, filled, written, answered, layInto, roomyOf}
 use Rattle.course.specs.CourseSteps.{Roomy}
 use Rattle.course.specs.Points.{givenOf, allGood, givenCause, pointsCause, pointsAt, pointsCall}
 use Rattle.course.specs.declared.tiles.TrackPoint.{TrackPoint}
@@ -136,11 +136,11 @@ module _ (a b e n t : List Float) (o l : List ℕ) (k : ℕ) (a′ b′ e′ n�
       need-is-needed : need ≡ needed (tilesOf (pointsOf b e n k)) (length (pointsOf b e n k))
       need-is-needed = built .length-needed
 
--- ---- points: what stood in the first 2,500 entries does not matter
-pub lay-past : (fallback : Bool) (ps : List TrackPoint) (a b e n b′ e′ n′ t : List Float) (o l : List ℕ) → drop 2500 b′ ≡ drop 2500 b → drop 2500 e′ ≡ drop 2500 e → drop 2500 n′ ≡ drop 2500 n
-    → layInto fallback ps (lent a b′ e′ n′ t o l) ≡ layInto fallback ps (lent a b e n t o l)
+-- ---- what stood in the first 2,500 entries does not matter
+pub lay-past : (fallback : Bool) (ps : List TrackPoint) (a b e n a′ b′ e′ n′ t : List Float) (o l : List ℕ) → drop 2500 a′ ≡ drop 2500 a → drop 2500 b′ ≡ drop 2500 b → drop 2500 e′ ≡ drop 2500 e → drop 2500 n′ ≡ drop 2500 n
+    → layInto fallback ps (lent a′ b′ e′ n′ t o l) ≡ layInto fallback ps (lent a b e n t o l)
 unfolding layInto written filled
-lay-past fallback ps a b e n b′ e′ n′ t o l pb pe pn = simp (pb, pe, pn)
+lay-past fallback ps a b e n a′ b′ e′ n′ t o l pa pb pe pn = simp (pa, pb, pe, pn)
 
 -- the lengths, from the tests
 off-on : false ≡ true → ⊥
@@ -240,7 +240,7 @@ accepted b e n k a′ b′ e′ n′ t′ o′ l′ b1 e1 n1 w h pb pe pn is =
     let f = fit b e n k a′ b′ e′ n′ t′ o′ h in
     let g = f .given in
     is
-    ∙ lay-past false (pointsOf b1 e1 n1 k) a′ b′ e′ n′ b1 e1 n1 t′ o′ l′ (past b b′ b1 (g .beta) (f .few) pb) (past e e′ e1 (g .x) (f .few) pe) (past n n′ n1 (g .y) (f .few) pn)
+    ∙ lay-past false (pointsOf b1 e1 n1 k) a′ b′ e′ n′ a′ b1 e1 n1 t′ o′ l′ refl (past b b′ b1 (g .beta) (f .few) pb) (past e e′ e1 (g .x) (f .few) pe) (past n n′ n1 (g .y) (f .few) pn)
     ∙ ap (λ (ps : List TrackPoint). layInto false ps (lent a′ b′ e′ n′ t′ o′ l′)) (fronts (g .beta) (g .x) (g .y))
     ∙ ap (λ (j : ℕ). pointsAt j (pointsOf b e n k) (lent a′ b′ e′ n′ t′ o′ l′)) (sym h)
   where

@@ -23,3 +23,13 @@ pub mod ColumnLaws
 pub mod CourseTiles
 pub mod LaidColumns
 pub mod CurbLaws
+pub mod Turns
+pub mod FinderSteps
+pub mod Branches
+pub mod CheckpointDraws
+pub mod WalkSteps
+pub mod TrackParts
+pub mod Attempts
+pub mod CourseSizes
+pub mod Generating
+pub mod LayLaws

@@ -18,3 +18,10 @@ pub mod Lent
 pub mod Points
 pub mod Curbs
 pub mod CourseSteps
+pub mod Checkpoints
+pub mod Finder
+pub mod Step
+pub mod Walk
+pub mod Track
+pub mod Lay
+pub mod LaySteps

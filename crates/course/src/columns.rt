@@ -1,4 +1,4 @@
-// Loops over one lent column: copies and zeros.
+// Loops over one lent column: copies, moves and zeros.
 ghost use mathlib.Core.Path.{_≡_};
 ghost use mathlib.Core.List.{_++_};
 ghost use Prim.Native.Nat.{_+_, _-_, _<_, _≤_};
@@ -13,6 +13,18 @@ pub(crate) fn copy_front(from: &[f64], n: usize, col: &mut [f64])
     let mut i: usize = 0;
     while i < n {
         col[i] = from[i];
+        i += 1;
+    }
+}
+
+// The n entries from number `from` on go to the front.
+pub(crate) fn shift(col: &mut [f64], from: usize, n: usize)
+    requires { ⌜ from + n ≤ length (now col) ⌝ }
+    ensures { λ r. ⌜ now (col .exit) ≡ take n (drop from (now (col .entry))) ++ drop n (now (col .entry)) ⌝ }
+{
+    let mut i: usize = 0;
+    while i < n {
+        col[i] = col[from + i];
         i += 1;
     }
 }

@@ -17,6 +17,11 @@ pub const BORDER: f64 = 8.0 / SCALE;
 
 pub const GRID_CELL: f64 = 10.0;
 
+// The radius of the first and the last checkpoint, where the walk starts.
+pub const FAR_RAD: f64 = 1.5 * TRACK_RAD;
+
+pub const MAX_ATTEMPTS: u32 = 64;
+
 // `f64::MAX` and `f64::MIN`.
 pub const MAX: f64 = 1.7976931348623157e308;
 

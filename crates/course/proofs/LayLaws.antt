@@ -1,0 +1,130 @@
+-- What a call of lay leaves and answers: the course of its seed, refusals by 2 and 3 alone, and nothing that depends on what stood in the columns. Assumes nothing.
+use Prim.Native.Nat.{ℕ, _+_, _-_, _<_, _≤_}
+use native.Mathlib.Omega.{arith}
+use mathlib.Core.Path.{_≡_, refl, sym, ap, ap₂, _∙_}
+use mathlib.Core.Bool.{Bool, true, false, cond}
+use mathlib.Core.List.{List, [], _++_, append-assoc}
+use lib.Dec.{ltb}
+use lib.ListN.{length, take, drop, replicate, length-append, length-replicate, length-map, take-append-drop}
+use lib.Seq.{take-at}
+use lib.Ieee.{Float}
+use Rattle.course.specs.Arithmetic.{nought}
+use Rattle.course.specs.Constants.{maxAttempts}
+use Rattle.course.specs.Lengths.{mostPoints, mostNumbers}
+use Rattle.course.specs.Tiles.{betas, xs, ys, pointsOf, tilesOf}
+use Rattle.course.specs.Course.{fromPoints, cellsOf}
+use Rattle.course.specs.Lent.{Lent, lent, Outcome, outcome, roomyOf, filled, written, answered, layInto, causeOf}
+use Rattle.course.specs.CourseSteps.{Roomy}
+use Rattle.course.specs.Lay.{CoursePoints, courseWithin, courseOf, layCause, layAt, layCall}
+use Rattle.course.specs.LaySteps.{InFront}
+use Rattle.course.specs.declared.tiles.TrackPoint.{TrackPoint}
+use Rattle.course.specs.declared.points.Laid.the-variants.{Refused}
+use Rattle.course.proofs.CourseTiles.{points-are, tiles-long}
+use Rattle.course.proofs.CourseSizes.{Sized, within-sized}
+use Rattle.course.proofs.LaidColumns.{lay-past, room}
+
+-- the lent columns have their lengths
+abbrev pub roomy : Lent → Bool
+roomy l = roomyOf (l .alpha) (l .beta) (l .x) (l .y) (l .tiles) (l .offsets)
+
+-- ---- for the proofs of the calls
+pub refused-short : (c : CoursePoints) (l : Lent) → roomy l ≡ false → outcome (Refused 2) l ≡ layAt (layCause l) c l
+unfolding layCause layAt
+refused-short c l h = rw h
+
+pub laid-roomy : (c : CoursePoints) (l : Lent) → roomy l ≡ true → layInto (c .fallback) (c .points) l ≡ layAt (layCause l) c l
+unfolding layCause layAt
+laid-roomy c l h = rw h
+
+in-front : (own c : List Float) (n : ℕ) → take n c ≡ own → c ≡ own ++ drop n c
+in-front own c n e = sym (take-append-drop n c) ∙ ap (λ (z : List Float). z ++ drop n c) e
+
+module _ (c : CoursePoints) (a b x y t : List Float) (o l : List ℕ) (a′ b′ x′ y′ : List Float) (n : ℕ) (d : InFront (c .points) a b x y a′ b′ x′ y′ n) where
+  points-there : pointsOf b′ x′ y′ n ≡ c .points
+  points-there =
+      (λ i. pointsOf (in-front _ b′ n (d .beta) i) (in-front _ x′ n (d .x) i) (in-front _ y′ n (d .y) i) (d .count i))
+      ∙ points-are (c .points) (drop n b′) (drop n x′) (drop n y′)
+
+  pub finished : (fallback : Bool) (w : Outcome) → fallback ≡ c .fallback → roomyOf a b x y t o ≡ true
+      → w ≡ layInto fallback (pointsOf b′ x′ y′ n) (lent a′ b′ x′ y′ t o l) → w ≡ layAt (layCause (lent a b x y t o l)) c (lent a b x y t o l)
+  finished fallback w f h is =
+      is ∙ lay-past fallback (pointsOf b′ x′ y′ n) a b x y a′ b′ x′ y′ t o l (d .kept-a) (d .kept-b) (d .kept-x) (d .kept-y)
+      ∙ ap₂ (λ (f : Bool) (ps : List TrackPoint). layInto f ps (lent a b x y t o l)) f points-there
+      ∙ laid-roomy c (lent a b x y t o l) h
+
+pub finish-size : (c : CoursePoints) (a b x y a′ b′ x′ y′ : List Float) (n : ℕ) → InFront (c .points) a b x y a′ b′ x′ y′ n → Sized c → (0 < n) × (n ≤ 2500)
+finish-size c a b x y a′ b′ x′ y′ n d s = (rw (d .count) (s .some), omega (arith, d .count, s .few))
+
+pub finish-room : (a b x y t : List Float) (o : List ℕ) (a′ b′ x′ y′ : List Float) → roomyOf a b x y t o ≡ true
+    → length a′ ≡ length a → length b′ ≡ length b → length x′ ≡ length x → length y′ ≡ length y → Roomy a′ b′ x′ y′ t o
+finish-room a b x y t o a′ b′ x′ y′ h ea eb ex ey =
+    let r = room a b x y t o h in
+    record { alpha = rw ea (r .alpha); beta = rw eb (r .beta); x = rw ex (r .x); y = rw ey (r .y); tiles = r .tiles; offsets = r .offsets }
+
+-- ---- laws of the calls. Lay refuses by 2 exactly where a column is short, and then by 3 exactly where the list is
+laid-cause : (short fallback : Bool) (ps : List TrackPoint) → causeOf (answered short fallback ps) ≡ cond short 3 0
+unfolding answered causeOf
+laid-cause true fallback ps = refl
+laid-cause false fallback ps = refl
+
+cause-at : (c : CoursePoints) (l : Lent) (b : Bool) → roomy l ≡ b → causeOf (layAt (layCause l) c l .answer) ≡ cond b (cond (ltb (length (l .list)) (cellsOf (c .points))) 3 0) 2
+unfolding layInto causeOf
+cause-at c l true h = ap (λ (w : Outcome). causeOf (w .answer)) (sym (laid-roomy c l h)) ∙ laid-cause (ltb (length (l .list)) (cellsOf (c .points))) (c .fallback) (c .points)
+cause-at c l false h = ap (λ (w : Outcome). causeOf (w .answer)) (sym (refused-short c l h))
+
+pub lay-cause : (attempts seed : ℕ) (l : Lent)
+    → causeOf (layCall attempts seed l .answer) ≡ cond (roomy l) (cond (ltb (length (l .list)) (cellsOf (courseWithin attempts seed .points))) 3 0) 2
+unfolding layCall
+lay-cause attempts seed l = cause-at (courseWithin attempts seed) l (roomy l) refl
+
+-- a call refused by 2 leaves the columns as they were
+pub lay-untouched : (attempts seed : ℕ) (l : Lent) → roomy l ≡ false → layCall attempts seed l ≡ outcome (Refused 2) l
+unfolding layCall
+lay-untouched attempts seed l h = sym (refused-short (courseWithin attempts seed) l h)
+
+-- with room, lay writes and answers by the seed's points
+pub lay-roomy : (attempts seed : ℕ) (l : Lent) → roomy l ≡ true → layCall attempts seed l ≡ layInto (courseWithin attempts seed .fallback) (courseWithin attempts seed .points) l
+unfolding layCall
+lay-roomy attempts seed l h = sym (laid-roomy (courseWithin attempts seed) l h)
+
+-- the same of `lay`, by the seed's course
+pub lay-course : (seed : ℕ) (l : Lent) → roomy l ≡ true → layCall maxAttempts seed l ≡ layInto (courseOf seed .fallback) (courseOf seed .points) l
+unfolding courseOf
+lay-course seed l h = lay-roomy maxAttempts seed l h
+
+-- ---- the course is a function of the seed alone: what lay leaves in the stated lengths
+filled-stated : (m : ℕ) (own c : List Float) → length own ≤ m → take m (filled m own c) ≡ own ++ replicate (m - length own) nought
+unfolding filled
+filled-stated m own c h =
+    ap (take m) (sym (append-assoc own (replicate (m - length own) nought) (drop m c)))
+    ∙ take-at (own ++ replicate (m - length own) nought) (drop m c) m (length-append own _ ∙ ap (λ (k : ℕ). length own + k) (length-replicate (m - length own) nought) ∙ back (length own) h)
+  where
+    back : (k : ℕ) → k ≤ m → k + (m - k) ≡ m
+    back k e = omega arith
+
+-- two sets of columns agree in the lengths that lay states
+pub record Agree (l l′ : Lent) : Type 0 where
+  pub alpha : take mostPoints (l .alpha) ≡ take mostPoints (l′ .alpha)
+  pub beta : take mostPoints (l .beta) ≡ take mostPoints (l′ .beta)
+  pub x : take mostPoints (l .x) ≡ take mostPoints (l′ .x)
+  pub y : take mostPoints (l .y) ≡ take mostPoints (l′ .y)
+  pub tiles : take mostNumbers (l .tiles) ≡ take mostNumbers (l′ .tiles)
+
+same-filled : (m : ℕ) (own c c′ : List Float) → length own ≤ m → take m (filled m own c) ≡ take m (filled m own c′)
+same-filled m own c c′ h = filled-stated m own c h ∙ sym (filled-stated m own c′ h)
+
+into-agree : (c : CoursePoints) (l l′ : Lent) → Sized c → Agree (layInto (c .fallback) (c .points) l .lent) (layInto (c .fallback) (c .points) l′ .lent)
+unfolding layInto written fromPoints
+into-agree c l l′ s =
+    let few : length (c .points) ≤ 2497 = s .few in
+    record {
+      alpha = same-filled 2500 [] (l .alpha) (l′ .alpha) (omega arith);
+      beta = same-filled 2500 (betas (c .points)) (l .beta) (l′ .beta) (rw (length-map (c .points) (λ (p : TrackPoint). p .beta)) (omega arith));
+      x = same-filled 2500 (xs (c .points)) (l .x) (l′ .x) (rw (length-map (c .points) (λ (p : TrackPoint). p .x)) (omega arith));
+      y = same-filled 2500 (ys (c .points)) (l .y) (l′ .y) (rw (length-map (c .points) (λ (p : TrackPoint). p .y)) (omega arith));
+      tiles = same-filled 20000 (tilesOf (c .points)) (l .tiles) (l′ .tiles) (rw (tiles-long (c .points) (length (c .points))) (omega arith));
+    }
+
+pub same-course : (attempts seed : ℕ) (l l′ : Lent) → roomy l ≡ true → roomy l′ ≡ true → Agree (layCall attempts seed l .lent) (layCall attempts seed l′ .lent)
+same-course attempts seed l l′ h h′ =
+    rw (lay-roomy attempts seed l h, lay-roomy attempts seed l′ h′) (into-agree (courseWithin attempts seed) l l′ (within-sized attempts seed))

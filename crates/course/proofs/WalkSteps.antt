@@ -1,0 +1,156 @@
+-- The walk, one more step at a time. Assumes nothing.
+use Prim.Native.Nat.{ℕ, suc, _+_, _-_, _<_, _≤_}
+use native.Mathlib.Omega.{arith}
+use mathlib.Core.Path.{_≡_, refl, sym, ap, _∙_}
+use mathlib.Core.Bool.{Bool, true, false}
+use mathlib.Core.List.{List, [], _∷_, _++_, map, map-append, append-assoc, append-nil}
+use borrow.Author.Tests.{lt-ltb, le-ltb}
+use lib.ListN.{length, drop, set, length-map}
+use lib.Ieee.{Float}
+use Rattle.course.specs.Step.{stepOf}
+use Rattle.course.specs.Track.{stepAlphas, stepBetas, stepXs, stepYs}
+use Rattle.course.specs.Walk.{Trail, follow, onward, walkFrom, startOf, walkOf}
+use Rattle.course.specs.LaySteps.{Trod}
+use Rattle.course.specs.declared.checkpoints.Checkpoint.{Checkpoint}
+use Rattle.course.specs.declared.step.Walk.{Walk}
+use Rattle.course.specs.declared.step.TrackStep.{TrackStep}
+use Rattle.course.specs.declared.step.Stepped.the-variants.{On, Refused}
+use Rattle.course.proofs.ColumnLaws.{Grown, grown-none, grown-more}
+use Rattle.course.proofs.Turns.{suc-pred}
+
+-- the four columns hold the points in front
+pub record Held (ps : List TrackStep) (a b u v a₀ b₀ u₀ v₀ : List Float) (k : ℕ) : Type 0 where
+  pub alpha : Grown (stepAlphas ps) a a₀ k
+  pub beta : Grown (stepBetas ps) b b₀ k
+  pub x : Grown (stepXs ps) u u₀ k
+  pub y : Grown (stepYs ps) v v₀ k
+
+pub more : {A : Type 0} (f : A → Float) (ps : List A) (p : A) (c l : List Float) (k : ℕ) → k < length l → Grown (map f ps) c l k → Grown (map f (ps ++ (p ∷ []))) (set c k (f p)) l (k + 1)
+more f ps p c l k h g = grown-more _ _ c l k (f p) g h (sym (map-append f ps (p ∷ [])))
+
+module _ (a₀ b₀ x₀ y₀ : List Float) (k : ℕ) where
+  pub held-more : (ps : List TrackStep) (p : TrackStep) (a b x y : List Float) → k < length a₀ → k < length b₀ → k < length x₀ → k < length y₀ → Held ps a b x y a₀ b₀ x₀ y₀ k
+      → Held (ps ++ (p ∷ [])) (set a k (p .alpha)) (set b k (p .beta)) (set x k (p .x)) (set y k (p .y)) a₀ b₀ x₀ y₀ (k + 1)
+  held-more ps p a b x y la lb lx ly h = record {
+    alpha = more (λ (q : TrackStep). q .alpha) ps p a a₀ k la (h .alpha);
+    beta = more (λ (q : TrackStep). q .beta) ps p b b₀ k lb (h .beta);
+    x = more (λ (q : TrackStep). q .x) ps p x x₀ k lx (h .x);
+    y = more (λ (q : TrackStep). q .y) ps p y y₀ k ly (h .y);
+  }
+
+-- ---- the definition, a step at a time
+puts-none : (r : Trail) → follow [] r ≡ r
+unfolding follow
+puts-none r = refl
+
+puts-more : (ps : List TrackStep) (p : TrackStep) (r : Trail) → follow ps (follow (p ∷ []) r) ≡ follow (ps ++ (p ∷ [])) r
+unfolding follow
+puts-more ps p r = ap (λ (l : List TrackStep). record { ok = r .ok; steps = l }) (sym (append-assoc ps (p ∷ []) (r .steps)))
+
+module _ (cs : List Checkpoint) (w : Walk) where
+  opened : (m : ℕ) → walkFrom (suc m) cs w ≡ onward (stepOf cs w) (λ (v : Walk). walkFrom m cs v)
+  unfolding walkFrom
+  opened m = refl
+
+  onward-is : (n : ℕ) → (n ≡ 0 → ⊥) → walkFrom n cs w ≡ onward (stepOf cs w) (λ (v : Walk). walkFrom (n - 1) cs v)
+  onward-is n z = ap (λ (m : ℕ). walkFrom m cs w) (sym (suc-pred n z)) ∙ opened (n - 1)
+
+  pub refused : (n : ℕ) → (n ≡ 0 → ⊥) → stepOf cs w ≡ Refused → walkFrom n cs w ≡ record { ok = false; steps = [] }
+  unfolding onward
+  refused n z e = onward-is n z ∙ rw e
+
+  pub goes-on : (n : ℕ) (p : TrackStep) (v : Walk) → (n ≡ 0 → ⊥) → stepOf cs w ≡ On p v → v .laps ≤ 4 → walkFrom n cs w ≡ follow (p ∷ []) (walkFrom (n - 1) cs v)
+  unfolding onward
+  goes-on n p v z e l = onward-is n z ∙ rw (e, le-ltb 4 (v .laps) l)
+
+  pub ends : (n : ℕ) (p : TrackStep) (v : Walk) → (n ≡ 0 → ⊥) → stepOf cs w ≡ On p v → 4 < v .laps → walkFrom n cs w ≡ record { ok = true; steps = p ∷ [] }
+  unfolding onward follow
+  ends n p v z e l = onward-is n z ∙ rw (e, lt-ltb 4 (v .laps) l)
+
+pub over : (cs : List Checkpoint) (w : Walk) (n : ℕ) → n ≡ 0 → walkFrom n cs w ≡ record { ok = true; steps = [] }
+unfolding walkFrom
+over cs w n z = rw z
+
+-- ---- the loop
+pub record Walking (cs : List Checkpoint) (a₀ b₀ x₀ y₀ a b x y : List Float) (w : Walk) (k : ℕ) : Type 0 where
+  pub done : List TrackStep
+  pub held : Held done a b x y a₀ b₀ x₀ y₀ k
+  pub rest : walkOf cs ≡ follow done (walkFrom (2500 - k) cs w)
+  pub slow : w .laps ≤ 4
+  pub few : k ≤ 2500
+  pub long-a : 2500 ≤ length a₀
+  pub long-b : 2500 ≤ length b₀
+  pub long-x : 2500 ≤ length x₀
+  pub long-y : 2500 ≤ length y₀
+
+trod : (cs : List Checkpoint) (a₀ b₀ x₀ y₀ a b x y : List Float) (k : ℕ) (ok : Bool) (ps : List TrackStep) → k ≤ 2500 → Held ps a b x y a₀ b₀ x₀ y₀ k
+    → walkOf cs ≡ record { ok = ok; steps = ps } → Trod cs a₀ b₀ x₀ y₀ a b x y k ok
+trod cs a₀ b₀ x₀ y₀ a b x y k ok ps l h e =
+    let q : ps ≡ walkOf cs .steps = sym (ap (λ (r : Trail). r .steps) e) in
+    record {
+      result = sym (ap (λ (r : Trail). r .ok) e);
+      count = sym (h .alpha .long) ∙ length-map ps _ ∙ ap length q;
+      few = l;
+      alpha = h .alpha .is ∙ ap (λ (z : List TrackStep). stepAlphas z ++ drop k a₀) q;
+      beta = h .beta .is ∙ ap (λ (z : List TrackStep). stepBetas z ++ drop k b₀) q;
+      x = h .x .is ∙ ap (λ (z : List TrackStep). stepXs z ++ drop k x₀) q;
+      y = h .y .is ∙ ap (λ (z : List TrackStep). stepYs z ++ drop k y₀) q;
+    }
+
+module _ (cs : List Checkpoint) (a₀ b₀ x₀ y₀ : List Float) where
+  pub begun : (w : Walk) → w ≡ startOf → 2500 ≤ length a₀ → 2500 ≤ length b₀ → 2500 ≤ length x₀ → 2500 ≤ length y₀ → Walking cs a₀ b₀ x₀ y₀ a₀ b₀ x₀ y₀ w 0
+  unfolding walkOf startOf
+  begun w e la lb lx ly = record {
+    done = [];
+    held = record { alpha = grown-none a₀; beta = grown-none b₀; x = grown-none x₀; y = grown-none y₀ };
+    rest = ap (λ (v : Walk). walkFrom 2500 cs v) (sym e) ∙ sym (puts-none (walkFrom 2500 cs w));
+    slow = rw e (omega arith);
+    few = omega arith;
+    long-a = la;
+    long-b = lb;
+    long-x = lx;
+    long-y = ly;
+  }
+
+  module _ (a b x y : List Float) (w : Walk) (k : ℕ) (s : Walking cs a₀ b₀ x₀ y₀ a b x y w k) where
+    pub walked-full : 2500 ≤ k → Trod cs a₀ b₀ x₀ y₀ a b x y k true
+    unfolding follow
+    walked-full h =
+        let z : 2500 - k ≡ 0 = omega arith in
+        trod cs a₀ b₀ x₀ y₀ a b x y k true (s .done) (s .few) (s .held)
+        (s .rest ∙ ap (follow (s .done)) (over cs w (2500 - k) z) ∙ ap (λ (l : List TrackStep). record { ok = true; steps = l }) (append-nil (s .done)))
+
+    pub walked-refused : k < 2500 → stepOf cs w ≡ Refused → Trod cs a₀ b₀ x₀ y₀ a b x y k false
+    unfolding follow
+    walked-refused h e =
+        let z : 2500 - k ≡ 0 → ⊥ = λ q. omega (arith, q) in
+        trod cs a₀ b₀ x₀ y₀ a b x y k false (s .done) (s .few) (s .held)
+        (s .rest ∙ ap (follow (s .done)) (refused cs w (2500 - k) z e) ∙ ap (λ (l : List TrackStep). record { ok = false; steps = l }) (append-nil (s .done)))
+
+    module _ (p : TrackStep) (v : Walk) (h : k < 2500) (e : stepOf cs w ≡ On p v) where
+      next-held : Held (s .done ++ (p ∷ [])) (set a k (p .alpha)) (set b k (p .beta)) (set x k (p .x)) (set y k (p .y)) a₀ b₀ x₀ y₀ (k + 1)
+      next-held = held-more a₀ b₀ x₀ y₀ k (s .done) p a b x y (omega arith) (omega arith) (omega arith) (omega arith) (s .held)
+
+      pub walked-end : 4 < v .laps → Trod cs a₀ b₀ x₀ y₀ (set a k (p .alpha)) (set b k (p .beta)) (set x k (p .x)) (set y k (p .y)) (k + 1) true
+      unfolding follow
+      walked-end l =
+          let z : 2500 - k ≡ 0 → ⊥ = λ q. omega (arith, q) in
+          trod cs a₀ b₀ x₀ y₀ _ _ _ _ (k + 1) true (s .done ++ (p ∷ [])) (omega arith) next-held
+          (s .rest ∙ ap (follow (s .done)) (ends cs w (2500 - k) p v z e l))
+
+      pub walked-on : v .laps ≤ 4 → Walking cs a₀ b₀ x₀ y₀ (set a k (p .alpha)) (set b k (p .beta)) (set x k (p .x)) (set y k (p .y)) v (k + 1)
+      walked-on l =
+          let z : 2500 - k ≡ 0 → ⊥ = λ q. omega (arith, q) in
+          let m : 2500 - k - 1 ≡ 2500 - (k + 1) = omega arith in
+          record {
+            done = s .done ++ (p ∷ []);
+            held = next-held;
+            rest = s .rest ∙ ap (follow (s .done)) (goes-on cs w (2500 - k) p v z e l) ∙ puts-more (s .done) p (walkFrom (2500 - k - 1) cs v)
+                ∙ ap (λ (n : ℕ). follow (s .done ++ (p ∷ [])) (walkFrom n cs v)) m;
+            slow = l;
+            few = omega arith;
+            long-a = s .long-a;
+            long-b = s .long-b;
+            long-x = s .long-x;
+            long-y = s .long-y;
+          }

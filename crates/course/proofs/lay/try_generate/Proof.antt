@@ -1,0 +1,48 @@
+-- `course::lay::try_generate` meets its contract. Assumes nothing.
+use Rattle.course.proofs.Attempts.{drawn-front}
+use mathlib.Core.Path.{ap}
+use Rattle.course.specs.declared.checkpoints.Drawn.{Drawn}
+use Rattle.course.specs.LaySteps.{drawnOf}
+use borrow.Author.Needs.{needs}
+use Rattle.course.proofs.lay.try_generate.Statement.{statement}
+use Rattle.course.proofs.lay.try_generate.Tie as tie
+use Rattle.course.proofs.lay.try_generate.Reads as reads
+use Rattle.course.proofs.lay.try_generate.Lts as lts
+use Rattle.course.proofs.checkpoints.checkpoints.Reads as checkpoints-reads
+use Rattle.course.proofs.lay.attempt.Reads as attempt-reads
+
+checkpoints-requires : tie.Need-checkpoints-requires
+checkpoints-requires c κs = search needs
+
+attempt-requires : tie.Need-attempt-requires
+attempt-requires c κs = search needs
+
+same-length : tie.Need-same-length
+same-length c = search needs
+
+same-length-2 : tie.Need-same-length-2
+same-length-2 c = search needs
+
+same-length-3 : tie.Need-same-length-3
+same-length-3 c = search needs
+
+same-length-4 : tie.Need-same-length-4
+same-length-4 c = search needs
+
+returns : tie.Need-returns
+unfolding drawnOf
+returns c =
+    let d = c .before .before .before .before .before .before .before .before .before .before .before .before .before .before .before .checkpoints in
+    (drawn-front _ (d .result) _ _ _ _ _ _ _ _ _ (d .ensures) (c .before .before .before .before .before .before .before .before .attempt .ensures), ap (λ (z : Drawn). z .rng) (d .ensures))
+
+pub try-generate-spec : {M : Type 1} → statement M
+try-generate-spec =
+    tie.close
+    (tie.spec
+    checkpoints-requires
+    attempt-requires
+    same-length
+    same-length-2
+    same-length-3
+    same-length-4
+    returns)

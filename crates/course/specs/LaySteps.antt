@@ -1,0 +1,59 @@
+-- Definitions that only private functions of `checkpoints`, `walk`, `track` and `lay` cite. Assumes nothing.
+use Prim.Native.Nat.{ℕ, _≤_}
+use mathlib.Core.Path.{_≡_}
+use mathlib.Core.Bool.{Bool}
+use mathlib.Core.List.{List, _++_}
+use lib.ListN.{length, take, drop}
+use lib.Ieee.{Float}
+use Rattle.rng.specs.declared.SplitMix64.{SplitMix64}
+use Rattle.rng.specs.SplitMix.{after}
+use Rattle.course.specs.Checkpoints.{checkpointsOf}
+use Rattle.course.specs.Walk.{walkOf}
+use Rattle.course.specs.Track.{stepAlphas, stepBetas, stepXs, stepYs, trackOf}
+use Rattle.course.specs.Tiles.{betas, xs, ys}
+use Rattle.course.specs.declared.checkpoints.Checkpoint.{Checkpoint}
+use Rattle.course.specs.declared.checkpoints.Drawn.{Drawn}
+use Rattle.course.specs.declared.step.TrackStep.{TrackStep}
+use Rattle.course.specs.declared.tiles.TrackPoint.{TrackPoint}
+
+-- an attempt's checkpoints, and the generator after their 24 draws
+unfoldable pub drawnOf : SplitMix64 → Drawn
+drawnOf g = record { checkpoints = checkpointsOf 12 g; rng = after 24 g }
+
+-- the columns after the walk: its steps, and then what stood there before
+pub record Trod (cs : List Checkpoint) (a b u v a′ b′ u′ v′ : List Float) (n : ℕ) (ok : Bool) : Type 0 where
+  pub result : ok ≡ walkOf cs .ok
+  pub count : n ≡ length (walkOf cs .steps)
+  pub few : n ≤ 2500
+  pub alpha : a′ ≡ stepAlphas (walkOf cs .steps) ++ drop n a
+  pub beta : b′ ≡ stepBetas (walkOf cs .steps) ++ drop n b
+  pub x : u′ ≡ stepXs (walkOf cs .steps) ++ drop n u
+  pub y : v′ ≡ stepYs (walkOf cs .steps) ++ drop n v
+
+-- l stands in front of c
+pub record Before (l c : List Float) : Type 0 where
+  pub rest : List Float
+  pub is : c ≡ l ++ rest
+
+-- the columns begin with the steps
+pub record Front (ps : List TrackStep) (a b u v : List Float) : Type 0 where
+  pub alpha : Before (stepAlphas ps) a
+  pub beta : Before (stepBetas ps) b
+  pub x : Before (stepXs ps) u
+  pub y : Before (stepYs ps) v
+
+-- the n steps from number `from` on are the track of the walk
+pub record Cut (ps : List TrackStep) (from n : ℕ) : Type 0 where
+  pub size : n ≡ length (trackOf ps)
+  pub part : take n (drop from ps) ≡ trackOf ps
+
+-- the n points stand in front; what follows them up to 2,500 is not said, and nothing beyond is touched
+pub record InFront (ps : List TrackPoint) (a b u v a′ b′ u′ v′ : List Float) (n : ℕ) : Type 0 where
+  pub count : n ≡ length ps
+  pub beta : take n b′ ≡ betas ps
+  pub x : take n u′ ≡ xs ps
+  pub y : take n v′ ≡ ys ps
+  pub kept-a : drop 2500 a′ ≡ drop 2500 a
+  pub kept-b : drop 2500 b′ ≡ drop 2500 b
+  pub kept-x : drop 2500 u′ ≡ drop 2500 u
+  pub kept-y : drop 2500 v′ ≡ drop 2500 v
