@@ -1,17 +1,40 @@
--- Marked examples 7, 9 and 10 of document 01: reward, gas and the braking rule. Assumes nothing.
+-- Marked examples 4, 5, 6, 7, 9 and 10 of document 01: overlap, lap, reward, gas and the braking rule. Assumes nothing.
 use mathlib.Core.Path.{_≡_, refl, sym, ap, ap₂, _∙_}
 use mathlib.Core.Bool.{Bool, true, false}
-use mathlib.Core.List.{List}
+use mathlib.Core.List.{List, [], _∷_}
 use Prim.Native.Nat.{ℕ}
 use lib.Ieee.{Float, binary64, ofBits, ofInt, round, add, sub, mul, div, neg, lt, le, isNan}
 use Rattle.course.specs.Arithmetic.{_⊖_, natural, decimal}
-use Rattle.course.specs.Numeric.{absOf, minOf, clampOf, signumOf}
+use Rattle.course.specs.Constants.{f64Max, f64Min}
+use Rattle.course.specs.Numeric.{absOf, minOf, maxOf, leastOf, greatestOf, clampOf, signumOf}
+use Rattle.run.specs.Overlap.{leastOn, greatestOn, apartOn, apartAlong, apartByEdges, overlapOf}
+use Rattle.run.specs.Lap.{lapOf}
 use Rattle.run.specs.Dynamics.{brakedOf, tyreOf}
 use Rattle.run.specs.Drive.{indicator, gasOf, raisedOf, rearOf, ctlAt, passOf}
 use Rattle.run.specs.Reward.{atLeastOne, rewardOf, defaultWeights}
 use Rattle.run.proofs.Literals.{zero-bits, tenth, two-tenths}
 use Rattle.run.specs.declared.state.WheelCtl.{WheelCtl}
 use Rattle.run.specs.declared.dynamics.Motion.{Motion}
+
+-- the rectangle from (x, y) to (z, w), its corners in turn
+abbrev pub rectangle : Float → Float → Float → Float → List (List Float)
+rectangle x y z w = (x ∷ y ∷ []) ∷ (z ∷ y ∷ []) ∷ (z ∷ w ∷ []) ∷ (x ∷ w ∷ []) ∷ []
+
+-- 4: the squares 0..1 and 1..2 by 0..1 touch; 0..1 and 1.5..2 do not
+pub squares : (overlapOf (rectangle (natural 0) (natural 0) (natural 1) (natural 1)) (rectangle (natural 1) (natural 0) (natural 2) (natural 1)) ≡ true)
+    × (overlapOf (rectangle (natural 0) (natural 0) (natural 1) (natural 1)) (rectangle (decimal 15 10) (natural 0) (natural 2) (natural 1)) ≡ false)
+unfolding overlapOf apartByEdges apartAlong apartOn leastOn greatestOn leastOf greatestOf minOf maxOf f64Max f64Min natural decimal ofInt round add sub mul neg lt isNan ofBits
+squares = (refl, refl)
+
+-- 5: two quads shrunk to two different points overlap
+pub two-points : overlapOf (rectangle (natural 0) (natural 0) (natural 0) (natural 0)) (rectangle (natural 1) (natural 1) (natural 1) (natural 1)) ≡ true
+unfolding overlapOf apartByEdges apartAlong apartOn leastOn greatestOn leastOf greatestOf minOf maxOf f64Max f64Min natural decimal ofInt round add sub mul neg lt isNan ofBits
+two-points = refl
+
+-- 6: 95 of 100 at 0.95 is no lap, 96 is one
+pub lap : (lapOf false true 95 100 (decimal 95 100) ≡ false) × (lapOf false true 96 100 (decimal 95 100) ≡ true)
+unfolding lapOf natural decimal ofInt round div lt
+lap = (refl, refl)
 
 -- 7: 2 new tiles of 250 give 8 − 0.1; off the field, whatever is new, −100
 pub reward : (rewardOf defaultWeights 2 250 false ≡ natural 8 ⊖ decimal 1 10) × ((new n : ℕ) → rewardOf defaultWeights new n true ≡ neg (natural 100))
