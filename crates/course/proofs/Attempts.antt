@@ -9,7 +9,7 @@ use lib.Seq.{take-at, drop-append-le, take-append-le}
 use lib.Ieee.{Float}
 use Rattle.course.specs.Step.{stepOf}
 use Rattle.course.specs.Track.{stepBetas, stepXs, stepYs, trackOf}
-use Rattle.course.specs.Walk.{Trail, follow, onward, walkFrom, startOf, walkOf}
+use Rattle.course.specs.Walk.{Trail, follow, onward, walkFrom, walkStart, walkOf}
 use Rattle.course.specs.Tiles.{betas, xs, ys}
 use Rattle.course.specs.Lay.{pointOf, accepted, attemptOn}
 use Rattle.course.specs.LaySteps.{drawnOf, Trod, Before, Front, Cut, InFront}
@@ -33,7 +33,7 @@ some-onward (On p w) k e = omega arith
 
 walk-some : (cs : List Checkpoint) → walkOf cs .ok ≡ true → 0 < length (walkOf cs .steps)
 unfolding walkOf walkFrom
-walk-some cs e = some-onward (stepOf cs startOf) (λ (v : Walk). walkFrom 2499 cs v) e
+walk-some cs e = some-onward (stepOf cs walkStart) (λ (v : Walk). walkFrom 2499 cs v) e
 
 -- the columns of a track's points are those of its steps
 map-through : {A B C : Type 0} (f : B → C) (g : A → B) (h : A → C) → ((a : A) → f (g a) ≡ h a) → (l : List A) → map f (map g l) ≡ map h l

@@ -13,7 +13,7 @@ use Rattle.course.specs.Constants.{maxAttempts}
 use Rattle.course.specs.Checkpoints.{checkpointsOf}
 use Rattle.course.specs.Step.{stepOf}
 use Rattle.course.specs.Track.{stepAlphas, laterPass, earlierPass, betweenPasses, wellGlued, trackOf}
-use Rattle.course.specs.Walk.{Trail, follow, onward, walkFrom, startOf, walkOf}
+use Rattle.course.specs.Walk.{Trail, follow, onward, walkFrom, walkStart, walkOf}
 use Rattle.course.specs.Lay.{pointOf, accepted, attemptOn, ringPoint, ringOf, CoursePoints, orElse, courseOn, courseFrom, courseWithin, courseOf}
 use Rattle.course.specs.declared.checkpoints.Checkpoint.{Checkpoint}
 use Rattle.course.specs.declared.step.Walk.{Walk}
@@ -76,7 +76,7 @@ accepted-few r h = one (r .ok) (track-few (r .steps) h)
 
 pub attempt-few : (cs : List Checkpoint) → length (attemptOn cs) ≤ 2497
 unfolding attemptOn walkOf
-attempt-few cs = accepted-few (walkFrom 2500 cs startOf) (walk-few 2500 cs startOf)
+attempt-few cs = accepted-few (walkFrom 2500 cs walkStart) (walk-few 2500 cs walkStart)
 
 -- ---- a course has 1 to 2,497 points
 pub record Sized (c : CoursePoints) : Type 0 where

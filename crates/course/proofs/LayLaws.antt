@@ -13,7 +13,7 @@ use Rattle.course.specs.Constants.{maxAttempts}
 use Rattle.course.specs.Lengths.{mostPoints, mostNumbers}
 use Rattle.course.specs.Tiles.{betas, xs, ys, pointsOf, tilesOf}
 use Rattle.course.specs.Course.{fromPoints, cellsOf}
-use Rattle.course.specs.Lent.{Lent, lent, Outcome, outcome, roomyOf, filled, written, answered, layInto, causeOf}
+use Rattle.course.specs.Lent.{Lent, lent, Outcome, outcome, roomyOf, filled, written, answered, layInto, laidCauseOf}
 use Rattle.course.specs.CourseSteps.{Roomy}
 use Rattle.course.specs.Lay.{CoursePoints, courseWithin, courseOf, layCause, layAt, layCall}
 use Rattle.course.specs.LaySteps.{InFront}
@@ -62,18 +62,18 @@ finish-room a b x y t o a′ b′ x′ y′ h ea eb ex ey =
     record { alpha = rw ea (r .alpha); beta = rw eb (r .beta); x = rw ex (r .x); y = rw ey (r .y); tiles = r .tiles; offsets = r .offsets }
 
 -- ---- laws of the calls. Lay refuses by 2 exactly where a column is short, and then by 3 exactly where the list is
-laid-cause : (short fallback : Bool) (ps : List TrackPoint) → causeOf (answered short fallback ps) ≡ cond short 3 0
-unfolding answered causeOf
+laid-cause : (short fallback : Bool) (ps : List TrackPoint) → laidCauseOf (answered short fallback ps) ≡ cond short 3 0
+unfolding answered laidCauseOf
 laid-cause true fallback ps = refl
 laid-cause false fallback ps = refl
 
-cause-at : (c : CoursePoints) (l : Lent) (b : Bool) → roomy l ≡ b → causeOf (layAt (layCause l) c l .answer) ≡ cond b (cond (ltb (length (l .list)) (cellsOf (c .points))) 3 0) 2
-unfolding layInto causeOf
-cause-at c l true h = ap (λ (w : Outcome). causeOf (w .answer)) (sym (laid-roomy c l h)) ∙ laid-cause (ltb (length (l .list)) (cellsOf (c .points))) (c .fallback) (c .points)
-cause-at c l false h = ap (λ (w : Outcome). causeOf (w .answer)) (sym (refused-short c l h))
+cause-at : (c : CoursePoints) (l : Lent) (b : Bool) → roomy l ≡ b → laidCauseOf (layAt (layCause l) c l .answer) ≡ cond b (cond (ltb (length (l .list)) (cellsOf (c .points))) 3 0) 2
+unfolding layInto laidCauseOf
+cause-at c l true h = ap (λ (w : Outcome). laidCauseOf (w .answer)) (sym (laid-roomy c l h)) ∙ laid-cause (ltb (length (l .list)) (cellsOf (c .points))) (c .fallback) (c .points)
+cause-at c l false h = ap (λ (w : Outcome). laidCauseOf (w .answer)) (sym (refused-short c l h))
 
 pub lay-cause : (attempts seed : ℕ) (l : Lent)
-    → causeOf (layCall attempts seed l .answer) ≡ cond (roomy l) (cond (ltb (length (l .list)) (cellsOf (courseWithin attempts seed .points))) 3 0) 2
+    → laidCauseOf (layCall attempts seed l .answer) ≡ cond (roomy l) (cond (ltb (length (l .list)) (cellsOf (courseWithin attempts seed .points))) 3 0) 2
 unfolding layCall
 lay-cause attempts seed l = cause-at (courseWithin attempts seed) l (roomy l) refl
 

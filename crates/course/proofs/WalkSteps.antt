@@ -9,7 +9,7 @@ use lib.ListN.{length, drop, set, length-map}
 use lib.Ieee.{Float}
 use Rattle.course.specs.Step.{stepOf}
 use Rattle.course.specs.Track.{stepAlphas, stepBetas, stepXs, stepYs}
-use Rattle.course.specs.Walk.{Trail, follow, onward, walkFrom, startOf, walkOf}
+use Rattle.course.specs.Walk.{Trail, follow, onward, walkFrom, walkStart, walkOf}
 use Rattle.course.specs.LaySteps.{Trod}
 use Rattle.course.specs.declared.checkpoints.Checkpoint.{Checkpoint}
 use Rattle.course.specs.declared.step.Walk.{Walk}
@@ -98,8 +98,8 @@ trod cs a₀ b₀ x₀ y₀ a b x y k ok ps l h e =
     }
 
 module _ (cs : List Checkpoint) (a₀ b₀ x₀ y₀ : List Float) where
-  pub begun : (w : Walk) → w ≡ startOf → 2500 ≤ length a₀ → 2500 ≤ length b₀ → 2500 ≤ length x₀ → 2500 ≤ length y₀ → Walking cs a₀ b₀ x₀ y₀ a₀ b₀ x₀ y₀ w 0
-  unfolding walkOf startOf
+  pub begun : (w : Walk) → w ≡ walkStart → 2500 ≤ length a₀ → 2500 ≤ length b₀ → 2500 ≤ length x₀ → 2500 ≤ length y₀ → Walking cs a₀ b₀ x₀ y₀ a₀ b₀ x₀ y₀ w 0
+  unfolding walkOf walkStart
   begun w e la lb lx ly = record {
     done = [];
     held = record { alpha = grown-none a₀; beta = grown-none b₀; x = grown-none x₀; y = grown-none y₀ };

@@ -14,9 +14,9 @@ answer zero v = Value v
 answer (suc k) v = Refused (suc k)
 
 -- the same read back from an answer; a refusal has no value (0)
-unfoldable pub causeOf : Angle → ℕ
-causeOf (Value v) = 0
-causeOf (Refused k) = k
+unfoldable pub angleCauseOf : Angle → ℕ
+angleCauseOf (Value v) = 0
+angleCauseOf (Refused k) = k
 
 unfoldable pub valueOf : Angle → Float
 valueOf (Value v) = v

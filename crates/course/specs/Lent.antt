@@ -69,15 +69,15 @@ layInto fallback ps l =
 
 -- ---- number and values of each case of an answer; 0 and no point where a case has none
 
-unfoldable pub causeOf : Laid → ℕ
-causeOf (Made n fallback entries first) = 0
-causeOf (Short length-needed) = 3
-causeOf (Refused k) = k
+unfoldable pub laidCauseOf : Laid → ℕ
+laidCauseOf (Made n fallback entries first) = 0
+laidCauseOf (Short length-needed) = 3
+laidCauseOf (Refused k) = k
 
-unfoldable pub countOf : Laid → ℕ
-countOf (Made n fallback entries first) = n
-countOf (Short length-needed) = 0
-countOf (Refused k) = 0
+unfoldable pub laidCountOf : Laid → ℕ
+laidCountOf (Made n fallback entries first) = n
+laidCountOf (Short length-needed) = 0
+laidCountOf (Refused k) = 0
 
 unfoldable pub fallbackOf : Laid → Bool
 fallbackOf (Made n fallback entries first) = fallback

@@ -20,8 +20,8 @@ use Rattle.course.specs.declared.step.Stepped.{Stepped}
 use Rattle.course.specs.declared.step.Stepped.the-variants.{On, Refused}
 
 -- ---- the walk's angle. Below 0 the walk is on the other side, and the angle one tau more; above 0 after that it has done a lap
-unfoldable pub lapOf : Walk → Float → Bool
-lapOf w a = w .visited && lt nought a
+unfoldable pub walkLap : Walk → Float → Bool
+walkLap w a = w .visited && lt nought a
 
 unfoldable pub lapsOf : ℕ → Bool → ℕ
 lapsOf laps lap = cond lap (laps + 1) laps
@@ -29,7 +29,7 @@ lapsOf laps lap = cond lap (laps + 1) laps
 unfoldable pub sightOf : Walk → Sight
 sightOf w =
     let a = atan2Of (w .y) (w .x) in
-    let lap = lapOf w a in
+    let lap = walkLap w a in
     let below = lt a nought in
     record {
       alpha = cond below (a ⊕ tau) a;
@@ -64,8 +64,8 @@ turnOf b a = thenUp a (turnDown 4 b a)
 unfoldable pub projOf : Walk → SinCos → Float → Float → Float
 projOf w h x y = (h .cos ⊗ (x ⊖ w .x) ⊕ h .sin ⊗ (y ⊖ w .y)) ⊗ scale
 
-unfoldable pub steerOf : Float → Float → Float
-steerOf b proj =
+unfoldable pub steered : Float → Float → Float
+steered b proj =
     let m = minOf trackTurnRate (absOf (decimal 1 1000 ⊗ proj)) in
     cond (lt (decimal 3 10) proj) (b ⊖ m) (cond (lt proj (neg (decimal 3 10))) (b ⊕ m) b)
 
@@ -83,7 +83,7 @@ unfoldable pub thenLanded : Walk → Sight → Float → ℕ → Checkpoint → 
 thenLanded w s alpha dest c TooFar = Refused
 thenLanded w s alpha dest c (To b n) =
     let h = sinCosOf (w .beta) in
-    landedOf w s h alpha dest b (steerOf b (projOf w h (c .x) (c .y)))
+    landedOf w s h alpha dest b (steered b (projOf w h (c .x) (c .y)))
 
 unfoldable pub movedOf : Walk → Sight → Float → ℕ → Checkpoint → Stepped
 movedOf w s alpha dest c = thenLanded w s alpha dest c (turnOf (w .beta) alpha)

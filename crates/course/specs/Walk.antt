@@ -32,8 +32,8 @@ unfoldable pub walkFrom : ℕ → List Checkpoint → Walk → Trail
 walkFrom zero cs w = record { ok = true; steps = [] }
 walkFrom (suc n) cs w = onward (stepOf cs w) (λ v. walkFrom n cs v)
 
-unfoldable pub startOf : Walk
-startOf = record { x = farRad; y = nought; beta = nought; dest = 0; laps = 0; visited = false }
+unfoldable pub walkStart : Walk
+walkStart = record { x = farRad; y = nought; beta = nought; dest = 0; laps = 0; visited = false }
 
 unfoldable pub walkOf : List Checkpoint → Trail
-walkOf cs = walkFrom mostPoints cs startOf
+walkOf cs = walkFrom mostPoints cs walkStart

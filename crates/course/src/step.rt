@@ -1,7 +1,7 @@
 // One step of the walk round the checkpoints (document 01, "Lay": `try_generate`).
 ghost use mathlib.Core.Path.{_≡_};
 ghost use Prim.Native.Nat.{_≤_};
-ghost use Rattle.course.specs.Step.{lapOf, lapsOf, sightOf, turnDown, turnUp, turnOf, steerOf, projOf, landedOf, movedOf, stepOf};
+ghost use Rattle.course.specs.Step.{walkLap, lapsOf, sightOf, turnDown, turnUp, turnOf, steered, projOf, landedOf, movedOf, stepOf};
 use crate::checkpoints::Checkpoint;
 use crate::constants::PI;
 use crate::constants::SCALE;
@@ -58,7 +58,7 @@ pub(crate) enum Turned {
 
 // Whether the angle a completes a lap.
 fn lapped(w: Walk, a: f64) -> bool
-    ensures { λ r. ⌜ r ≡ lapOf w a ⌝ }
+    ensures { λ r. ⌜ r ≡ walkLap w a ⌝ }
 {
     if w.visited {
         return a > 0.0;
@@ -158,7 +158,7 @@ fn proj(w: Walk, h: SinCos, tx: f64, ty: f64) -> f64
 
 // Beta turned towards the checkpoint, at most by the turn rate.
 fn steer(beta: f64, proj: f64) -> f64
-    ensures { λ r. ⌜ r ≡ steerOf beta proj ⌝ }
+    ensures { λ r. ⌜ r ≡ steered beta proj ⌝ }
 {
     let m = numeric::min(TRACK_TURN_RATE, numeric::abs(0.001 * proj));
     if proj > 0.3 {

@@ -2,7 +2,7 @@
 ghost use mathlib.Core.Path.{_≡_};
 ghost use Prim.Native.Nat.{_≤_};
 ghost use lib.ListN.{length};
-ghost use Rattle.course.specs.Walk.{startOf};
+ghost use Rattle.course.specs.Walk.{walkStart};
 ghost use Rattle.course.specs.LaySteps.{Trod};
 use crate::checkpoints::Checkpoint;
 use crate::constants::FAR_RAD;
@@ -19,7 +19,7 @@ pub(crate) struct Walked {
 
 // Where every walk starts.
 fn start() -> Walk
-    ensures { λ r. ⌜ r ≡ startOf ⌝ }
+    ensures { λ r. ⌜ r ≡ walkStart ⌝ }
 {
     Walk {
         x: FAR_RAD,

@@ -15,12 +15,12 @@ unfoldable pub controlOf : ℕ → ℕ → WheelCtl → WheelCtl
 controlOf action i w = cond (ltb i 2) (frontOf action w) (rearOf action w)
 
 -- after wheel i
-unfoldable pub stepOf : ℕ → List Motion → List Bool → ℕ → Passed → Passed
-stepOf action ms roads i p =
+unfoldable pub wheelPass : ℕ → List Motion → List Bool → ℕ → Passed → Passed
+wheelPass action ms roads i p =
     let t = tyreOf (controlOf action i (ctlAt (p .ctl) i)) (motionAt ms i) (roadAt roads i) (p .«fuel_spent») in
     record { ctl = set (p .ctl) i (t .ctl); forces = set (p .forces) i (t .force); «fuel_spent» = t .«fuel_spent» }
 
 -- after the first k wheels
-unfoldable pub stepsOf : ℕ → List Motion → List Bool → ℕ → Passed → Passed
-stepsOf action ms roads zero p = p
-stepsOf action ms roads (suc k) p = stepOf action ms roads k (stepsOf action ms roads k p)
+unfoldable pub wheelsPass : ℕ → List Motion → List Bool → ℕ → Passed → Passed
+wheelsPass action ms roads zero p = p
+wheelsPass action ms roads (suc k) p = wheelPass action ms roads k (wheelsPass action ms roads k p)

@@ -1,6 +1,6 @@
 -- `course::step::moved` meets its contract. Assumes nothing.
 use Rattle.course.specs.declared.trig.SinCos.{SinCos}
-use Rattle.course.specs.Step.{thenLanded, movedOf, projOf, landedOf, steerOf}
+use Rattle.course.specs.Step.{thenLanded, movedOf, projOf, landedOf, steered}
 use mathlib.Core.Path.{sym, ap, _∙_}
 use lib.Ieee.{Float}
 use borrow.Author.Needs.{needs}
@@ -49,8 +49,8 @@ returns-2 c =
     let b : Float = k .t .given .0 .0 in
     let h = c .before .before .before .sin-cos in
     c .landed .ensures
-    ∙ ap (λ (z : Float). landedOf (a .w) (a .s) (h .result) (a .alpha) (a .dest) b z) (c .before .steer .ensures ∙ ap (λ (z : Float). steerOf b z) (c .before .before .proj .ensures))
-    ∙ ap (λ (z : SinCos). landedOf (a .w) (a .s) z (a .alpha) (a .dest) b (steerOf b (projOf (a .w) z (a .c .x) (a .c .y)))) (h .ensures)
+    ∙ ap (λ (z : Float). landedOf (a .w) (a .s) (h .result) (a .alpha) (a .dest) b z) (c .before .steer .ensures ∙ ap (λ (z : Float). steered b z) (c .before .before .proj .ensures))
+    ∙ ap (λ (z : SinCos). landedOf (a .w) (a .s) z (a .alpha) (a .dest) b (steered b (projOf (a .w) z (a .c .x) (a .c .y)))) (h .ensures)
     ∙ ap (thenLanded (a .w) (a .s) (a .alpha) (a .dest) (a .c)) (sym (k .t .given .1) ∙ k .before .before .turn .ensures)
 
 pub moved-spec : {M : Type 1} → statement M

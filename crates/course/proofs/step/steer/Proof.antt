@@ -1,6 +1,6 @@
 -- `course::step::steer` meets its contract. Assumes nothing.
 use Rattle.course.proofs.Literals.{thousandth, three-tenths, rate-bits}
-use Rattle.course.specs.Step.{steerOf}
+use Rattle.course.specs.Step.{steered}
 use borrow.Author.Needs.{needs}
 use Rattle.course.proofs.step.steer.Statement.{statement}
 use Rattle.course.proofs.step.steer.Tie as tie
@@ -16,15 +16,15 @@ min-requires : tie.Need-min-requires
 min-requires c κs = search needs
 
 returns : tie.Need-returns
-unfolding steerOf
+unfolding steered
 returns c = simp (thousandth, three-tenths, rate-bits, ← c .before .before .abs .ensures, ← c .before .min .ensures, c .if1 .taken)
 
 returns-2 : tie.Need-returns-2
-unfolding steerOf
+unfolding steered
 returns-2 c = simp (thousandth, three-tenths, rate-bits, ← c .before .before .before .abs .ensures, ← c .before .before .min .ensures, c .before .if1 .left, c .if2 .taken)
 
 returns-3 : tie.Need-returns-3
-unfolding steerOf
+unfolding steered
 returns-3 c = simp (three-tenths, c .before .if1 .left, c .if2 .left)
 
 pub steer-spec : {M : Type 1} → statement M

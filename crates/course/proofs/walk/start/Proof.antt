@@ -1,13 +1,13 @@
 -- `course::walk::start` meets its contract. Assumes nothing.
 use Rattle.course.proofs.Literals.{far-rad-bits}
-use Rattle.course.specs.Walk.{startOf}
+use Rattle.course.specs.Walk.{walkStart}
 use Rattle.course.proofs.walk.start.Statement.{statement}
 use Rattle.course.proofs.walk.start.Tie as tie
 use Rattle.course.proofs.walk.start.Reads as reads
 use Rattle.course.proofs.walk.start.Lts as lts
 
 returns : tie.Need-returns
-unfolding startOf
+unfolding walkStart
 returns c = simp (far-rad-bits)
 
 pub start-spec : {M : Type 1} → statement M

@@ -1,3 +1,4 @@
+-- `run::contact::contact_pass` meets its contract. Assumes nothing.
 use Rattle.run.proofs.ContactLaws.{fresh-few, wheel-passed, credited-long, part-long, sound-wheel, wheel-is}
 use Rattle.run.proofs.ContactLaws.{within-four, wheels-long}
 use Rattle.run.proofs.ContactLaws.{no-wheel, last-part, one-wheel, all-wheels}

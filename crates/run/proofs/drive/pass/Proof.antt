@@ -6,7 +6,7 @@ use Prim.Native.Nat.{ℕ, _-_, _≤_}
 use mathlib.Core.Path.{_≡_, ap, _∙_}
 use Rattle.run.specs.declared.drive.Passed.{Passed}
 use Rattle.run.specs.declared.state.WheelCtl.{WheelCtl}
-use Rattle.run.specs.DriveSteps.{stepsOf}
+use Rattle.run.specs.DriveSteps.{wheelsPass}
 use Rattle.run.specs.Drive.{motionAt, roadAt, noForce, noForces}
 use Rattle.run.specs.Dynamics.{tyreOf}
 use Rattle.run.proofs.PassLaws.{no-steps, one-more, all-four}
@@ -24,7 +24,7 @@ abbrev Inv-loop : tie.InvT-loop
 Inv-loop action fuel motion roads forces₀ wheels₀ spent₀ i₀ forces wheels spent i =
     (i ≤ 4)
     × (_≡_ {A = Passed} (record { ctl = wheels; forces = forces; «fuel_spent» = spent })
-    (stepsOf action motion roads i (record { ctl = wheels₀; forces = forces₀; «fuel_spent» = spent₀ })))
+    (wheelsPass action motion roads i (record { ctl = wheels₀; forces = forces₀; «fuel_spent» = spent₀ })))
 
 abbrev μ-loop : tie.MeasureT-loop
 μ-loop action fuel motion roads forces₀ wheels₀ spent₀ i₀ forces wheels spent i = 4 - i
@@ -89,7 +89,7 @@ returns c =
     let l : length (a .ctl) ≡ 4 = search needs in
     let start : Passed = record { ctl = a .ctl; forces = noForces; «fuel_spent» = a .fuel } in
     k .inv .1
-    ∙ ap (λ (n : ℕ). stepsOf (a .action) (a .t3) (a .t4) n start) (four (k .i) (omega arith) (omega arith))
+    ∙ ap (λ (n : ℕ). wheelsPass (a .action) (a .t3) (a .t4) n start) (four (k .i) (omega arith) (omega arith))
     ∙ all-four (a .action) (a .t3) (a .t4) (a .ctl) noForce (a .fuel) l
 
 pub pass-spec : {M : Type 1} → statement M

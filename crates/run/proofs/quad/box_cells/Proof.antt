@@ -1,3 +1,4 @@
+-- `run::quad::box_cells` meets its contract. Assumes nothing.
 use Rattle.course.specs.Cell.{cellAt}
 use Prim.Native.Nat.{ℕ}
 use mathlib.Core.List.{List, [], _∷_}

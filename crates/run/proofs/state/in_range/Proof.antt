@@ -1,3 +1,4 @@
+-- `run::state::in_range` meets its contract. Assumes nothing.
 use lib.Ieee.{ofInt, ofBits}
 use Rattle.course.specs.Arithmetic.{natural}
 use Rattle.run.specs.State.{inRange}

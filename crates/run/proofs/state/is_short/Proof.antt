@@ -1,3 +1,4 @@
+-- `run::state::is_short` meets its contract. Assumes nothing.
 use mathlib.Core.Path.{refl}
 use Rattle.run.specs.State.{shortColumns}
 use Rattle.run.proofs.state.is_short.Statement.{statement}

@@ -1,3 +1,4 @@
+-- `run::state::is_unfit` meets its contract. Assumes nothing.
 use mathlib.Core.Path.{refl}
 use Rattle.run.specs.State.{unfitCore}
 use Rattle.run.proofs.state.is_unfit.Statement.{statement}

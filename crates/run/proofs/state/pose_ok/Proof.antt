@@ -1,3 +1,4 @@
+-- `run::state::pose_ok` meets its contract. Assumes nothing.
 use Rattle.run.specs.State.{poseOk}
 use borrow.Author.Needs.{needs}
 use Rattle.run.proofs.state.pose_ok.Statement.{statement}

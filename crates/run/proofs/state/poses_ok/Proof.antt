@@ -1,3 +1,4 @@
+-- `run::state::poses_ok` meets its contract. Assumes nothing.
 use Rattle.run.specs.State.{posesOk}
 use borrow.Author.Needs.{needs}
 use Rattle.run.proofs.state.poses_ok.Statement.{statement}

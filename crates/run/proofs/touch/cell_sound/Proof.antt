@@ -1,3 +1,4 @@
+-- `run::touch::cell_sound` meets its contract. Assumes nothing.
 use Rattle.course.specs.Index.{lookup}
 -- `run::touch::cell_sound` meets its contract. Assumes nothing.
 use Rattle.run.specs.Touch.{soundCell}

@@ -1,3 +1,4 @@
+-- `run::touch::quad_sound` meets its contract. Assumes nothing.
 use Rattle.run.specs.Wheel.{boxCells}
 -- `run::touch::quad_sound` meets its contract. Assumes nothing.
 use Rattle.run.proofs.TouchLaws.{every-four}
