@@ -10,7 +10,7 @@
 //! In whole runs the Rust also goes its own way, from the start on, and must come to the same state at every tick.
 //!
 //! Random values come from the reference's SplitMix64 at a fixed seed, so the files come out the same each time.
-use oracle::oracle::{overlap, probe, reward, Run, Tile, Track, TrackPoint};
+use oracle::oracle::{default_weights, overlap, probe, reward, Run, Tile, Track, TrackPoint};
 use oracle::{Motion, Pose, Push};
 use reinfors_core::{Rng, SplitMix64};
 use std::fmt::Write;
@@ -31,6 +31,8 @@ const REWARD: u64 = 12;
 const OVERLAP: u64 = 13;
 const BRAKED: u64 = 14;
 const QUAD: u64 = 15;
+const CELLS: u64 = 16;
+const WEIGHTS: u64 = 17;
 
 /// The list goes in blocks of so many bytes, at most so many of them. No record stands in two: zeros fill a block up.
 const BLOCK: usize = 262_144;
@@ -53,7 +55,11 @@ const NAN: u64 = 0x7ff8_0000_0000_0000;
 /// `x.is_nan()`, so the test is of bits that it knows nothing about.
 fn bits(x: f64) -> u64 {
     let b = std::hint::black_box(x.to_bits());
-    if b % (1 << 63) > 0x7ff0_0000_0000_0000 { NAN } else { b }
+    if b % (1 << 63) > 0x7ff0_0000_0000_0000 {
+        NAN
+    } else {
+        b
+    }
 }
 
 fn mix(h: u64, w: u64) -> u64 {
@@ -157,6 +163,16 @@ fn five(m: &Motion) -> [f64; 5] {
     [m.joint_angle, m.sin, m.cos, m.vx, m.vy]
 }
 
+/// The cells of the corners of a quad's box, least and greatest folded as `contact_pass` does.
+fn box_cells(q: [[f64; 2]; 4]) -> [usize; 4] {
+    let [[x0, x1], [y0, y1]] = [0, 1].map(|k| {
+        let least = q.iter().fold(f64::MAX, |m, c| m.min(c[k]));
+        let greatest = q.iter().fold(f64::MIN, |m, c| m.max(c[k]));
+        [probe::cell(least), probe::cell(greatest)]
+    });
+    [y0 * 67 + x0, y0 * 67 + x1, y1 * 67 + x0, y1 * 67 + x1]
+}
+
 /// How a start is asked for.
 #[derive(Clone)]
 struct Begin {
@@ -167,14 +183,16 @@ struct Begin {
     limit: u32,
 }
 
-/// What is counted: records of each code, and refusals of start, drive, settle and sheet by each cause.
+/// What is counted: records of each code, refusals of start, drive, settle and sheet by each cause, settles that
+/// ended a run, and the ticks of each whole run.
 #[derive(Default)]
 struct Tally {
-    records: [usize; 16],
+    records: [usize; 18],
     refused: [[usize; 11]; 4],
     laps: usize,
     offs: usize,
     all: usize,
+    ticks: Vec<u32>,
 }
 
 /// The list and its answers as they grow; the lent columns and the state, which stand from record to record; and
@@ -301,13 +319,7 @@ impl Replay {
     /// The four cells of the box of each wheel.
     fn cells(&mut self, poses: &[Pose; 4]) -> [[usize; 4]; 4] {
         self.rust.put_wheels(poses);
-        [0, 1, 2, 3].map(|i| {
-            let q = self.rust.wheel_quad(i);
-            let fold = |k: usize, f: fn(f64, f64) -> f64| q.iter().map(|c| c[k]).reduce(f).unwrap();
-            let [x0, x1] = [fold(0, f64::min), fold(0, f64::max)].map(probe::cell);
-            let [y0, y1] = [fold(1, f64::min), fold(1, f64::max)].map(probe::cell);
-            [y0 * 67 + x0, y0 * 67 + x1, y1 * 67 + x0, y1 * 67 + x1]
-        })
+        [0, 1, 2, 3].map(|i| box_cells(self.rust.wheel_quad(i)))
     }
     /// Cause 10 does not hold: in each cell the offsets neither fall nor pass the list, and every id is below n.
     fn sound(&mut self, lent: [usize; 3], n: u32, poses: &[Pose; 4]) -> bool {
@@ -460,6 +472,12 @@ impl Replay {
         self.ask(REWARD, weights.map(f64::to_bits).into_iter().chain(rest));
         self.value(reward(weights[0], weights[1], weights[2], fresh, n, off));
     }
+    fn weights(&mut self) {
+        self.ask(WEIGHTS, []);
+        for x in default_weights() {
+            self.value(x);
+        }
+    }
     fn overlap(&mut self, a: [[f64; 2]; 4], b: [[f64; 2]; 4]) {
         self.ask(OVERLAP, a.into_iter().chain(b).flatten().map(f64::to_bits));
         self.whole(overlap(&a, &b));
@@ -485,6 +503,12 @@ impl Replay {
         assert_eq!(bits(shown), bits(0.0 + after * (1.0 / 50.0)), "brake {brake} omega {omega}");
         self.value(after);
     }
+    fn box_of(&mut self, q: [[f64; 2]; 4]) {
+        self.ask(CELLS, q.into_iter().flatten().map(f64::to_bits));
+        for c in box_cells(q) {
+            self.whole(c as u64);
+        }
+    }
     fn quad(&mut self, p: Pose) {
         self.ask(QUAD, numbers(&p).map(f64::to_bits));
         self.rust.put_wheels(&[p; 4]);
@@ -499,7 +523,11 @@ fn step(x: f64, d: i64) -> f64 {
     let size = (x.to_bits() << 1 >> 1) as i64;
     let place = if x.is_sign_negative() { d - size } else { d + size };
     let there = f64::from_bits(place.unsigned_abs());
-    if place < 0 { -there } else { there }
+    if place < 0 {
+        -there
+    } else {
+        there
+    }
 }
 
 fn between(g: &mut SplitMix64, lo: f64, hi: f64) -> f64 {
@@ -514,7 +542,11 @@ fn pick<T: Copy>(g: &mut SplitMix64, from: &[T]) -> T {
 fn edge(g: &mut SplitMix64) -> f64 {
     let any = [between(g, -1.0, 1.0), between(g, -FAR, FAR), between(g, -400.0, 400.0)];
     let edges = [0.0, -0.0, FAR, -FAR, 5e-324, -3e-310, f64::MIN_POSITIVE, 0.6, -0.6, 1e-160, P, -P, step(P, 1), 1.0];
-    if g.next_u64() % 3 == 0 { pick(g, &any) } else { pick(g, &edges) }
+    if g.next_u64() % 3 == 0 {
+        pick(g, &any)
+    } else {
+        pick(g, &edges)
+    }
 }
 
 /// A float of a state or a tile: any at all.
@@ -550,7 +582,8 @@ fn road_motion(g: &mut SplitMix64) -> Motion {
 
 /// A car at a point, turned by d and moved by (ox, oy).
 fn car(p: &TrackPoint, d: f64, ox: f64, oy: f64) -> [Pose; 4] {
-    let (c, s) = (libm::cos(p.beta + d), libm::sin(p.beta + d));
+    let a = (p.beta + d).clamp(-16.0, 16.0);
+    let (c, s) = (libm::cos(a), libm::sin(a));
     [[-55.0, 80.0], [55.0, 80.0], [-55.0, -82.0], [55.0, -82.0]].map(|[u, v]| Pose {
         x: (p.x + ox + (c * u - s * v) * 0.02) as f32 as f64,
         y: (p.y + oy + (s * u + c * v) * 0.02) as f32 as f64,
@@ -596,7 +629,15 @@ fn same(r: &Replay, whole: &Run) {
 
 /// A whole run over the points by these places of it: a drive and a settle at each, until the run ends. Beside it
 /// goes the Rust alone.
-fn whole_run(r: &mut Replay, g: &mut SplitMix64, points: &[TrackPoint], b: &Begin, noise: f64, places: &[usize], off: usize) {
+fn whole_run(
+    r: &mut Replay,
+    g: &mut SplitMix64,
+    points: &[TrackPoint],
+    b: &Begin,
+    noise: f64,
+    places: &[usize],
+    off: usize,
+) {
     let n = points.len();
     let first = near_car(g, &points[0], noise);
     assert_eq!(r.start(b, &first), 0);
@@ -624,6 +665,7 @@ fn whole_run(r: &mut Replay, g: &mut SplitMix64, points: &[TrackPoint], b: &Begi
             break;
         }
     }
+    r.tally.ticks.push(r.state.tick);
     // An ended run refuses; one that goes on does not mind.
     let p = &points[0];
     r.drive(0, &[Motion::default(); 4]);
@@ -662,7 +704,9 @@ fn laid_runs(r: &mut Replay, g: &mut SplitMix64) {
 
 /// Given courses: one, two and three points, fifty, and the most.
 fn given_runs(r: &mut Replay, g: &mut SplitMix64) {
-    for (n, far, share) in [(1, 0.0, 0.0), (1, 0.0, 1.0), (2, 8.0, 0.5), (3, 9.0, 0.9), (50, 3.0, 0.95), (2_500, 2.0, 0.01)] {
+    for (n, far, share) in
+        [(1, 0.0, 0.0), (1, 0.0, 1.0), (2, 60.0, 0.5), (3, 60.0, 0.9), (50, 3.0, 0.95), (2_500, 2.0, 0.9)]
+    {
         let points = walk(g, n, far);
         let n = r.course(&points);
         for (limit, noise) in [(1_000_000, 0.0), (7, 4.0)] {
@@ -672,7 +716,8 @@ fn given_runs(r: &mut Replay, g: &mut SplitMix64) {
         }
     }
     // Clamped cells: points at the ends of their range.
-    let points: Vec<TrackPoint> = [(-1000.0, 1000.0), (1000.0, 1000.0), (1000.0, -1000.0)].map(|(x, y)| TrackPoint { beta: 0.5, x, y }).into();
+    let points: Vec<TrackPoint> =
+        [(-1000.0, 1000.0), (1000.0, 1000.0), (1000.0, -1000.0)].map(|(x, y)| TrackPoint { beta: 0.5, x, y }).into();
     let n = r.course(&points);
     whole_run(r, g, &points, &begin(n, 0.9, 9), 1.0, &[1, 1], usize::MAX);
     for p in &points {
@@ -801,7 +846,8 @@ fn damaged_index(r: &mut Replay, g: &mut SplitMix64) {
             assert_eq!(both(r, LONG, n, &poses), [10, 10]);
         }
         r.offset(cell, from);
-        for (at, value) in [(from as usize, n), (to.max(1) as usize - 1, u32::MAX)].into_iter().take(if from < to { 2 } else { 0 }) {
+        let places = if from < to { vec![(from as usize, n), (to as usize - 1, u32::MAX)] } else { Vec::new() };
+        for (at, value) in places {
             let id = r.ids[at];
             r.id(at, value);
             assert_eq!(both(r, LONG, n, &poses), [10, 10]);
@@ -851,6 +897,27 @@ fn legal_lists(r: &mut Replay, g: &mut SplitMix64, points: &[TrackPoint]) {
     }
 }
 
+/// Tile 0: a wheel that enters it counts while another stays there, one that stays does not; the share is strict, and
+/// this contact's credit is in it.
+fn tile_zero(r: &mut Replay, g: &mut SplitMix64) {
+    let points = seed(11);
+    let n = r.course(&points);
+    let on = |k: usize| car(&points[k], 0.0, 0.0, 0.0);
+    let run = Run::start(r.track(n), 1.0, Pose::default(), on(0));
+    let there = on(0)[(0..4).find(|&w| run.wheel_tiles(w).contains(&0)).expect("no wheel on tile 0")];
+    for mask in 0..16 {
+        for again in [mask, mask | 1, mask | 8, mask ^ 15, 15, 0] {
+            // The wheels of `mask` stand on tile 0 first, and those of `again` after it.
+            let place = |m: usize, far: usize| [0, 1, 2, 3].map(|w| if m >> w & 1 == 1 { there } else { on(far)[w] });
+            r.start(&begin(n, 1.0, 9), &place(mask, n as usize / 2));
+            let count = n / 2;
+            let share = f64::from(count + pick(g, &[0, 0, 1, 3, 4])) / f64::from(n);
+            r.core(&State { count, share, driven: true, ..r.state.clone() });
+            r.settle(LONG, 0.0, 0.0, &place(again, n as usize / 3));
+        }
+    }
+}
+
 /// Sets that no run has: credited cleared while the wheels' stay, all bits set, bits of no tile, another n.
 fn damaged_sets(r: &mut Replay, g: &mut SplitMix64) {
     let points = seed(7);
@@ -877,8 +944,10 @@ fn damaged_sets(r: &mut Replay, g: &mut SplitMix64) {
         }
         let count = pick(g, &[0, 1, n - 1, n, n / 2]);
         let size = pick(g, &[n, n, n, n + 1, 2_500, n - 1]);
-        let (tick, limit) = pick(g, &[(0, 1), (9, 100), (u32::MAX - 1, u32::MAX), (5, 5), (0, 0), (999_999, 1_000_000)]);
-        let share = pick(g, &[0.5, f64::NAN, -1.0, f64::INFINITY, f64::NEG_INFINITY, 0.0, f64::from(n - 1) / f64::from(n)]);
+        let (tick, limit) =
+            pick(g, &[(0, 1), (9, 100), (u32::MAX - 1, u32::MAX), (5, 5), (0, 0), (999_999, 1_000_000)]);
+        let share =
+            pick(g, &[0.5, f64::NAN, -1.0, f64::INFINITY, f64::NEG_INFINITY, 0.0, f64::from(n - 1) / f64::from(n)]);
         let (lap, driven) = (round % 8 == 3, round % 3 > 0);
         r.core(&State { n: size, count, tick, limit, share, lap, ended: false, driven, ..r.state.clone() });
         if !driven {
@@ -896,7 +965,16 @@ fn chosen(causes: &[usize], set: usize) -> Vec<usize> {
 
 /// The state in which cause 4 holds or not, 5 by `driven`, and 6.
 fn state_for(r: &Replay, g: &mut SplitMix64, n: u32, causes: &[usize], turn: bool) -> State {
-    let mut s = State { n, count: n / 2, tick: 3, limit: 4, share: 0.5, ended: false, driven: turn ^ causes.contains(&5), ..r.state.clone() };
+    let mut s = State {
+        n,
+        count: n / 2,
+        tick: 3,
+        limit: 4,
+        share: 0.5,
+        ended: false,
+        driven: turn ^ causes.contains(&5),
+        ..r.state.clone()
+    };
     if causes.contains(&4) {
         match g.next_u64() % 6 {
             0 => s.n = 0,
@@ -934,7 +1012,10 @@ fn drive_refusals(r: &mut Replay, g: &mut SplitMix64, n: u32) {
 fn lengths(g: &mut SplitMix64, short: bool) -> [usize; 3] {
     let [t, o] = STATED;
     match short {
-        true => pick(g, &[[t - 1, o, LONG[2]], [t, o - 1, LONG[2]], [0, 0, 0], [0, o, LONG[2]], [t, 0, LONG[2]], [t - 1, o - 1, 0]]),
+        true => pick(
+            g,
+            &[[t - 1, o, LONG[2]], [t, o - 1, LONG[2]], [0, 0, 0], [0, o, LONG[2]], [t, 0, LONG[2]], [t - 1, o - 1, 0]],
+        ),
         false => [t, o, LONG[2]],
     }
 }
@@ -945,49 +1026,65 @@ fn spoil(g: &mut SplitMix64, poses: &mut [Pose; 4]) {
     *[&mut w.x, &mut w.y, &mut w.cos, &mut w.sin][g.next_u64() as usize % 4] = x;
 }
 
-/// Every set of causes of a settle, and of a start, several times. Cause 10 is a damage of one cell.
-fn contact_refusals(r: &mut Replay, g: &mut SplitMix64, n: u32, points: &[TrackPoint]) {
+/// Poses near a point of the course, with cause 8 or 10 where the causes have it; the damaged offset as it was.
+fn poses_for(
+    r: &mut Replay,
+    g: &mut SplitMix64,
+    p: &TrackPoint,
+    causes: &[usize],
+    k: usize,
+) -> ([Pose; 4], usize, u32) {
+    let mut poses = near_car(g, p, 1.0);
+    let cell = r.cells(&poses)[k % 4][k / 4 % 4];
+    let keep = r.offsets[cell];
+    if causes.contains(&10) {
+        r.offset(cell, u32::MAX);
+    }
+    if causes.contains(&8) {
+        spoil(g, &mut poses);
+    }
+    (poses, cell, keep)
+}
+
+/// Every set of causes of a settle, several times.
+fn settle_refusals(r: &mut Replay, g: &mut SplitMix64, n: u32, points: &[TrackPoint]) {
     for set in 0..192 {
         let causes = chosen(&[4, 5, 6, 2, 8, 10], set % 64);
-        let mut poses = near_car(g, &points[set % points.len()], 1.0);
-        let cell = r.cells(&poses)[set % 4][set / 4 % 4];
-        let keep = r.offsets[cell];
-        if causes.contains(&10) {
-            r.offset(cell, u32::MAX);
-        }
+        let (mut poses, cell, keep) = poses_for(r, g, &points[set % points.len()], &causes, set);
         let s = state_for(r, g, n, &causes, true);
         r.core(&s);
-        let (mut x, lent) = (0.0, lengths(g, causes.contains(&2)));
-        match causes.contains(&8) {
-            true if set % 3 == 0 => x = beyond(g),
-            true => spoil(g, &mut poses),
-            _ => {}
+        let mut hull = [0.0, 0.0];
+        if causes.contains(&8) && set % 3 == 0 {
+            // The hull alone.
+            hull[set % 2] = beyond(g);
+            poses = car(&points[set % points.len()], 0.0, 0.0, 0.0);
         }
-        let (x, y) = if set % 2 == 0 { (x, 0.0) } else { (0.0, x) };
-        assert_eq!(r.settle(lent, x, y, &poses).0, causes.first().copied().unwrap_or(0));
-        r.offset(cell, keep);
+        let lent = lengths(g, causes.contains(&2));
+        assert_eq!(r.settle(lent, hull[0], hull[1], &poses).0, causes.first().copied().unwrap_or(0));
+        if r.offsets[cell] != keep {
+            r.offset(cell, keep);
+        }
     }
+}
+
+/// Every set of causes of a start, several times.
+fn start_refusals(r: &mut Replay, g: &mut SplitMix64, n: u32, points: &[TrackPoint]) {
+    let settings = [(f64::NAN, 9), (step(1.0, 1), 9), (-5e-324, 9), (0.5, 0), (0.5, 1_000_001), (f64::INFINITY, 0)];
     for set in 0..96 {
         let causes = chosen(&[1, 2, 8, 10], set % 16);
-        let mut poses = near_car(g, &points[set % points.len()], 1.0);
-        let cell = r.cells(&poses)[set % 4][set / 4 % 4];
-        let keep = r.offsets[cell];
-        if causes.contains(&10) {
-            r.offset(cell, u32::MAX);
-        }
-        if causes.contains(&8) {
-            spoil(g, &mut poses);
-        }
+        let (poses, cell, keep) = poses_for(r, g, &points[set % points.len()], &causes, set);
         let mut b = Begin { fallback: set % 2 == 0, ..begin(n, 0.5, 9) };
-        match (causes.contains(&2), set % 4) {
-            (true, 3) => b.n = pick(g, &[0, 2_501, u32::MAX]),
+        match (causes.contains(&2), set / 16 % 2) {
+            (true, 1) => b.n = pick(g, &[0, 2_501, u32::MAX]),
             (short, _) => b.lent = lengths(g, short),
         }
         if causes.contains(&1) {
-            (b.share, b.limit) = pick(g, &[(f64::NAN, 9), (step(1.0, 1), 9), (-5e-324, 9), (0.5, 0), (0.5, 1_000_001), (f64::INFINITY, 0)]);
+            (b.share, b.limit) = pick(g, &settings);
         }
         assert_eq!(r.start(&b, &poses), causes.first().copied().unwrap_or(0));
-        r.offset(cell, keep);
+        if r.offsets[cell] != keep {
+            r.offset(cell, keep);
+        }
         if set % 16 == 2 {
             // The state of zeros is refused by all.
             r.sheet();
@@ -999,7 +1096,9 @@ fn contact_refusals(r: &mut Replay, g: &mut SplitMix64, n: u32, points: &[TrackP
 
 /// The ends of the input's range, place by place: the last float in, and the next one out.
 fn input_ranges(r: &mut Replay, g: &mut SplitMix64, n: u32, points: &[TrackPoint]) {
-    for (k, v) in (0..20).flat_map(|k| [(k, FAR), (k, -FAR), (k, step(FAR, 1)), (k, -step(FAR, 1)), (k, f64::NAN), (k, -0.0)]) {
+    for (k, v) in
+        (0..20).flat_map(|k| [(k, FAR), (k, -FAR), (k, step(FAR, 1)), (k, -step(FAR, 1)), (k, f64::NAN), (k, -0.0)])
+    {
         let s = state_for(r, g, n, &[], k % 2 == 1);
         r.core(&s);
         let mut m = [0; 4].map(|_| road_motion(g));
@@ -1040,7 +1139,18 @@ fn edge_drives(r: &mut Replay, g: &mut SplitMix64, n: u32) {
                 }
             }
         }
-        r.core(&State { n, count: 0, tick: 0, limit: 1, lap: false, ended: false, driven: false, ctl, fuel, ..r.state.clone() });
+        r.core(&State {
+            n,
+            count: 0,
+            tick: 0,
+            limit: 1,
+            lap: false,
+            ended: false,
+            driven: false,
+            ctl,
+            fuel,
+            ..r.state.clone()
+        });
         let m = [0; 4].map(|_| if k % 3 == 0 { road_motion(g) } else { edge_motion(g) });
         assert_eq!(r.drive(k % 5, &m).0, 0);
     }
@@ -1068,7 +1178,8 @@ fn sheets(r: &mut Replay, g: &mut SplitMix64) {
 }
 
 fn rewards(r: &mut Replay, g: &mut SplitMix64) {
-    r.reward([1000.0, -0.1, -100.0], 2, 250, false);
+    r.weights();
+    r.reward(default_weights(), 2, 250, false);
     for k in 0..200 {
         let mut w = [between(g, -2000.0, 2000.0), between(g, -1.0, 1.0), between(g, -200.0, 0.0)];
         if k % 2 == 0 {
@@ -1100,7 +1211,11 @@ fn overlaps(r: &mut Replay, g: &mut SplitMix64) {
         if k % 4 > 1 {
             for _ in 0..k % 6 {
                 let (at, v) = (g.next_u64() as usize % 16, wild(g));
-                if at < 8 { a[at / 2][at % 2] = v } else { b[at / 2 - 4][at % 2] = v }
+                if at < 8 {
+                    a[at / 2][at % 2] = v
+                } else {
+                    b[at / 2 - 4][at % 2] = v
+                }
             }
         }
         r.overlap(a, b);
@@ -1112,9 +1227,39 @@ fn overlaps(r: &mut Replay, g: &mut SplitMix64) {
 }
 
 fn brakes(r: &mut Replay, g: &mut SplitMix64) {
-    let brakes = [f64::NAN, -1.0, -0.0, 0.0, 5e-324, 0.1, 0.8, step(0.9, -1), 0.9, step(0.9, 1), 1.0, f64::INFINITY, f64::NEG_INFINITY];
+    let brakes = [
+        f64::NAN,
+        -1.0,
+        -0.0,
+        0.0,
+        5e-324,
+        0.1,
+        0.8,
+        step(0.9, -1),
+        0.9,
+        step(0.9, 1),
+        1.0,
+        f64::INFINITY,
+        f64::NEG_INFINITY,
+    ];
     for brake in brakes {
-        for omega in [f64::NAN, 0.0, -0.0, 5.0, -5.0, 12.0, -12.0, step(12.0, 1), 20.0, -20.0, 5e-324, -3e-310, 1e308, f64::INFINITY, f64::NEG_INFINITY] {
+        for omega in [
+            f64::NAN,
+            0.0,
+            -0.0,
+            5.0,
+            -5.0,
+            12.0,
+            -12.0,
+            step(12.0, 1),
+            20.0,
+            -20.0,
+            5e-324,
+            -3e-310,
+            1e308,
+            f64::INFINITY,
+            f64::NEG_INFINITY,
+        ] {
             r.braked(brake, omega);
         }
     }
@@ -1127,7 +1272,11 @@ fn quads(r: &mut Replay, g: &mut SplitMix64) {
     for k in 0..80 {
         let pose = if k % 2 == 0 { edge_pose(g) } else { Pose { x: wild(g), y: wild(g), cos: wild(g), sin: edge(g) } };
         r.quad(pose);
+        let number = |g: &mut SplitMix64| if k % 4 == 0 { wild(g) } else { edge(g) };
+        r.box_of([0; 4].map(|_| [number(g), number(g)]));
     }
+    r.box_of([[f64::NAN; 2]; 4]);
+    r.box_of([[f64::NAN, 0.0], [f64::NAN, 5.0], [f64::NAN, -5.0], [f64::NAN, 12.0]]);
 }
 
 fn main() {
@@ -1140,11 +1289,13 @@ fn main() {
     wild_runs(&mut r, &mut g);
     off_edges(&mut r, &mut g);
     damaged_index(&mut r, &mut g);
+    tile_zero(&mut r, &mut g);
     damaged_sets(&mut r, &mut g);
     let points = seed(801);
     let n = r.course(&points);
     drive_refusals(&mut r, &mut g, n);
-    contact_refusals(&mut r, &mut g, n, &points);
+    settle_refusals(&mut r, &mut g, n, &points);
+    start_refusals(&mut r, &mut g, n, &points);
     input_ranges(&mut r, &mut g, n, &points);
     edge_drives(&mut r, &mut g, n);
     action_rows(&mut r, &mut g, n);
@@ -1157,13 +1308,17 @@ fn main() {
     r.ask(0, []);
     r.list.extend([SHEET, SHEET].iter().flat_map(|w| w.to_le_bytes()));
     assert!(r.list.len() <= BLOCK * BLOCKS, "{} bytes do not fit the program's blocks", r.list.len());
-    let names = ["", "course", "tile", "offset", "id", "core", "credited", "wheels", "start", "drive", "settle", "sheet", "reward", "overlap", "braked", "quad"];
+    let names = [
+        "", "course", "tile", "offset", "id", "core", "credited", "wheels", "start", "drive", "settle", "sheet",
+        "reward", "overlap", "braked", "quad", "cells", "weights",
+    ];
     for (name, count) in names.iter().zip(r.tally.records).skip(1) {
         eprint!("{name} {count}, ");
     }
     eprintln!("{} bytes", r.list.len());
     eprintln!("refused, by cause from 0: start, drive, settle, sheet {:?}", r.tally.refused);
     eprintln!("settles that ended a run: by lap {}, off {}, all {}", r.tally.laps, r.tally.offs, r.tally.all);
+    eprintln!("ticks of whole runs: {:?}", r.tally.ticks);
     std::fs::write(&path, &r.list).expect("the list could not be written");
     print!("{}", r.lines);
 }

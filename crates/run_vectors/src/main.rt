@@ -63,6 +63,12 @@ const BRAKED: u64 = 14;
 // A pose.
 const QUAD: u64 = 15;
 
+// A quad, for the cells of its box.
+const CELLS: u64 = 16;
+
+// The default weights.
+const WEIGHTS: u64 = 17;
+
 // The most blocks of a list.
 const BLOCKS: usize = 16;
 
@@ -77,10 +83,11 @@ fn words(rest: &[u8]) -> usize
         CREDITED | WHEELS => 4,
         START => 24,
         DRIVE | SETTLE => 22,
-        SHEET => 1,
+        SHEET | WEIGHTS => 1,
         REWARD => 7,
         OVERLAP => 17,
         QUAD => 5,
+        CELLS => 9,
         _ => 0,
     }
 }
@@ -266,6 +273,13 @@ fn replay_reward(rest: &[u8]) {
     vectors::line_float(reward::reward(w, fresh, n, off));
 }
 
+fn replay_weights() {
+    let w = reward::default_weights();
+    vectors::line_float(w.tile);
+    vectors::line_float(w.step);
+    vectors::line_float(w.off_playfield);
+}
+
 fn replay_overlap(rest: &[u8]) {
     let a = read::quad(rest, 1);
     let b = read::quad(rest, 9);
@@ -284,6 +298,14 @@ fn replay_quad(rest: &[u8]) {
     vectors::line_float(q[3][1]);
 }
 
+fn replay_cells(rest: &[u8]) {
+    let k = quad::box_cells(read::quad(rest, 1));
+    vectors::line_u64(k[0] as u64);
+    vectors::line_u64(k[1] as u64);
+    vectors::line_u64(k[2] as u64);
+    vectors::line_u64(k[3] as u64);
+}
+
 // What the record does that answers without a state.
 fn replay_rule(rest: &[u8], run: Run) {
     match vectors::word(rest, 0) {
@@ -291,6 +313,8 @@ fn replay_rule(rest: &[u8], run: Run) {
         REWARD => replay_reward(rest),
         OVERLAP => replay_overlap(rest),
         QUAD => replay_quad(rest),
+        CELLS => replay_cells(rest),
+        WEIGHTS => replay_weights(),
         BRAKED => vectors::line_float(dynamics::braked(
             vectors::float(rest, 1),
             vectors::float(rest, 2),
