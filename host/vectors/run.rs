@@ -1120,7 +1120,7 @@ fn input_ranges(r: &mut Replay, g: &mut SplitMix64, n: u32, points: &[TrackPoint
 
 /// Drives from states whose floats are anything.
 fn edge_drives(r: &mut Replay, g: &mut SplitMix64, n: u32) {
-    for k in 0..1_300 {
+    for k in 0..1_200 {
         let float = |g: &mut SplitMix64| match (k % 4, g.next_u64() % 3) {
             (0, _) => wild(g),
             (1, _) => edge(g),
@@ -1153,6 +1153,33 @@ fn edge_drives(r: &mut Replay, g: &mut SplitMix64, n: u32) {
         });
         let m = [0; 4].map(|_| if k % 3 == 0 { road_motion(g) } else { edge_motion(g) });
         assert_eq!(r.drive(k % 5, &m).0, 0);
+    }
+}
+
+/// Drives from states whose floats are all one; and with forces about the limit, on the road and beside it.
+fn even_drives(r: &mut Replay, g: &mut SplitMix64, n: u32) {
+    let base = State { n, limit: 1, ..State::zero() };
+    let values =
+        [0.0, -0.0, 5e-324, -5e-324, 0.1, 0.9, 12.0, -12.0, FAR, f64::MAX, f64::INFINITY, f64::NEG_INFINITY, f64::NAN];
+    for (i, v) in values.into_iter().enumerate() {
+        for k in 0..3 {
+            r.core(&State { ctl: [[v; 5]; 4], fuel: v, ..base.clone() });
+            r.drive((i as u32 + k) % 5, &[0; 4].map(|_| if k == 0 { Motion::default() } else { edge_motion(g) }));
+        }
+    }
+    for (limit, word) in [(400.0, 1), (240.0, 0)] {
+        r.wheels(0, 160, word);
+        for d in
+            [[-3, -2, -1, 0], [1, 2, 3, 4], [-1000, 1000, 100_000, -100_000], [1_000_000, 10_000_000, 1 << 30, 1 << 31]]
+        {
+            // The factor of a tyre's forces is 205000 * 0.02 * 0.02.
+            let side = d.map(|d| Motion { cos: 1.0, vx: step(limit / 82.0, d), ..Motion::default() });
+            let ahead = d.map(|d| Motion { cos: 1.0, vy: -step(limit / 82.0, d), ..Motion::default() });
+            for m in [side, ahead] {
+                r.core(&base);
+                r.drive(0, &m);
+            }
+        }
     }
 }
 
@@ -1298,6 +1325,7 @@ fn main() {
     start_refusals(&mut r, &mut g, n, &points);
     input_ranges(&mut r, &mut g, n, &points);
     edge_drives(&mut r, &mut g, n);
+    even_drives(&mut r, &mut g, n);
     action_rows(&mut r, &mut g, n);
     sheets(&mut r, &mut g);
     rewards(&mut r, &mut g);

@@ -5,15 +5,6 @@ use run::state::Core;
 use run::state::Pose;
 use run::state::WheelCtl;
 
-// The low half of a word.
-pub fn narrow(w: u64) -> u32 {
-    (w % 0x1_0000_0000) as u32
-}
-
-pub fn flag(w: u64) -> bool {
-    w % 2 == 1
-}
-
 // The pose from word k on.
 pub(crate) fn pose(rest: &[u8], k: usize) -> Pose
     requires { ⌜ k ≤ 100 ⌝ }
@@ -115,4 +106,13 @@ pub fn core(rest: &[u8]) -> Core {
         ctl,
         fuel_spent: vectors::float(rest, 27),
     }
+}
+
+// The low half of a word.
+pub fn narrow(w: u64) -> u32 {
+    (w % 0x1_0000_0000) as u32
+}
+
+pub fn flag(w: u64) -> bool {
+    w % 2 == 1
 }
