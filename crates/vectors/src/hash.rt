@@ -1,7 +1,7 @@
 // A hash of a whole column: 64 bits that depend on each entry and its place.
 
 // h with one more word.
-fn mix(h: u64, w: u64) -> u64 {
+pub fn mix(h: u64, w: u64) -> u64 {
     rng::wrapping_mul64(h ^ w, 0x100_0000_01B3) ^ (h >> 29)
 }
 
