@@ -7,6 +7,10 @@
 //! stands in a lent column around the Rust's numbers, and what a damaged index answers, is written out here from
 //! document 01 ("Lent", "Refusals by cause", "Tiles and index"). After each call the answer holds a hash of every
 //! whole column, so a number written where none belongs shows.
+#[path = "shared/lent.rs"]
+mod lent;
+
+use lent::{between, hash, hash_floats, hash_ids, put, roomy, stated, Lent, STATED, UNTOUCHED};
 use oracle::oracle::{probe, Track, TrackPoint};
 use reinfors_core::{Rng, SplitMix64};
 use std::fmt::Write;
@@ -25,13 +29,10 @@ const ROOM: usize = 524_288;
 const LONG: [usize; 7] = [2_600, 2_600, 2_600, 2_600, 20_100, 4_600, 450_000];
 const LONG_CURBS: [usize; 2] = [20_100, 2_600];
 
-/// The lengths of document 01; the index list has none.
-const STATED: [usize; 6] = [2_500, 2_500, 2_500, 2_500, 20_000, 4_490];
+/// The lengths of document 01.
 const STATED_CURBS: [usize; 2] = [20_000, 2_500];
 
-/// What stands in each place of a lent column before a call.
-const UNTOUCHED: f64 = 1e7;
-const UNTOUCHED_ID: u32 = 4_000_000_000;
+/// What stands in each place of the lent marks before a call.
 const UNTOUCHED_MARK: u8 = 7;
 
 /// The most given points.
@@ -40,36 +41,13 @@ const MOST: usize = 2_500;
 /// Above how steep a turn a curb may stand: `border_quads`'s expression.
 const STEEP: f64 = 0.31 * 0.2;
 
-fn mix(h: u64, w: u64) -> u64 {
-    (h ^ w).wrapping_mul(0x100_0000_01B3) ^ (h >> 29)
-}
-
-fn hash(words: impl Iterator<Item = u64>) -> u64 {
-    words.fold(1, mix)
-}
-
-/// The values stand in front of the column, and zeros behind them up to `end`.
-fn put<T: Default>(col: &mut [T], values: impl Iterator<Item = T>, end: usize) {
-    let mut values = values.fuse();
-    for place in &mut col[..end] {
-        *place = values.next().unwrap_or_default();
-    }
-    assert!(values.next().is_none());
-}
-
-/// Whether every lent column has its stated length.
-fn roomy(lent: &[usize], stated: &[usize]) -> bool {
-    lent.iter().zip(stated).all(|(l, s)| l >= s)
-}
-
 /// The list and its answers as they grow, and what stands from record to record: the given columns beta, x, y;
 /// the index of the last call of points, with its track where that is the track's and unaltered.
 struct Replay {
     list: Vec<u8>,
     lines: String,
     given: [Vec<f64>; 3],
-    offsets: Vec<u32>,
-    ids: Vec<u32>,
+    lent: Lent,
     track: Option<Track>,
     /// How many records of points, curbs and look-up there are; how many were refused by each cause.
     records: [usize; 3],
@@ -82,8 +60,7 @@ impl Replay {
             list: Vec::new(),
             lines: String::new(),
             given: [0; 3].map(|_| vec![0.0; LONG[1]]),
-            offsets: vec![0; LONG[5]],
-            ids: vec![0; LONG[6]],
+            lent: Lent { floats: Vec::new(), offsets: vec![0; LONG[5]], ids: vec![0; LONG[6]] },
             track: None,
             records: [0; 3],
             refused: [[0; 10]; 2],
@@ -100,9 +77,6 @@ impl Replay {
     }
     fn hex(&mut self, bits: u64) {
         writeln!(self.lines, "{bits:016x}").unwrap();
-    }
-    fn hash_floats(&mut self, col: &[f64]) {
-        self.hex(hash(col.iter().map(|x| x.to_bits())));
     }
     fn refuse(&mut self, call: usize, cause: usize) {
         self.refused[call][cause] += 1;
@@ -153,47 +127,25 @@ impl Replay {
         assert!(given.iter().all(|&l| l <= LONG[1]) && lent.iter().zip(LONG).all(|(&l, most)| l <= most));
         self.records[0] += 1;
         self.ask(POINTS, [count as u64].into_iter().chain(given.into_iter().chain(lent).map(|l| l as u64)));
-        let mut floats: Vec<Vec<f64>> = LONG[..5].iter().map(|&n| vec![UNTOUCHED; n]).collect();
-        self.offsets = vec![UNTOUCHED_ID; LONG[5]];
-        self.ids = vec![UNTOUCHED_ID; LONG[6]];
+        self.lent = Lent::untouched(&LONG);
         self.track = None;
         let cause = self.cause(count, given, roomy(&lent, &STATED));
         if cause > 0 {
             self.refuse(0, cause);
         } else {
             let track = probe::given(self.taken(count), false);
-            put(&mut floats[0], std::iter::empty(), STATED[0]);
-            put(&mut floats[1], track.points.iter().map(|p| p.beta), STATED[1]);
-            put(&mut floats[2], track.points.iter().map(|p| p.x), STATED[2]);
-            put(&mut floats[3], track.points.iter().map(|p| p.y), STATED[3]);
-            put(&mut floats[4], track.tiles.iter().flat_map(|t| t.quad.into_iter().flatten()), STATED[4]);
-            self.indexed(track, lent[6]);
+            match self.lent.write(&track, lent[6]) {
+                Ok(lines) => {
+                    self.lines += &lines;
+                    self.track = Some(track);
+                }
+                Err(lines) => {
+                    self.refused[0][3] += 1;
+                    self.lines += &lines;
+                }
+            }
         }
-        for col in &floats {
-            self.hash_floats(col);
-        }
-        self.hex(hash(self.offsets.iter().map(|&o| o.into())));
-        self.hex(hash(self.ids.iter().map(|&id| id.into())));
-    }
-    /// The index and the answer, where no cause but 3 is left.
-    fn indexed(&mut self, track: Track, lent: usize) {
-        let (offsets, ids) = probe::raw_ref(&track);
-        let need = ids.len();
-        if lent < need {
-            self.refuse(0, 3);
-            self.whole(need);
-            return;
-        }
-        put(&mut self.offsets, offsets.iter().copied(), STATED[5]);
-        put(&mut self.ids, ids.iter().copied(), need);
-        self.whole(track.points.len());
-        self.whole(track.fallback.into());
-        self.whole(need);
-        let first = track.points[0];
-        for x in [first.beta, first.x, first.y] {
-            self.hex(x.to_bits());
-        }
-        self.track = Some(track);
+        self.lines += &self.lent.lines();
     }
 
     fn curbs(&mut self, count: u32, given: [usize; 3], lent: [usize; 2]) {
@@ -210,13 +162,13 @@ impl Replay {
             put(&mut white, curbs.iter().map(|c| c.white.into()), STATED_CURBS[1]);
             self.whole(curbs.len());
         }
-        self.hash_floats(&quads);
+        self.hex(hash_floats(&quads));
         self.hex(hash(white.iter().map(|&w| w.into())));
     }
 
     fn offset(&mut self, at: usize, value: u32) {
         self.ask(OFFSET, [at as u64, value as u64]);
-        self.offsets[at] = value;
+        self.lent.offsets[at] = value;
         self.track = None;
     }
     /// The part of the list between the cell's two offsets; the empty part where these are missing, fall or pass the
@@ -225,7 +177,7 @@ impl Replay {
         self.records[2] += 1;
         self.ask(LOOKUP, [offsets as u64, ids as u64, x.to_bits(), y.to_bits()]);
         let cell = probe::cell(y) * 67 + probe::cell(x);
-        let (lent, list) = (&self.offsets[..offsets], &self.ids[..ids]);
+        let (lent, list) = (&self.lent.offsets[..offsets], &self.lent.ids[..ids]);
         let part = match lent {
             o if o.len() < cell + 2 => &list[..0],
             o if o[cell + 1] < o[cell] || list.len() < o[cell + 1] as usize => &list[..0],
@@ -236,7 +188,7 @@ impl Replay {
                 assert_eq!(part, t.candidate_tiles(x, y));
             }
         }
-        let (length, sum) = (part.len(), hash(part.iter().map(|&id| id.into())));
+        let (length, sum) = (part.len(), hash_ids(part));
         self.whole(length);
         self.hex(sum);
     }
@@ -254,19 +206,8 @@ fn step(x: f64, d: i64) -> f64 {
     if place < 0 { -there } else { there }
 }
 
-/// From lo to hi.
-fn between(g: &mut SplitMix64, lo: f64, hi: f64) -> f64 {
-    lo + (hi - lo) * g.unit()
-}
-
 fn at(beta: f64, x: f64, y: f64) -> TrackPoint {
     TrackPoint { beta, x, y }
-}
-
-/// The stated lengths, and the index list's.
-fn stated(list: usize) -> [usize; 7] {
-    let [a, b, c, d, e, f] = STATED;
-    [a, b, c, d, e, f, list]
 }
 
 /// Which points have a curb: by `border_quads`, or by a misreading, where spread marks are spread on (`cascade`) or a
@@ -558,7 +499,7 @@ fn lookups(r: &mut Replay, g: &mut SplitMix64) {
     }
     let (x, y) = (points[20].x, points[20].y);
     let cell = probe::cell(y) * 67 + probe::cell(x);
-    let (a, e) = (r.offsets[cell], r.offsets[cell + 1]);
+    let (a, e) = (r.lent.offsets[cell], r.lent.offsets[cell + 1]);
     for offsets in [0, 1, cell, cell + 1, cell + 2, cell + 3, STATED[5] - 1, STATED[5]] {
         for ids in [0, a as usize, e as usize - 1, e as usize, e as usize + 1, need] {
             r.lookup(offsets, ids, x, y);

@@ -5,19 +5,14 @@
 // host/vectors/course.rs takes the answers from the Rust and, where the Rust has none, from document 01. A record
 // of the list is a code and its arguments, a word each. An unknown code ends the run. The given columns and the
 // last index stand from record to record.
-//
-// A lent column is a part of a longer one, which holds numbers before the call that no call writes: its hash
-// afterwards, of the whole, shows what was written, and that nothing else was.
 ghost use Prim.Native.Nat.{_≤_};
-
-mod front;
-mod hash;
-
 use course::curbs;
 use course::curbs::CurbAnswer;
 use course::index;
 use course::points;
 use course::points::Laid;
+use vectors::front;
+use vectors::hash;
 
 // First place, number of points, and each point's beta, x and y: into the given columns.
 const GIVE: u64 = 1;
@@ -153,26 +148,10 @@ fn call_points(
 fn line_laid(answer: Laid) {
     match answer {
         Laid::Course(n, fallback, length, first) => {
-            vectors::line_u64(n as u64);
-            vectors::line_bool(fallback);
-            vectors::line_u64(length as u64);
-            vectors::line_float(first.beta);
-            vectors::line_float(first.x);
-            vectors::line_float(first.y);
+            vectors::lines_course(n, fallback, length, first.beta, first.x, first.y)
         }
-        Laid::Short(need) => {
-            vectors::line_refused(3);
-            vectors::line_u64(need as u64);
-        }
+        Laid::Short(need) => vectors::lines_short(need),
         Laid::Refused(cause) => vectors::line_refused(cause),
-    }
-}
-
-fn fill(col: &mut [u32]) {
-    let mut i: usize = 0;
-    while i < col.len() {
-        col[i] = UNTOUCHED_ID;
-        i += 1;
     }
 }
 
@@ -190,8 +169,8 @@ fn replay_points(
     let mut x = [UNTOUCHED; 2600];
     let mut y = [UNTOUCHED; 2600];
     let mut tiles = [UNTOUCHED; 20100];
-    fill(offsets);
-    fill(list);
+    vectors::fill(offsets, UNTOUCHED_ID);
+    vectors::fill(list, UNTOUCHED_ID);
     line_laid(call_points(
         rest,
         pbeta,
@@ -205,13 +184,7 @@ fn replay_points(
         offsets,
         list,
     ));
-    vectors::line_hex(hash::floats(&alpha));
-    vectors::line_hex(hash::floats(&beta));
-    vectors::line_hex(hash::floats(&x));
-    vectors::line_hex(hash::floats(&y));
-    vectors::line_hex(hash::floats(&tiles));
-    vectors::line_hex(hash::ids(offsets));
-    vectors::line_hex(hash::ids(list));
+    vectors::lines_lent(&alpha, &beta, &x, &y, &tiles, offsets, list);
 }
 
 // Curbs on parts of the columns, of the record's lengths.

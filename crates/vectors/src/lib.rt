@@ -1,11 +1,17 @@
-// What the test programs share: reading a stored list from standard input, and printing answers.
+// What the test programs share: reading a stored list from standard input, lent columns, and printing answers.
 //
 // A program NAME_vectors replays the list crates/NAME_vectors/stdin and prints a line for each answer.
 // The expected lines stand in its stdout. Both files are made from the Rust by host/vectors/make NAME.
 // A list is 64-bit words, the low byte first; a float stands there by its bits.
 //
+// A lent column is a part of a longer one, which holds numbers before the call that no call writes: its hash
+// afterwards, of the whole, shows what was written, and that nothing else was.
+//
 // Every function here is proved safe and ending. No public function has a `requires`.
 ghost use Rattle.io.specs.Counts.{Counts};
+
+pub mod front;
+pub mod hash;
 
 // The bits that stand for every NaN: IEEE 754 has many, and Rattle one.
 const NAN: u64 = 0x7ff8_0000_0000_0000;
@@ -95,4 +101,48 @@ pub fn line_bool(b: bool) {
 pub fn line_refused(cause: u32) {
     io::write_all(1, b"refused ");
     line_u64(cause as u64);
+}
+
+// The id in every place of the column.
+pub fn fill(col: &mut [u32], id: u32) {
+    let mut i: usize = 0;
+    while i < col.len() {
+        col[i] = id;
+        i += 1;
+    }
+}
+
+// The lines of a course's answer: n, fallback, list length and the first point.
+pub fn lines_course(n: u32, fallback: bool, length: u32, beta: f64, x: f64, y: f64) {
+    line_u64(n as u64);
+    line_bool(fallback);
+    line_u64(length as u64);
+    line_float(beta);
+    line_float(x);
+    line_float(y);
+}
+
+// The lines of a refusal by cause 3: the number, and the length needed.
+pub fn lines_short(need: u32) {
+    line_refused(3);
+    line_u64(need as u64);
+}
+
+// The hashes of a course's lent columns, a line each.
+pub fn lines_lent(
+    alpha: &[f64],
+    beta: &[f64],
+    x: &[f64],
+    y: &[f64],
+    tiles: &[f64],
+    offsets: &[u32],
+    list: &[u32],
+) {
+    line_hex(hash::floats(alpha));
+    line_hex(hash::floats(beta));
+    line_hex(hash::floats(x));
+    line_hex(hash::floats(y));
+    line_hex(hash::floats(tiles));
+    line_hex(hash::ids(offsets));
+    line_hex(hash::ids(list));
 }

@@ -18,7 +18,7 @@ pub fn floats(col: &[f64]) -> u64 {
     let mut h: u64 = 1;
     let mut i: usize = 0;
     while i < col.len() {
-        h = mix(h, vectors::bits(col[i]));
+        h = mix(h, crate::bits(col[i]));
         i += 1;
     }
     h

@@ -1,16 +1,16 @@
--- `course_vectors::fill` is safe and ends. Assumes nothing.
+-- `vectors::fill` is safe and ends. Assumes nothing.
 use Prim.Native.Nat.{_-_}
 use mathlib.Core.Path.{_≡_}
 use lib.ListN.{length}
 use borrow.Author.Needs.{needs}
-use Rattle.course_vectors.proofs.fill.Statement.{statement}
-use Rattle.course_vectors.proofs.fill.Tie as tie
+use Rattle.vectors.proofs.fill.Statement.{statement}
+use Rattle.vectors.proofs.fill.Tie as tie
 
 abbrev Inv-loop : tie.InvT-loop
-Inv-loop col₀ i₀ col i = length col ≡ length col₀
+Inv-loop col₀ id i₀ col i = length col ≡ length col₀
 
 abbrev μ-loop : tie.MeasureT-loop
-μ-loop col₀ i₀ col i = length col₀ - i
+μ-loop col₀ id i₀ col i = length col₀ - i
 
 loop-holds : tie.Need-loop-holds Inv-loop μ-loop
 loop-holds c = search needs

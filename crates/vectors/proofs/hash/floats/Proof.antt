@@ -1,9 +1,9 @@
--- `course_vectors::hash::floats` is safe and ends. Assumes nothing.
+-- `vectors::hash::floats` is safe and ends. Assumes nothing.
 use Prim.Native.Nat.{_-_}
 use lib.ListN.{length}
 use borrow.Author.Needs.{needs}
-use Rattle.course_vectors.proofs.hash.floats.Statement.{statement}
-use Rattle.course_vectors.proofs.hash.floats.Tie as tie
+use Rattle.vectors.proofs.hash.floats.Statement.{statement}
+use Rattle.vectors.proofs.hash.floats.Tie as tie
 
 abbrev Inv-loop : tie.InvT-loop
 Inv-loop col h₀ i₀ h i = Unit

@@ -1,9 +1,9 @@
--- `course_vectors::hash::marks` is safe and ends. Assumes nothing.
+-- `vectors::hash::ids` is safe and ends. Assumes nothing.
 use Prim.Native.Nat.{_-_}
 use lib.ListN.{length}
 use borrow.Author.Needs.{needs}
-use Rattle.course_vectors.proofs.hash.marks.Statement.{statement}
-use Rattle.course_vectors.proofs.hash.marks.Tie as tie
+use Rattle.vectors.proofs.hash.ids.Statement.{statement}
+use Rattle.vectors.proofs.hash.ids.Tie as tie
 
 abbrev Inv-loop : tie.InvT-loop
 Inv-loop col h₀ i₀ h i = Unit
@@ -14,11 +14,14 @@ abbrev μ-loop : tie.MeasureT-loop
 loop-holds : tie.Need-loop-holds Inv-loop μ-loop
 loop-holds c = search needs
 
-shared-slice-read-wide-mark : tie.Need-shared-slice-read-wide-mark Inv-loop μ-loop
-shared-slice-read-wide-mark c = search needs
+mul-wide : tie.Need-mul-wide Inv-loop μ-loop
+mul-wide c = search needs
 
-wide-mark-requires : tie.Need-wide-mark-requires Inv-loop μ-loop
-wide-mark-requires c κs = search needs
+shared-slice-read-wide : tie.Need-shared-slice-read-wide Inv-loop μ-loop
+shared-slice-read-wide c = search needs
+
+wide-requires : tie.Need-wide-requires Inv-loop μ-loop
+wide-requires c κs = search needs
 
 mix-requires : tie.Need-mix-requires Inv-loop μ-loop
 mix-requires c κs = search needs
@@ -35,15 +38,16 @@ loop-again c = search needs
 returns : tie.Need-returns Inv-loop μ-loop
 returns c = search needs
 
-pub marks-spec : {M : Type 1} → statement M
-marks-spec =
+pub ids-spec : {M : Type 1} → statement M
+ids-spec =
     tie.close
     (tie.spec
     Inv-loop
     μ-loop
     loop-holds
-    shared-slice-read-wide-mark
-    wide-mark-requires
+    mul-wide
+    shared-slice-read-wide
+    wide-requires
     mix-requires
     add-i
     loop-less

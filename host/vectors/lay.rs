@@ -1,0 +1,349 @@
+//! Writes the list that crates/lay_vectors replays (its file stdin, whose path is the first argument), and prints
+//! what it must answer. Run by `host/vectors/make lay`.
+//!
+//! The list is 64-bit words, the low byte first: for each record a code, the lengths of the lent columns and the
+//! call's own arguments, floats by their bits. Courses are the Rust's: `generate_with_attempts` of the reference's
+//! track.rs with document 01's limits, and the same with given checkpoints in the place of the drawn ones. The Rust
+//! refuses nothing and lends nothing; which call is refused by what number, and what stands in a lent column around
+//! the Rust's numbers, is written out in shared/lent.rs from document 01 ("Lent", "Refusals by cause"). After each
+//! call the answer holds a hash of every whole column, so a number written where none belongs shows.
+#[path = "shared/lent.rs"]
+mod lent;
+
+use lent::{between, roomy, stated, Lent, STATED};
+use oracle::limits::{HIT, TURNED};
+use oracle::oracle::{probe, Track};
+use reinfors_core::SplitMix64;
+use std::f64::consts::PI;
+use std::sync::atomic::Ordering::Relaxed;
+
+const LAY: u64 = 1;
+const ATTEMPTS: u64 = 2;
+const CHECKPOINTS: u64 = 3;
+
+/// The program's buffer, in bytes: a longer list would be cut off.
+const ROOM: usize = 262_144;
+
+/// The lengths of the program's columns: alpha, beta, x, y, tiles, offsets, index list.
+const LONG: [usize; 7] = [2_600, 2_600, 2_600, 2_600, 20_100, 4_600, 30_000];
+
+const TAU: f64 = 2.0 * PI;
+
+/// An attempt's checkpoints: angle, x, y.
+type Set = [(f64, f64, f64); 12];
+
+/// The list and its answers as they grow.
+struct Replay {
+    list: Vec<u8>,
+    lines: String,
+    /// How many records there are by code, and how many of these were accepted, answered by the ring, refused by 2,
+    /// by 3.
+    records: [[usize; 4]; 4],
+    /// How many records of given checkpoints meet the third pass.
+    third: usize,
+}
+
+impl Replay {
+    fn call(&mut self, code: u64, lent: [usize; 7], arguments: impl IntoIterator<Item = u64>, track: &Track) {
+        assert!(lent.iter().zip(LONG).all(|(&l, most)| l <= most));
+        let words = [code].into_iter().chain(lent.into_iter().map(|l| l as u64)).chain(arguments);
+        self.list.extend(words.flat_map(u64::to_le_bytes));
+        let mut columns = Lent::untouched(&LONG);
+        let outcome = if !roomy(&lent, &STATED) {
+            self.lines += "refused 2\n";
+            2
+        } else {
+            let answer = columns.write(track, lent[6]);
+            let outcome = if answer.is_err() { 3 } else { track.fallback.into() };
+            self.lines += &answer.unwrap_or_else(|refused| refused);
+            outcome
+        };
+        self.records[code as usize][outcome] += 1;
+        self.lines += &columns.lines();
+    }
+    fn lay(&mut self, seed: u32, lent: [usize; 7]) {
+        self.call(LAY, lent, [seed.into()], &Track::generate(seed));
+    }
+    fn attempts(&mut self, attempts: u32, seed: u32, lent: [usize; 7]) {
+        self.call(ATTEMPTS, lent, [attempts.into(), seed.into()], &probe::within(seed, attempts));
+    }
+    fn checkpoints(&mut self, cs: Set, lent: [usize; 7]) {
+        let words = cs.into_iter().flat_map(|(angle, x, y)| [angle, x, y]).map(f64::to_bits);
+        let before = met()[0];
+        self.call(CHECKPOINTS, lent, words, &probe::on_checkpoints(cs));
+        self.third += usize::from(met()[0] > before);
+    }
+}
+
+fn need(track: &Track) -> usize {
+    probe::raw_ref(track).1.len()
+}
+
+/// How often limits were met so far: third pass, fifth turn, beta beyond 16; and steps of two and of three turns.
+fn met() -> [u64; 5] {
+    [&HIT[0], &HIT[1], &HIT[2], &TURNED[1], &TURNED[2]].map(|count| count.load(Relaxed))
+}
+
+/// Number `number` of a family of made-up sets.
+fn made_up(family: u64, number: u64) -> Set {
+    let g = &mut SplitMix64::new(number * 7 + family);
+    std::array::from_fn(|c| {
+        let twelfth = TAU / 12.0;
+        let at = |angle: f64, r: f64, place: f64| (angle, r * libm::cos(place), r * libm::sin(place));
+        match family {
+            // anything
+            0 => (between(g, -8.0, 8.0), between(g, -300.0, 300.0), between(g, -300.0, 300.0)),
+            // as drawn, but nearer and farther
+            1 => {
+                let angle = twelfth * between(g, c as f64, c as f64 + 1.0);
+                at(angle, between(g, 10.0, 400.0), angle)
+            }
+            // as drawn, but elsewhere than at their angles
+            2 => {
+                let angle = twelfth * between(g, c as f64, c as f64 + 1.0);
+                at(angle, between(g, 10.0, 400.0), angle + between(g, 0.0, 6.0))
+            }
+            // some a tau too low
+            3 => {
+                let angle = twelfth * c as f64;
+                let low = if between(g, 0.0, 1.0) < 0.3 { TAU } else { 0.0 };
+                at(angle - low, between(g, 10.0, 200.0), angle)
+            }
+            // near the middle, round which angles change fast
+            4 => {
+                let low = between(g, 0.0, 1.0) < 0.5;
+                let angle = if low { between(g, -6.3, 0.0) } else { between(g, -1.0, 7.0) };
+                (angle, between(g, -30.0, 30.0), between(g, -30.0, 30.0))
+            }
+            // the other way round
+            _ => at(-twelfth * c as f64, between(g, 10.0, 400.0), -twelfth * c as f64),
+        }
+    })
+}
+
+/// The checkpoints that a seed's first attempt draws.
+fn drawn(seed: u32) -> Set {
+    let g = &mut SplitMix64::new(0xCA75_EED0 ^ u64::from(seed));
+    std::array::from_fn(|c| {
+        let noise = between(g, 0.0, TAU / 12.0);
+        let rad = between(g, 150.0 / 3.0, 150.0);
+        let base = TAU * c as f64 / 12.0;
+        let (angle, rad) = match c {
+            0 => (0.0, 225.0),
+            11 => (base, 225.0),
+            _ => (base + noise, rad),
+        };
+        (angle, rad * libm::cos(angle), rad * libm::sin(angle))
+    })
+}
+
+/// Seeds by the attempts that they need. Of the first 250,000 seeds 232,897 need one attempt, 15,973 two, 1,057
+/// three, 67 four, 5 five and one six; none of them needs more.
+const NEED: [(u32, &[u32]); 5] = [
+    (2, &[3, 24, 34, 43]),
+    (3, &[581, 2_224, 2_266, 2_723]),
+    (4, &[2_963, 5_011, 5_671, 5_710]),
+    (5, &[4_492, 101_179, 117_196, 118_886]),
+    (6, &[11_628]),
+];
+
+/// The course of a seed: the index list one too short, all columns longer than stated, and each of just the length
+/// that it must have.
+fn seed_thrice(r: &mut Replay, seed: u32) {
+    let need = need(&Track::generate(seed));
+    r.lay(seed, stated(need - 1));
+    r.lay(seed, LONG);
+    r.lay(seed, stated(need));
+}
+
+/// Courses of seeds: the ends of the seeds, the one whose generator starts at 0, the longest (401 points) and the
+/// shortest course (207) of the first 20,000, some in a row and some at random, and those that need more attempts.
+fn seeds(r: &mut Replay) {
+    for seed in [0, 1, u32::MAX, 0xCA75_EED0, 0x8000_0000, 15_969, 17_366] {
+        seed_thrice(r, seed);
+    }
+    let g = &mut SplitMix64::new(5);
+    let random: Vec<u32> = (0..24).map(|_| between(g, 0.0, 4_294_967_296.0) as u32).collect();
+    for seed in (2..40).chain(random) {
+        r.lay(seed, LONG);
+    }
+    for (attempts, seeds) in NEED {
+        for &seed in seeds {
+            assert_eq!(probe::attempts(seed), (attempts, false));
+            seed_thrice(r, seed);
+        }
+    }
+}
+
+/// Seeds with a given number of attempts: none, fewer than are needed (the ring, also where a refused walk stood in
+/// the columns before), just as many, and more.
+fn attempts(r: &mut Replay) {
+    for seed in [0, 1, 3, u32::MAX] {
+        r.attempts(0, seed, LONG);
+        r.attempts(u32::MAX, seed, LONG);
+    }
+    r.attempts(1, 0, LONG);
+    for (needed, seeds) in NEED {
+        let seed = seeds[0];
+        for attempts in (0..needed + 2).chain([63, 64, 65]) {
+            assert_eq!(probe::within(seed, attempts).fallback, attempts < needed);
+            r.attempts(attempts, seed, LONG);
+        }
+    }
+}
+
+/// A call that needs an index list of so many: with a list of just that length, one too short, none, and more; with
+/// each other column one short, the list too short besides, and one empty while all others are long; with nothing at
+/// all.
+fn lengths(r: &mut Replay, need: usize, call: impl Fn(&mut Replay, [usize; 7])) {
+    for list in [need, need - 1, 0, need + 1] {
+        call(r, stated(list));
+    }
+    for k in 0..STATED.len() {
+        let mut lent = stated(need);
+        lent[k] -= 1;
+        call(r, lent);
+        lent[6] = need - 1;
+        call(r, lent);
+        lent = LONG;
+        lent[k] = 0;
+        call(r, lent);
+        lent[k] = STATED[k];
+        call(r, lent);
+    }
+    call(r, [0; 7]);
+}
+
+/// Too short columns for all three calls, with courses and with the ring.
+fn refusals(r: &mut Replay) {
+    for seed in [0, 3, u32::MAX] {
+        lengths(r, need(&Track::generate(seed)), |r, lent| r.lay(seed, lent));
+    }
+    for (attempts, seed) in [(0, 0), (1, 3), (2, 3)] {
+        lengths(r, need(&probe::within(seed, attempts)), |r, lent| r.attempts(attempts, seed, lent));
+    }
+    for cs in [drawn(0), made_up(1, 1_081), [(f64::NAN, 0.0, 0.0); 12]] {
+        lengths(r, need(&probe::on_checkpoints(cs)), |r, lent| r.checkpoints(cs, lent));
+    }
+}
+
+/// Given checkpoints that a seed draws: the seed's course where its first attempt is accepted.
+fn drawn_sets(r: &mut Replay) {
+    for seed in [0, 1, 2, 3, 24, u32::MAX] {
+        let (one, given) = (probe::within(seed, 1), probe::on_checkpoints(drawn(seed)));
+        assert_eq!((one.fallback, one.points.len(), need(&one)), (given.fallback, given.points.len(), need(&given)));
+        r.checkpoints(drawn(seed), LONG);
+    }
+}
+
+/// The checkpoints that a seed draws, each a tau lower, so that the second pass finds them; the first of them is the
+/// last, at an angle of its own.
+fn lowered(seed: u32, last: f64) -> Set {
+    let cs = drawn(seed);
+    let lower = |(angle, x, y): (f64, f64, f64)| (angle - TAU, x, y);
+    std::array::from_fn(|c| if c == 11 { (last, cs[0].1, cs[0].2) } else { lower(cs[c + 1]) })
+}
+
+/// Sets on which the third pass decides: with the last angle at 0 the attempt is accepted; with it a little lower, the
+/// walk passes it before its lap is done, and a third pass would go on from there to the same course or a similar one.
+fn deciding_passes(r: &mut Replay) {
+    for seed in [0, 1, 2, 4, 5, u32::MAX] {
+        assert!(!probe::on_checkpoints(lowered(seed, 0.0)).fallback, "{seed} is refused");
+        r.checkpoints(lowered(seed, 0.0), LONG);
+        for last in [-0.01, -0.05, -0.2] {
+            let before = r.third;
+            r.checkpoints(lowered(seed, last), LONG);
+            assert!(r.third > before || last == -0.01, "{seed} {last} meets no third pass");
+        }
+    }
+}
+
+/// Sets that meet the third pass: at the first step, where every angle is more than a tau below the walk's, or at a
+/// later one, once the walk's angle has grown; and some with angles so high that it may not.
+fn third_passes(r: &mut Replay) {
+    let below = f64::from_bits(TAU.to_bits() + 1);
+    for angle in [f64::NAN, -f64::INFINITY, -1e300, -7.0, -below, -TAU, -6.2, -5.0, -3.2, -PI, -3.0, -1.0] {
+        for (x, y) in [(0.0, 0.0), (-200.0, 10.0)] {
+            let before = r.third;
+            r.checkpoints([(angle, x, y); 12], LONG);
+            assert!(r.third > before || angle > -3.5, "{angle} {x} {y} meets no third pass");
+        }
+    }
+}
+
+/// One angle for all, so that the walk makes for the first alone; coordinates that are not finite, or far, or tiny.
+fn far_sets(r: &mut Replay) {
+    let ends = [f64::NAN, f64::INFINITY, -f64::INFINITY, 1e308, -1e17, 5e-324, -0.0, 60.0];
+    for angle in [f64::INFINITY, 1e300, 6.3, 1.0] {
+        for x in ends {
+            r.checkpoints([(angle, x, 60.0); 12], LONG);
+            r.checkpoints([(angle, -60.0, x); 12], LONG);
+        }
+    }
+    // some of a seed's checkpoints damaged
+    for c in 0..12 {
+        for (angle, x, y) in [(f64::NAN, 0.0, 0.0), (-1.0, 1e9, f64::NAN), (f64::INFINITY, -1e9, 3.0)] {
+            let mut cs = drawn(2);
+            cs[c] = (angle, x, y);
+            r.checkpoints(cs, LONG);
+        }
+    }
+}
+
+/// Made-up sets, by family, of each kind that the first 12,000 of the family hold: accepted and refused; with no, one
+/// and two turns of beta in a step; a third pass met; with the fewest points and the most.
+const FOUND: [&[u64]; 6] = [
+    &[60, 171, 9_898, 9_859, 0, 1, 408, 572, 2_829],
+    &[5, 15, 10_124, 1_081, 11_481, 0, 5_265],
+    &[244, 9_647, 6_029, 10, 5_813, 10_743, 1, 0, 235, 372],
+    &[10_828, 8_567, 1, 4, 0, 2],
+    &[9_910, 4_567, 8_249, 9_137, 6, 1_851, 0, 7, 2_457, 4_335, 1_358, 1_930],
+    &[693, 943, 2, 7, 0, 1],
+];
+
+fn found_sets(r: &mut Replay) {
+    let (mut third, mut twice) = (0, [0; 2]);
+    for (family, numbers) in FOUND.into_iter().enumerate() {
+        for &number in numbers {
+            let cs = made_up(family as u64, number);
+            let before = met();
+            let track = probe::on_checkpoints(cs);
+            let now = met();
+            third += usize::from(now[0] > before[0]);
+            twice[track.fallback as usize] += usize::from(now[3] > before[3]);
+            r.checkpoints(cs, LONG);
+        }
+    }
+    let [accepted, refused] = twice;
+    eprintln!("found sets: {third} meet the third pass; {accepted} accepted, {refused} refused turn twice in a step");
+    assert!(third > 0 && twice[0] > 0 && twice[1] > 0);
+}
+
+fn main() {
+    let path = std::env::args().nth(1).expect("the path of the list to write");
+    let mut r = Replay { list: Vec::new(), lines: String::new(), records: [[0; 4]; 4], third: 0 };
+    seeds(&mut r);
+    attempts(&mut r);
+    // None of these seeds meets a limit, or turns beta twice in a step.
+    assert_eq!(met(), [0; 5]);
+    refusals(&mut r);
+    drawn_sets(&mut r);
+    deciding_passes(&mut r);
+    third_passes(&mut r);
+    far_sets(&mut r);
+    found_sets(&mut r);
+    // The other two limits no checkpoints can meet. A search ends with alpha from -tau to tau, since a third pass
+    // refuses. Beta is then turned to within 1.5 pi of alpha and steered by at most 0.31, so a step leaves it within
+    // 11.31, short of 16. From there the next alpha is less than 17.6 away, which three turns bring within 1.5 pi.
+    let [_, fifth, beyond, two, three] = met();
+    assert!(r.third > 0 && fifth == 0 && beyond == 0);
+    eprintln!("{} records meet the third pass; steps of two turns {two}, of three {three}", r.third);
+    // An unknown code ends the run: the record behind it has no answer.
+    r.list.extend([0, LAY].into_iter().chain([0; 8]).flat_map(u64::to_le_bytes));
+    assert!(r.list.len() <= ROOM, "{} bytes do not fit the program's buffer", r.list.len());
+    let [_, lay, attempts, checkpoints] = r.records;
+    eprintln!("accepted, ring, refused by 2, by 3: lay {lay:?}, attempts {attempts:?}, checkpoints {checkpoints:?}");
+    eprintln!("{} bytes", r.list.len());
+    std::fs::write(&path, &r.list).expect("the list could not be written");
+    print!("{}", r.lines);
+}
