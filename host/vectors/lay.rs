@@ -22,7 +22,7 @@ const ATTEMPTS: u64 = 2;
 const CHECKPOINTS: u64 = 3;
 
 /// The program's buffer, in bytes: a longer list would be cut off.
-const ROOM: usize = 131_072;
+const ROOM: usize = 262_144;
 
 /// The lengths of the program's columns: alpha, beta, x, y, tiles, offsets, index list.
 const LONG: [usize; 7] = [2_600, 2_600, 2_600, 2_600, 20_100, 4_600, 30_000];
@@ -236,6 +236,28 @@ fn drawn_sets(r: &mut Replay) {
     }
 }
 
+/// The checkpoints that a seed draws, each a tau lower, so that the second pass finds them; the first of them is the
+/// last, at an angle of its own.
+fn lowered(seed: u32, last: f64) -> Set {
+    let cs = drawn(seed);
+    let lower = |(angle, x, y): (f64, f64, f64)| (angle - TAU, x, y);
+    std::array::from_fn(|c| if c == 11 { (last, cs[0].1, cs[0].2) } else { lower(cs[c + 1]) })
+}
+
+/// Sets on which the third pass decides: with the last angle at 0 the attempt is accepted; with it a little lower, the
+/// walk passes it before its lap is done, and a third pass would go on from there to the same course or a similar one.
+fn deciding_passes(r: &mut Replay) {
+    for seed in [0, 1, 2, 4, 5, u32::MAX] {
+        assert!(!probe::on_checkpoints(lowered(seed, 0.0)).fallback, "{seed} is refused");
+        r.checkpoints(lowered(seed, 0.0), LONG);
+        for last in [-0.01, -0.05, -0.2] {
+            let before = r.third;
+            r.checkpoints(lowered(seed, last), LONG);
+            assert!(r.third > before || last == -0.01, "{seed} {last} meets no third pass");
+        }
+    }
+}
+
 /// Sets that meet the third pass: at the first step, where every angle is more than a tau below the walk's, or at a
 /// later one, once the walk's angle has grown; and some with angles so high that it may not.
 fn third_passes(r: &mut Replay) {
@@ -306,6 +328,7 @@ fn main() {
     assert_eq!(met(), [0; 5]);
     refusals(&mut r);
     drawn_sets(&mut r);
+    deciding_passes(&mut r);
     third_passes(&mut r);
     far_sets(&mut r);
     found_sets(&mut r);

@@ -150,7 +150,7 @@ fn replay(list: &[u8], offsets: &mut [u32], ids: &mut [u32]) {
 }
 
 fn main() {
-    let mut space = [0u8; 131072];
+    let mut space = [0u8; 262144];
     let mut offsets = [0u32; 4600];
     let mut ids = [0u32; 30000];
     let n = vectors::read_list(&mut space);
