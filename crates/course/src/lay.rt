@@ -217,7 +217,7 @@ pub fn lay(
 }
 
 // The course of one attempt with given checkpoints in the lent columns, the ring where that attempt is refused. It lets
-// the limits on an attempt be met on purpose.
+// the limit on the search be met on purpose.
 pub fn lay_checkpoints(
     cs: [Checkpoint; 12],
     alpha: &mut [f64],
