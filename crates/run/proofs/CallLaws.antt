@@ -8,7 +8,7 @@ use lib.Dec.{ltb, leb}
 use lib.ListN.{length}
 use lib.Ieee.{Float}
 use borrow.Author.Tests.{ltb-false, leb-false}
-use Rattle.course.specs.Lengths.{mostNumbers, offsetCount}
+use Rattle.course.specs.Lengths.{mostPoints, mostNumbers, offsetCount}
 use Rattle.run.specs.State.{State, Columns, posesOk, shortColumns, shortOf, unfitCore}
 use Rattle.run.specs.Touch.{soundPoses, touchedBy}
 use Rattle.run.specs.Wheel.{quadOf}
@@ -39,7 +39,7 @@ yes-of true h = refl
 yes-of false h = absurd (true≢false h)
 
 -- the lent tiles are long enough for n of them
-long : (tiles offsets n most : ℕ) → shortColumns tiles offsets ≡ false → ltb most n ≡ false → most ≤ 2500 → n * 8 ≤ tiles
+long : (tiles offsets n most : ℕ) → shortColumns tiles offsets ≡ false → ltb most n ≡ false → most ≤ mostPoints → n * 8 ≤ tiles
 unfolding shortColumns
 long tiles offsets n most h b m =
     let t = ltb-false tiles mostNumbers (or-no (ltb tiles mostNumbers) (ltb offsets offsetCount) h .0) in
@@ -53,7 +53,7 @@ pub record StartFacts (most : ℕ) (l : Columns) (a : Settings) : Type 0 where
   pub tiles : a .n * 8 ≤ length (l .tiles)
   pub sound : soundPoses (l .offsets) (l .list) (a .n) (a .poses) ≡ true
 
-pub start-facts : (most : ℕ) (l : Columns) (a : Settings) → most ≤ 2500 → startCause most l a ≡ 0 → StartFacts most l a
+pub start-facts : (most : ℕ) (l : Columns) (a : Settings) → most ≤ mostPoints → startCause most l a ≡ 0 → StartFacts most l a
 unfolding startCause startShort shortOf
 start-facts most l a m h =
     let p = cleared (not (settingsOk (a .share) (a .limit))) 0 _ h in
@@ -99,7 +99,7 @@ pub record SettleFacts (most : ℕ) (s : Core) (l : Columns) (ps : List Pose) : 
   pub tiles : s .n * 8 ≤ length (l .tiles)
   pub sound : soundPoses (l .offsets) (l .list) (s .n) ps ≡ true
 
-pub settle-facts : (most : ℕ) (s : Core) (l : Columns) (x y : Float) (ps : List Pose) → most ≤ 2500 → settleCause most s l x y ps ≡ 0 → SettleFacts most s l ps
+pub settle-facts : (most : ℕ) (s : Core) (l : Columns) (x y : Float) (ps : List Pose) → most ≤ mostPoints → settleCause most s l x y ps ≡ 0 → SettleFacts most s l ps
 unfolding settleCause unfitCore shortOf
 settle-facts most s l x y ps m h =
     let p = cleared (unfitCore most s || s .ended) 3 _ h in

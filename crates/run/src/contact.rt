@@ -12,6 +12,8 @@ ghost use Rattle.run.specs.Widths.{fullWords, mostTiles};
 use crate::quad;
 use crate::state::Pose;
 use crate::touch;
+use crate::widths::FULL_WORDS;
+use crate::widths::WHEEL_WORDS;
 use crate::words;
 
 // How many tiles are new, and whether a wheel entered tile 0.
@@ -95,8 +97,8 @@ pub(crate) fn contact_pass(
 
 // The same over the full state's sets by value.
 pub(crate) struct FullContact {
-    pub credited: [u64; 40],
-    pub wheels: [u64; 160],
+    pub credited: [u64; FULL_WORDS],
+    pub wheels: [u64; WHEEL_WORDS],
     pub fresh: u32,
     pub zero: bool,
 }
@@ -107,16 +109,16 @@ pub(crate) fn full_contact(
     offsets: &[u32],
     list: &[u32],
     n: usize,
-    credited: [u64; 40],
-    wheels: [u64; 160],
+    credited: [u64; FULL_WORDS],
+    wheels: [u64; WHEEL_WORDS],
 ) -> FullContact
     requires { ⌜ (0 < n) × (n ≤ mostTiles) × (n * 8 ≤ length (now tiles)) × (soundPoses (now offsets) (now list) n poses ≡ true) ⌝ }
     ensures { λ r. ⌜ contacted (r .credited) (r .wheels) (r .fresh) (r .zero) ≡ contactOf fullWords credited wheels (λ w. touchedBy (now (tiles .entry)) (now (offsets .entry)) (now (list .entry)) (quadOf poses w)) ⌝ }
 {
     let mut next = credited;
     let mut sets = wheels;
-    let mut tested = [0u64; 40];
-    let mut touched = [0u64; 40];
+    let mut tested = [0u64; FULL_WORDS];
+    let mut touched = [0u64; FULL_WORDS];
     let c = contact_pass(
         poses,
         tiles,

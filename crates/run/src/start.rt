@@ -11,7 +11,9 @@ use crate::state::Pose;
 use crate::state::Run;
 use crate::state::WheelCtl;
 use crate::touch;
+use crate::widths::FULL_WORDS;
 use crate::widths::MOST_TILES;
+use crate::widths::WHEEL_WORDS;
 
 // How many tiles are credited, and the lap; or the number of the cause.
 pub enum StartAnswer {
@@ -93,8 +95,8 @@ fn zero_run() -> Run
     ensures { λ r. ⌜ view r ≡ zeroState fullWords ⌝ }
 {
     let core = begun_core(0, false, 0.0, 0, 0, false);
-    let credited = [0u64; 40];
-    let wheels = [0u64; 160];
+    let credited = [0u64; FULL_WORDS];
+    let wheels = [0u64; WHEEL_WORDS];
     Run {
         core,
         credited,
@@ -139,8 +141,8 @@ pub fn start(
         offsets,
         list,
         n as usize,
-        [0u64; 40],
-        [0u64; 160],
+        [0u64; FULL_WORDS],
+        [0u64; WHEEL_WORDS],
     );
     let lap = lap::update_lap(false, c.zero, c.fresh, n, share);
     let core = begun_core(n, fallback, share, limit, c.fresh, lap);

@@ -2,6 +2,8 @@
 // "Refusals by cause").
 ghost use mathlib.Core.Path.{_≡_};
 ghost use Rattle.run.specs.State.{inRange, poseOk, posesOk, shortColumns, unfitCore};
+use crate::widths::FULL_WORDS;
+use crate::widths::WHEEL_WORDS;
 use course::constants::MOST_NUMBERS;
 use course::constants::OFFSET_COUNT;
 use course::numeric;
@@ -44,12 +46,12 @@ pub struct Core {
     pub fuel_spent: f64,
 }
 
-// The state of a run: 40 words of credited tiles, and 40 words of touched tiles for each wheel.
+// The state of a run: a set of the credited tiles, and for each wheel one of the tiles that it touched last.
 #[repr(C)]
 pub struct Run {
     pub core: Core,
-    pub credited: [u64; 40],
-    pub wheels: [u64; 160],
+    pub credited: [u64; FULL_WORDS],
+    pub wheels: [u64; WHEEL_WORDS],
 }
 
 // Finite and within a million of 0 (cause 8).

@@ -7,6 +7,7 @@ use mathlib.Core.List.{List}
 use mathlib.Core.Path.{_≡_, refl, sym, ap, ap₂, _∙_, subst}
 use native.Mathlib.Omega.{arith}
 use borrow.Author.Needs.{needs}
+use Rattle.run.specs.Widths.{fullWords}
 use Rattle.run.proofs.contact.full_contact.Statement.{statement}
 use Rattle.run.proofs.contact.full_contact.Tie as tie
 use Rattle.run.proofs.contact.full_contact.Reads as reads
@@ -28,17 +29,17 @@ slice-aggregate-contact-pass-4 c = search needs
 contact-pass-requires : tie.Need-contact-pass-requires
 contact-pass-requires c κs =
     let s = c .before .before .before .before .before .before .before in
-    let c40 : length (s .args .credited) ≡ 40 = search needs in
-    let w160 : length (s .args .wheels) ≡ 160 = search needs in
-    ((omega arith, sym c40, sym c40), ((omega arith, s .pre .0, omega (arith, s .pre .1)), (s .pre .2, s .pre .3)))
+    let cl : length (s .args .credited) ≡ fullWords = search needs in
+    let wl : length (s .args .wheels) ≡ 4 * fullWords = search needs in
+    ((omega arith, sym cl, sym cl), ((omega arith, s .pre .0, omega (arith, s .pre .1)), (s .pre .2, s .pre .3)))
 
 returns : tie.Need-returns
 returns c =
     let s = c .before .before .before .before .before .before .before .before .before .before .before .before in
-    let c40 : length (s .args .credited) ≡ 40 = search needs in
-    let w160 : length (s .args .wheels) ≡ 160 = search needs in
+    let cl : length (s .args .credited) ≡ fullWords = search needs in
+    let wl : length (s .args .wheels) ≡ 4 * fullWords = search needs in
     let p = c .before .before .before .before .contact-pass .ensures in
-    full-passed _ _ _ _ _ _ _ _ c40 (p .0) (p .1 .0) (p .1 .1 .0) (p .1 .1 .1)
+    full-passed _ _ _ _ _ _ _ _ cl (p .0) (p .1 .0) (p .1 .1 .0) (p .1 .1 .1)
 
 pub full-contact-spec : {M : Type 1} → statement M
 full-contact-spec =
