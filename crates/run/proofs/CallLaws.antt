@@ -9,15 +9,16 @@ use lib.ListN.{length}
 use lib.Ieee.{Float}
 use borrow.Author.Tests.{ltb-false, leb-false}
 use Rattle.course.specs.Lengths.{mostPoints, mostNumbers, offsetCount}
-use Rattle.run.specs.State.{State, Columns, posesOk, shortColumns, shortOf, unfitCore}
+use Rattle.run.specs.State.{State, Columns, shortOf, unfitCore}
+use Rattle.run.specs.Arguments.{posesOk, shortColumns, settingsOk, placesOk}
 use Rattle.run.specs.Touch.{soundPoses, touchedBy}
 use Rattle.run.specs.Wheel.{quadOf}
 use Rattle.run.specs.Words.{member}
 use Rattle.run.specs.Contact.{entered, Contacted, contacted, contactOf}
 use Rattle.run.proofs.CreditLaws.{few}
 use Rattle.run.specs.Lap.{lapOf, offField}
-use Rattle.run.specs.Start.{Settings, settingsOk, startShort, startCause, begunCore, zeroState, Begun, begun, firstContact, startedBy, startAt, startOf}
-use Rattle.run.specs.Settle.{placesOk, settleCause, settledCore, Done, done, settledBy, settleAt, settleOf}
+use Rattle.run.specs.Start.{Settings, startShort, startCause, begunCore, zeroState, Begun, begun, firstContact, startedBy, startAt, startOf}
+use Rattle.run.specs.Settle.{settleCause, settledCore, Done, done, settledBy, settleAt, settleOf}
 use Rattle.run.specs.declared.state.Core.{Core}
 use Rattle.run.specs.declared.state.Pose.{Pose}
 use Rattle.run.specs.declared.start.StartAnswer.{StartAnswer}

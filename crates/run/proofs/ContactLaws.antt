@@ -11,12 +11,12 @@ use lib.Seq.{take-at, drop-at, drop-drop, length-take-le}
 use lib.Ieee.{Float}
 use native.Mathlib.Decide.{decLt}
 use Rattle.course.proofs.IndexLaws.{and-left, and-right}
-use Rattle.run.specs.Below.{anyBelow, everyBelow}
-use Rattle.run.specs.State.{poseAt}
+use Rattle.run.specs.Below.{anyBelow, everyBelow, howMany}
+use Rattle.run.specs.Arguments.{poseAt}
 use Rattle.run.specs.Wheel.{wheelQuad, quadOf}
 use Rattle.run.specs.Touch.{soundQuad, soundPoses}
 use Rattle.run.specs.declared.state.Pose.{Pose}
-use Rattle.run.specs.Words.{member, setOf, howMany}
+use Rattle.run.specs.Words.{member, setOf}
 use Rattle.run.specs.Contact.{wheelPart, enters, entered, wheelSets, Contacted, contacted, contactOf}
 use Rattle.run.proofs.WordLaws.{Fit, member-setOf, setOf-cong, length-setOf, is-setOf, howMany-cong, howMany-or, howMany-none, or-chain}
 use Rattle.run.proofs.CreditLaws.{few}

@@ -3,7 +3,8 @@
 use mathlib.Core.Path.{_≡_, refl, sym, ap, _∙_}
 use mathlib.Core.List.{List}
 use Prim.Native.Nat.{ℕ, zero, suc}
-use Rattle.run.specs.Drive.{driveCause, driveAt, drivenOf, coreDriveOf, driveOf, driveCauseOf, noForces}
+use Rattle.run.specs.Drive.{driveCause, driveAt, drivenOf, coreDriveOf, driveOf, driveCauseOf}
+use Rattle.run.specs.Pass.{noForces}
 use Rattle.run.specs.declared.state.Core.{Core}
 use Rattle.run.specs.declared.state.Run.{Run}
 use Rattle.run.specs.declared.dynamics.Motion.{Motion}

@@ -10,7 +10,7 @@ use Rattle.course.specs.Numeric.{absOf, minOf, maxOf, leastOf, greatestOf, clam
 use Rattle.run.specs.Overlap.{leastOn, greatestOn, apartOn, apartAlong, apartByEdges, overlapOf}
 use Rattle.run.specs.Lap.{lapOf}
 use Rattle.run.specs.Dynamics.{brakedOf, tyreOf}
-use Rattle.run.specs.Drive.{indicator, gasOf, raisedOf, rearOf, ctlAt, passOf}
+use Rattle.run.specs.Pass.{indicator, gasOf, raisedOf, rearOf, ctlAt, passOf}
 use Rattle.run.specs.Reward.{atLeastOne, rewardOf, defaultWeights}
 use Rattle.run.proofs.Literals.{zero-bits, tenth, two-tenths}
 use Rattle.run.specs.declared.state.WheelCtl.{WheelCtl}

@@ -8,7 +8,8 @@ use native.Mathlib.Numerals.{add-one}
 use lib.ListN.{length, set}
 use lib.Ieee.{Float}
 use Rattle.run.specs.Dynamics.{tyreOf}
-use Rattle.run.specs.Drive.{passOf, ctlAt, motionAt, roadAt}
+use Rattle.run.specs.Pass.{passOf, ctlAt, roadAt}
+use Rattle.run.specs.Arguments.{motionAt}
 use Rattle.run.specs.DriveSteps.{controlOf, wheelPass, wheelsPass}
 use Rattle.run.specs.declared.state.WheelCtl.{WheelCtl}
 use Rattle.run.specs.declared.dynamics.Motion.{Motion}

@@ -4,8 +4,8 @@ use mathlib.Core.Bool.{Bool, not, _&&_, _||_}
 use mathlib.Core.List.{List, [], _++_}
 use Prim.Native.Nat.{ℕ, zero, suc, _*_}
 use lib.ListN.{take, drop}
-use Rattle.run.specs.Below.{anyBelow}
-use Rattle.run.specs.Words.{member, setOf, howMany}
+use Rattle.run.specs.Below.{anyBelow, howMany}
+use Rattle.run.specs.Words.{member, setOf}
 
 -- the words of wheel w among those of the four wheels
 unfoldable pub wheelPart : ℕ → List ℕ → ℕ → List ℕ

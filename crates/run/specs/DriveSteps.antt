@@ -5,7 +5,8 @@ use Prim.Native.Nat.{ℕ, zero, suc}
 use lib.Dec.{ltb}
 use lib.ListN.{set}
 use Rattle.run.specs.Dynamics.{tyreOf}
-use Rattle.run.specs.Drive.{frontOf, rearOf, ctlAt, motionAt, roadAt}
+use Rattle.run.specs.Pass.{frontOf, rearOf, ctlAt, roadAt}
+use Rattle.run.specs.Arguments.{motionAt}
 use Rattle.run.specs.declared.state.WheelCtl.{WheelCtl}
 use Rattle.run.specs.declared.dynamics.Motion.{Motion}
 use Rattle.run.specs.declared.drive.Passed.{Passed}

@@ -7,9 +7,13 @@ use Rattle.course.specs.Arithmetic.{_⊘_, natural}
 use Rattle.course.specs.Constants.{playfield}
 use Rattle.course.specs.Numeric.{absOf}
 
+-- credited / n is strictly above the lap share
+abbrev pub aboveShare : ℕ → ℕ → Float → Bool
+aboveShare credited n share = lt share (natural credited ⊘ natural n)
+
 -- flagged before, or some wheel touches tile 0 that did not at the contact before, and credited / n is strictly above the lap share
 unfoldable pub lapOf : Bool → Bool → ℕ → ℕ → Float → Bool
-lapOf lap entersZero credited n share = lap || (entersZero && lt share (natural credited ⊘ natural n))
+lapOf lap entersZero credited n share = lap || (entersZero && aboveShare credited n share)
 
 -- |x| > P or |y| > P
 unfoldable pub offField : Float → Float → Bool

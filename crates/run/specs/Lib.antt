@@ -1,8 +1,9 @@
+pub mod Below
 pub mod Words
+pub mod Arguments
 pub mod State
 pub mod Overlap
 pub mod Wheel
-pub mod Below
 pub mod Touch
 pub mod TouchSteps
 pub mod Contact
@@ -12,7 +13,11 @@ pub mod Start
 pub mod Settle
 pub mod Grip
 pub mod Dynamics
+pub mod Pass
 pub mod Drive
 pub mod DriveSteps
 pub mod Reward
 pub mod Sheet
+pub mod Answers
+pub mod Scorer
+pub mod Calls

@@ -1,11 +1,12 @@
 -- Document 01, "Settle: contact after physics" and "Refusals by cause": settle 4, 5, 6, 2, 8, 10. For states whose sets have m words and
 -- take n up to `most`. Assumes nothing.
-use mathlib.Core.Bool.{Bool, true, false, cond, not, _&&_, _||_}
+use mathlib.Core.Bool.{Bool, true, false, cond, not, _||_}
 use mathlib.Core.List.{List}
 use Prim.Native.Nat.{ℕ, zero, suc, _+_}
 use lib.Dec.{leb}
 use lib.Ieee.{Float}
-use Rattle.run.specs.State.{State, Columns, inRange, posesOk, shortOf, unfitCore}
+use Rattle.run.specs.State.{State, Columns, shortOf, unfitCore}
+use Rattle.run.specs.Arguments.{placesOk}
 use Rattle.run.specs.Wheel.{quadOf}
 use Rattle.run.specs.Touch.{touchedBy, soundPoses}
 use Rattle.run.specs.Contact.{Contacted, contactOf}
@@ -14,10 +15,6 @@ use Rattle.run.specs.declared.state.Pose.{Pose}
 use Rattle.run.specs.declared.state.Core.{Core}
 use Rattle.run.specs.declared.settle.SettleAnswer.{SettleAnswer}
 use Rattle.run.specs.declared.settle.SettleAnswer.the-variants.{Settled, Refused}
-
--- hull and four wheel poses are in range
-unfoldable pub placesOk : Float → Float → List Pose → Bool
-placesOk x y ps = (inRange x && inRange y) && posesOk ps
 
 -- the first cause that holds, 0 if none does
 unfoldable pub settleCause : ℕ → Core → Columns → Float → Float → List Pose → ℕ

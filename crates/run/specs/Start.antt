@@ -1,18 +1,19 @@
 -- Document 01, "Start: the first contact" and "Refusals by cause": start 1, 2, 8, 10. For states whose sets have m words and take n up to
 -- `most`. Assumes nothing.
-use mathlib.Core.Bool.{Bool, true, false, cond, not, _&&_, _||_}
+use mathlib.Core.Bool.{Bool, true, false, cond, not, _||_}
 use mathlib.Core.List.{List, [], _∷_}
 use Prim.Native.Nat.{ℕ, zero, suc, _*_}
-use lib.Dec.{ltb, leb}
+use lib.Dec.{ltb}
 use lib.ListN.{replicate}
-use lib.Ieee.{Float, le}
-use Rattle.course.specs.Arithmetic.{natural, nought}
-use Rattle.run.specs.State.{State, Columns, posesOk, shortOf}
+use lib.Ieee.{Float}
+use Rattle.course.specs.Arithmetic.{nought}
+use Rattle.run.specs.State.{State, Columns, shortOf}
+use Rattle.run.specs.Arguments.{settingsOk, posesOk}
+use Rattle.run.specs.Pass.{stillWheel}
 use Rattle.run.specs.Wheel.{quadOf}
 use Rattle.run.specs.Touch.{touchedBy, soundPoses}
 use Rattle.run.specs.Contact.{Contacted, contactOf}
 use Rattle.run.specs.Lap.{lapOf}
-use Rattle.run.specs.declared.state.WheelCtl.{WheelCtl}
 use Rattle.run.specs.declared.state.Pose.{Pose}
 use Rattle.run.specs.declared.state.Core.{Core}
 use Rattle.run.specs.declared.start.StartAnswer.{StartAnswer}
@@ -28,10 +29,6 @@ pub record Settings : Type 0 where
 
 -- ---- causes
 
--- 1 does not hold: lap share from 0 to 1, tick limit from 1 to 1,000,000
-unfoldable pub settingsOk : Float → ℕ → Bool
-settingsOk share limit = (le (natural 0) share && le share (natural 1)) && (leb 1 limit && leb limit 1000000)
-
 -- 2: a lent column is short, or n is outside 1 to most
 unfoldable pub startShort : ℕ → Columns → ℕ → Bool
 startShort most l n = shortOf l || (ltb n 1 || ltb most n)
@@ -44,10 +41,6 @@ startCause most l a =
     (cond (not (soundPoses (l .offsets) (l .list) (a .n) (a .poses))) 10 0)))
 
 -- ---- the call
-
--- controls of 0
-unfoldable pub stillWheel : WheelCtl
-stillWheel = record { gas = nought; brake = nought; steer = nought; omega = nought; phase = nought }
 
 -- controls, fuel and tick begin at 0
 unfoldable pub begunCore : ℕ → Bool → Float → ℕ → ℕ → Bool → Core

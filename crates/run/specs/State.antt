@@ -1,14 +1,11 @@
--- Document 01, "Refusals by cause" and "Touch": the state of a run, and the tests of arguments and states that the calls share. Assumes nothing.
-use mathlib.Core.Bool.{Bool, _&&_, _||_}
+-- Document 01, "Refusals by cause" and "Touch": the state of a run, the columns that a call is lent, and the tests of both. Assumes nothing.
+use mathlib.Core.Bool.{Bool, _||_}
 use mathlib.Core.List.{List}
 use Prim.Native.Nat.{ℕ}
 use lib.Dec.{ltb}
-use lib.ListN.{length, getD}
-use lib.Ieee.{Float, nan}
-use Rattle.course.specs.Arithmetic.{natural}
-use Rattle.course.specs.Numeric.{within}
-use Rattle.course.specs.Lengths.{mostNumbers, offsetCount}
-use Rattle.run.specs.declared.state.Pose.{Pose}
+use lib.ListN.{length}
+use lib.Ieee.{Float}
+use Rattle.run.specs.Arguments.{shortColumns}
 use Rattle.run.specs.declared.state.Core.{Core}
 use Rattle.run.specs.declared.state.Run.{Run}
 
@@ -31,24 +28,6 @@ abbrev pub columns : List Float → List ℕ → List ℕ → Columns
 columns ts offs l = record { tiles = ts; offsets = offs; list = l }
 
 -- ---- tests
-
--- 8: finite and within ±1,000,000
-unfoldable pub inRange : Float → Bool
-inRange x = within (natural 1000000) x
-
-unfoldable pub poseOk : Pose → Bool
-poseOk p = ((inRange (p .x) && inRange (p .y)) && inRange (p .cos)) && inRange (p .sin)
-
--- pose number i of the four wheels'
-abbrev pub poseAt : List Pose → ℕ → Pose
-poseAt ps i = getD ps i (record { x = nan; y = nan; cos = nan; sin = nan })
-
-unfoldable pub posesOk : List Pose → Bool
-posesOk ps = ((poseOk (poseAt ps 0) && poseOk (poseAt ps 1)) && poseOk (poseAt ps 2)) && poseOk (poseAt ps 3)
-
--- 2: by the lengths of the lent tiles and offsets; the index list has none
-unfoldable pub shortColumns : ℕ → ℕ → Bool
-shortColumns tiles offsets = ltb tiles mostNumbers || ltb offsets offsetCount
 
 -- the lent columns are short
 unfoldable pub shortOf : Columns → Bool

@@ -6,7 +6,7 @@ use Rattle.course.specs.Arithmetic.{_⊕_, _⊖_, _⊗_, natural, decimal}
 use Rattle.course.specs.Numeric.{leastOf, greatestOf}
 use Rattle.course.specs.Cell.{cellAt}
 use Rattle.course.specs.Tiles.{pair, corner}
-use Rattle.run.specs.State.{poseAt}
+use Rattle.run.specs.Arguments.{poseAt}
 use Rattle.run.specs.declared.state.Pose.{Pose}
 
 -- SIZE

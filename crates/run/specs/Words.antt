@@ -4,6 +4,7 @@ use mathlib.Core.Bool.{Bool, true, false, not, _&&_, _||_, cond}
 use mathlib.Core.List.{List, [], _∷_}
 use Prim.Native.Nat.{ℕ, zero, suc, _+_, _*_, _/_, _%_, _^_}
 use lib.ListN.{getD}
+use Rattle.run.specs.Below.{digit}
 use lib.Dec.{eqb}
 use lib.Count.{ones}
 
@@ -16,10 +17,6 @@ unfoldable pub member : List ℕ → ℕ → Bool
 unfolding bitOf
 member ws t = bitOf (getD ws (t / 64) 0) (t % 64)
 
-abbrev pub digit : Bool → ℕ
-digit true = 1
-digit false = 0
-
 -- the number of k binary digits whose digit i is set where p i holds
 unfoldable pub wordOf : ℕ → (ℕ → Bool) → ℕ
 wordOf zero p = 0
@@ -30,11 +27,6 @@ unfoldable pub setOf : ℕ → (ℕ → Bool) → List ℕ
 unfolding wordOf
 setOf zero p = []
 setOf (suc m) p = wordOf 64 p ∷ setOf m (λ t. p (64 + t))
-
--- how many numbers below n have p
-unfoldable pub howMany : ℕ → (ℕ → Bool) → ℕ
-howMany zero p = 0
-howMany (suc n) p = howMany n p + digit (p n)
 
 -- how many bits of the words are set
 unfoldable pub countOf : List ℕ → ℕ

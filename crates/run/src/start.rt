@@ -2,7 +2,8 @@
 ghost use mathlib.Core.Path.{_≡_};
 ghost use Rattle.run.specs.Widths.{fullWords, mostTiles};
 ghost use Rattle.run.specs.State.{view, columns};
-ghost use Rattle.run.specs.Start.{settingsOk, startCause, begunCore, zeroState, begun, startOf};
+ghost use Rattle.run.specs.Start.{startCause, begunCore, zeroState, begun, startOf};
+ghost use Rattle.run.specs.Arguments.{settingsOk};
 use crate::contact;
 use crate::lap;
 use crate::state;

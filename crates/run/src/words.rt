@@ -5,8 +5,8 @@ ghost use mathlib.Core.Bool.{false, not, _&&_, _||_};
 ghost use Prim.Native.Nat.{_*_, _<_};
 ghost use lib.Dec.{eqb};
 ghost use lib.ListN.{length};
-ghost use Rattle.run.specs.Below.{anyBelow};
-ghost use Rattle.run.specs.Words.{member, setOf, howMany};
+ghost use Rattle.run.specs.Below.{anyBelow, howMany};
+ghost use Rattle.run.specs.Words.{member, setOf};
 
 // Whether the set has a tile.
 pub(crate) fn has(set: &[u64], id: usize) -> bool

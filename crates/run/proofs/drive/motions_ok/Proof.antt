@@ -1,6 +1,6 @@
 -- `run::drive::motions_ok` meets its contract. Assumes nothing.
 use borrow.Author.Needs.{needs}
-use Rattle.run.specs.Drive.{motionsOk}
+use Rattle.run.specs.Arguments.{motionsOk}
 use Rattle.run.proofs.drive.motions_ok.Statement.{statement}
 use Rattle.run.proofs.drive.motions_ok.Tie as tie
 use Rattle.run.proofs.drive.motions_ok.Reads as reads

@@ -7,7 +7,8 @@ use mathlib.Core.Path.{_≡_, ap, _∙_}
 use Rattle.run.specs.declared.drive.Passed.{Passed}
 use Rattle.run.specs.declared.state.WheelCtl.{WheelCtl}
 use Rattle.run.specs.DriveSteps.{wheelsPass}
-use Rattle.run.specs.Drive.{motionAt, roadAt, noForce, noForces}
+use Rattle.run.specs.Pass.{roadAt, noForce, noForces}
+use Rattle.run.specs.Arguments.{motionAt}
 use Rattle.run.specs.Dynamics.{tyreOf}
 use Rattle.run.proofs.PassLaws.{no-steps, one-more, all-four}
 use Rattle.run.proofs.drive.pass.Statement.{statement}

@@ -1,6 +1,7 @@
 -- `run::settle::settle_cause` meets its contract. Assumes nothing.
 use borrow.Author.Tests.{le-leb, lt-leb}
-use Rattle.run.specs.Settle.{settleCause, placesOk}
+use Rattle.run.specs.Settle.{settleCause}
+use Rattle.run.specs.Arguments.{placesOk}
 use Rattle.run.specs.State.{shortOf}
 use lib.ListN.{length}
 use Prim.Native.Nat.{ℕ, _+_, _-_, _*_, _≤_, _<_}

@@ -1,5 +1,6 @@
 -- `run::start::begun_core` meets its contract. Assumes nothing.
-use Rattle.run.specs.Start.{begunCore, stillWheel}
+use Rattle.run.specs.Start.{begunCore}
+use Rattle.run.specs.Pass.{stillWheel}
 use lib.ListN.{length}
 use Prim.Native.Nat.{ℕ, _+_, _-_, _*_, _≤_, _<_}
 use mathlib.Core.List.{List}

@@ -1,7 +1,7 @@
 -- `run::start::settings_ok` meets its contract. Assumes nothing.
 use lib.Ieee.{ofInt, ofBits}
 use Rattle.course.specs.Arithmetic.{natural}
-use Rattle.run.specs.Start.{settingsOk}
+use Rattle.run.specs.Arguments.{settingsOk}
 use lib.ListN.{length}
 use Prim.Native.Nat.{ℕ, _+_, _-_, _*_, _≤_, _<_}
 use mathlib.Core.List.{List}

@@ -1,6 +1,6 @@
 -- `run::state::is_short` meets its contract. Assumes nothing.
 use mathlib.Core.Path.{refl}
-use Rattle.run.specs.State.{shortColumns}
+use Rattle.run.specs.Arguments.{shortColumns}
 use Rattle.run.proofs.state.is_short.Statement.{statement}
 use Rattle.run.proofs.state.is_short.Tie as tie
 use Rattle.run.proofs.state.is_short.Reads as reads

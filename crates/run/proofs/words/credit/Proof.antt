@@ -1,7 +1,8 @@
 -- `run::words::credit` meets its contract. Assumes nothing.
 use Rattle.run.proofs.WordLaws.{Fit, howMany-none}
 use Rattle.run.proofs.CreditLaws.{Credited, New, one-more, all-credited, all-counted, few, ones-few, new-lt}
-use Rattle.run.specs.Words.{member, setOf, howMany}
+use Rattle.run.specs.Words.{member, setOf}
+use Rattle.run.specs.Below.{howMany}
 use lib.ListN.{length, getD, set, length-set}
 use Prim.Native.Nat.{ℕ, _+_, _-_, _*_, _/_, _%_, _^_, _≤_, _<_}
 use mathlib.Core.List.{List}
