@@ -21,3 +21,5 @@ pub mod Sheet
 pub mod Answers
 pub mod Scorer
 pub mod Calls
+pub mod Replay
+pub mod ReplaySteps
