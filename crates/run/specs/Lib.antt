@@ -21,5 +21,6 @@ pub mod Sheet
 pub mod Answers
 pub mod Scorer
 pub mod Calls
+pub mod Certificate
 pub mod Replay
 pub mod ReplaySteps
