@@ -27,7 +27,7 @@ use Rattle.run.specs.declared.settle.SettleAnswer.{SettleAnswer}
 use Rattle.run.specs.declared.settle.SettleAnswer.the-variants.{Settled, Refused as NotSettled}
 
 -- ---- no cause: the last test of a chain, and the tests before it
-cleared : (b : Bool) (k r : ℕ) → cond b (suc k) r ≡ 0 → (b ≡ false) × (r ≡ 0)
+pub cleared : (b : Bool) (k r : ℕ) → cond b (suc k) r ≡ 0 → (b ≡ false) × (r ≡ 0)
 cleared true k r h = absurd (omega (arith, h))
 cleared false k r h = (refl, h)
 
@@ -35,7 +35,7 @@ or-no : (a b : Bool) → (a || b) ≡ false → (a ≡ false) × (b ≡ false)
 or-no true b h = absurd (true≢false h)
 or-no false b h = (refl, h)
 
-yes-of : (b : Bool) → not b ≡ false → b ≡ true
+pub yes-of : (b : Bool) → not b ≡ false → b ≡ true
 yes-of true h = refl
 yes-of false h = absurd (true≢false h)
 

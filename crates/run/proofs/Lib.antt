@@ -11,3 +11,6 @@ pub mod AnyLaws
 pub mod DriveLaws
 pub mod Examples
 pub mod SheetLaws
+pub mod BelowLaws
+pub mod PlainContact
+pub mod Simulation

@@ -1,0 +1,298 @@
+-- The grader's state is a function of the plain scorer's history, and each call keeps it so: what is answered is the scorer's answer.
+-- For any number of words that hold the course's tiles. Assumes nothing.
+use mathlib.Core.Bool.{Bool, true, false, cond, not, _&&_, _||_, and-true, and-false}
+use mathlib.Core.List.{List, [], _∷_, _++_}
+use mathlib.Core.Path.{_≡_, refl, sym, ap, ap₂, _∙_, subst}
+use Prim.Native.Nat.{ℕ, zero, suc, _+_, _*_, _≤_, _<_}
+use native.Mathlib.Nat.{zero-mul, suc-mul, le-trans}
+use native.Mathlib.Omega.{arith}
+use lib.Dec.{ltb, leb, eqb}
+use lib.ListN.{length, replicate, length-replicate, replicate-append-replicate}
+use lib.Ieee.{Float}
+use borrow.Author.Tests.{ltb-true, ltb-false, lt-ltb, le-ltb, lt-leb, leb-false}
+use Rattle.course.specs.declared.tiles.TrackPoint.{TrackPoint}
+use Rattle.run.specs.Below.{anyBelow, everyBelow, howMany}
+use Rattle.run.specs.Arguments.{motionsOk, placesOk}
+use Rattle.run.specs.State.{State, Columns, shortOf, unfitCore}
+use Rattle.run.specs.Words.{setOf}
+use Rattle.run.specs.Wheel.{quadOf}
+use Rattle.run.specs.Touch.{touchedBy, soundPoses}
+use Rattle.run.specs.Contact.{wheelSets, Contacted, contacted, contactOf}
+use Rattle.run.specs.Grip.{onRoad, roadsOf}
+use Rattle.run.specs.Lap.{aboveShare, lapOf, offField, endOf}
+use Rattle.run.specs.Pass.{passOf, stillWheel, noForces}
+use Rattle.run.specs.Start.{Settings, begunCore, Begun, firstContact, startedBy}
+use Rattle.run.specs.Drive.{driveCause, drivenOf, driveAt, coreDriveOf}
+use Rattle.run.specs.Settle.{settleCause, settledCore, settledBy, settleAt, settleOf, Done}
+use Rattle.run.specs.Answers.{Answer}
+use Rattle.run.specs.Answers.Answer.{drove, settled, refused}
+use Rattle.run.specs.Calls.{Call, Replied, driveSaid, settleSaid, replyOf}
+use Rattle.run.specs.Scorer.{Lengths, Opening, Told, History, opening, drives, settles, lastPoses, off, Scored, touch, touches, touched, touchedCount, newTiles, meetsLap, lapDone, over, ended, grip, grips, passed, driveNumber, settleNumber, driveScore, settleScore, score}
+use Rattle.run.specs.Scorer.History.{begun, thenDrive, thenSettle}
+use Rattle.run.specs.Certificate.{lengthsOf}
+use Rattle.run.specs.declared.state.Pose.{Pose}
+use Rattle.run.specs.declared.state.Core.{Core}
+use Rattle.run.specs.declared.dynamics.Motion.{Motion}
+use Rattle.run.specs.declared.start.StartAnswer.the-variants.{Started}
+use Rattle.run.specs.declared.settle.SettleAnswer.the-variants.{Settled}
+use Rattle.run.proofs.Tests.{right-false}
+use Rattle.run.proofs.WordLaws.{getD-zeros, howMany-cong, howMany-or, setOf-cong}
+use Rattle.run.proofs.CreditLaws.{few, empty-words}
+use Rattle.run.proofs.CallLaws.{cleared, yes-of}
+use Rattle.run.proofs.AnyLaws.{any-none}
+use Rattle.run.proofs.BelowLaws.{any-cong, below, all-pass}
+use Rattle.run.proofs.PlainContact.{creditedBy, wheelsBy, on-road, contact-is, sets-cong}
+
+-- ---- no tile: words of 0
+no-tile : (m : ℕ) → replicate m 0 ≡ setOf m (λ t. false)
+no-tile m = empty-words m (replicate m 0) (length-replicate m 0) (λ j _. getD-zeros m j)
+
+no-tiles : (m k : ℕ) → replicate (k * m) 0 ≡ wheelSets m (λ w t. false) k
+unfolding wheelSets
+no-tiles m zero = ap (λ (x : ℕ). replicate x 0) (zero-mul m)
+no-tiles m (suc k) =
+    ap (λ (x : ℕ). replicate x 0) (suc-mul k m)
+    ∙ sym (replicate-append-replicate (k * m) m 0)
+    ∙ ap₂ _++_ (no-tiles m k) (no-tile m)
+
+-- ---- chains of causes
+cond-else : (b : Bool) (k x y : ℕ) → (b ≡ false → x ≡ y) → cond b k x ≡ cond b k y
+cond-else true k x y h = refl
+cond-else false k x y h = h refl
+
+cond-skip : (b : Bool) (k x : ℕ) → b ≡ false → cond b k x ≡ x
+cond-skip b k x h = rw h
+
+-- ---- on a course of the points c, whose tiles the sets hold
+module _ (m most : ℕ) (c : List TrackPoint) (room : most ≤ 64 * m) (some : 0 < length c) (fits : length c ≤ most) where
+  pub held : length c ≤ 64 * m
+  held = le-trans fits room
+
+  -- the lent columns hold the course: look-up and lent tiles say what the rectangles and the course's tiles say, and nothing in the index is out of place
+  pub record Holds (l : Columns) : Type 0 where
+    pub same : (ps : List Pose) (w t : ℕ) → touchedBy (l .tiles) (l .offsets) (l .list) (quadOf ps w) t ≡ below (length c) (touch c ps w) t
+    pub sound : (ps : List Pose) → soundPoses (l .offsets) (l .list) (length c) ps ≡ true
+
+  -- drives and settles of the history alternate, within the tick limit
+  pub record Valid (h : History) : Type 0 where
+    pub ahead : settles h ≤ drives h
+    pub close : drives h ≤ settles h + 1
+    pub time : settles h < drives h → settles h < opening h .limit
+
+  abbrev pub coreOf : Bool → History → Core
+  coreOf fb h = record {
+    n = length c;
+    «visited_count» = touchedCount c h;
+    tick = settles h;
+    «tick_limit» = opening h .limit;
+    «lap_share» = opening h .share;
+    lap = lapDone c h;
+    ended = ended c h;
+    fallback = fb;
+    driven = ltb (settles h) (drives h);
+    ctl = passed c h .ctl;
+    «fuel_spent» = passed c h .«fuel_spent»;
+  }
+
+  -- the state that the accepted calls lead to
+  abbrev pub stateOf : Bool → History → State
+  stateOf fb h =
+      record { core = coreOf fb h; credited = creditedBy m (length c) held (touched c h); wheels = wheelsBy m (length c) held (touch c (lastPoses h)) }
+
+  abbrev pub withState : Bool → Scored → Replied
+  withState fb s = record { answer = s .answer; state = stateOf fb (s .kept) }
+
+  -- tiles of the last contact are touched
+  last-touched : (h : History) (t : ℕ) → touched c h t ≡ false → anyBelow 4 (λ w. touch c (lastPoses h) w t) ≡ false
+  unfolding touched touches lastPoses
+  last-touched (begun b) t e = e
+  last-touched (thenDrive h a ms) t e = last-touched h t e
+  last-touched (thenSettle h x y ps) t e = right-false (touched c h t) (touches c ps t) e
+
+  -- ---- contacts
+  settle-contact : (h : History) (l : Columns) (x y : Float) (ps : List Pose) → Holds l
+      → contactOf m (creditedBy m (length c) held (touched c h)) (wheelsBy m (length c) held (touch c (lastPoses h))) (λ w. touchedBy (l .tiles) (l .offsets) (l .list) (quadOf ps w))
+      ≡ contacted (creditedBy m (length c) held (touched c (thenSettle h x y ps))) (wheelsBy m (length c) held (touch c ps)) (newTiles c h ps)
+      (anyBelow 4 (λ w. touch c ps w 0 && not (touch c (lastPoses h) w 0)))
+  unfolding touched touches newTiles
+  settle-contact h l x y ps w =
+      contact-is m (length c) held (touched c h) (touch c (lastPoses h)) (λ v. touchedBy (l .tiles) (l .offsets) (l .list) (quadOf ps v)) (touch c ps)
+      some (last-touched h) (w .same ps)
+
+  first-contact : (l : Columns) (b : Opening) → Holds l
+      → firstContact m l (b .poses)
+      ≡ contacted (creditedBy m (length c) held (touched c (begun b))) (wheelsBy m (length c) held (touch c (b .poses))) (touchedCount c (begun b))
+      (anyBelow 4 (λ w. touch c (b .poses) w 0 && not false))
+  unfolding firstContact touched touches touchedCount
+  first-contact l b w =
+      ap₂ (λ (x y : List ℕ). contactOf m x y (λ v. touchedBy (l .tiles) (l .offsets) (l .list) (quadOf (b .poses) v))) none nones
+      ∙ contact-is m (length c) held (λ t. false) (λ v t. false) (λ v. touchedBy (l .tiles) (l .offsets) (l .list) (quadOf (b .poses) v)) (touch c (b .poses))
+      some (λ t _. nobody) (w .same (b .poses))
+      ∙ ap (λ (k : ℕ). contacted (creditedBy m (length c) held (touches c (b .poses))) (wheelsBy m (length c) held (touch c (b .poses))) k
+      (anyBelow 4 (λ v. touch c (b .poses) v 0 && not false))) all
+    where
+      none : replicate m 0 ≡ creditedBy m (length c) held (λ t. false)
+      none = no-tile m ∙ setOf-cong m (λ t. false) (below (length c) (λ t. false)) (λ t _. sym (and-false (ltb t (length c))))
+
+      nones : replicate (4 * m) 0 ≡ wheelsBy m (length c) held (λ v t. false)
+      nones = no-tiles m 4 ∙ sets-cong m (λ v t. false) (λ v. below (length c) (λ t. false)) 4 (λ v t _. sym (and-false (ltb t (length c))))
+
+      nobody : anyBelow 4 (λ v. false) ≡ false
+      nobody = any-none 4 (λ v. false) (λ v _. refl)
+
+      all : howMany (length c) (λ t. anyBelow 4 (λ v. touch c (b .poses) v t) && not false) ≡ howMany (length c) (touches c (b .poses))
+      all = howMany-cong (length c) (λ t. anyBelow 4 (λ v. touch c (b .poses) v t) && not false) (touches c (b .poses)) (λ t _. and-true (touches c (b .poses) t))
+
+  -- ---- start
+  pub started : (l : Columns) (b : Opening) (fb : Bool) → Holds l
+      → startedBy (record { n = length c; fallback = fb; share = b .share; limit = b .limit; poses = b .poses }) (firstContact m l (b .poses))
+      ≡ record { answer = Started (touchedCount c (begun b)) (lapDone c (begun b)); state = stateOf fb (begun b) }
+  unfolding startedBy begunCore lapOf lapDone meetsLap opening settles drives lastPoses ended passed
+  started l b fb w =
+      ap (startedBy (record { n = length c; fallback = fb; share = b .share; limit = b .limit; poses = b .poses })) (first-contact l b w)
+
+  -- ---- drive
+  roads-are : (h : History) → roadsOf m (wheelsBy m (length c) held (touch c (lastPoses h))) ≡ grips c h
+  unfolding roadsOf grips grip
+  roads-are h = λ i. at 0 (omega arith) i ∷ at 1 (omega arith) i ∷ at 2 (omega arith) i ∷ at 3 (omega arith) i ∷ []
+    where
+      at : (w : ℕ) → w < 4 → onRoad m (wheelsBy m (length c) held (touch c (lastPoses h))) w ≡ anyBelow (length c) (touch c (lastPoses h) w)
+      at w l = on-road m (length c) held (touch c (lastPoses h)) w l
+
+  fit-core : (fb : Bool) (h : History) → unfitCore most (coreOf fb h) ≡ false
+  unfolding unfitCore touchedCount
+  fit-core fb h =
+      rw (le-ltb (length c) 1 some, le-ltb most (length c) fits, le-ltb (length c) (howMany (length c) (touched c h)) (few (length c) (touched c h)))
+
+  drive-number : (fb : Bool) (h : History) (a : ℕ) (ms : List Motion) → driveCause most (coreOf fb h) a ms ≡ driveNumber c h a ms
+  unfolding driveCause driveNumber
+  drive-number fb h a ms = rw (fit-core fb h)
+
+  drive-at : (fb : Bool) (h : History) → Valid h → (a : ℕ) (ms : List Motion) (roads : List Bool) (k : ℕ) → roads ≡ grips c h
+      → record {
+        answer = driveSaid (driveAt k (coreOf fb h) (passOf (passed c h .ctl) a ms roads (passed c h .«fuel_spent»)) .answer) (driveAt k (coreOf fb h) (passOf (passed c h .ctl) a ms roads (passed c h .«fuel_spent»)) .forces);
+        state = record { core = driveAt k (coreOf fb h) (passOf (passed c h .ctl) a ms roads (passed c h .«fuel_spent»)) .core; credited = creditedBy m (length c) held (touched c h); wheels = wheelsBy m (length c) held (touch c (lastPoses h)) };
+      } ≡ withState fb (driveScore c k h a ms)
+  unfolding driveAt driveScore drivenOf touched lastPoses touchedCount lapDone ended over off opening settles drives passed
+  drive-at fb h v a ms roads zero e = λ i. record {
+    answer = drove (passOf (passed c h .ctl) a ms (e i) (passed c h .«fuel_spent») .forces);
+    state = record {
+      core = record {
+        n = length c;
+        «visited_count» = touchedCount c h;
+        tick = settles h;
+        «tick_limit» = opening h .limit;
+        «lap_share» = opening h .share;
+        lap = lapDone c h;
+        ended = ended c h;
+        fallback = fb;
+        driven = sym (lt-ltb (settles h) (drives h + 1) (next (v .ahead))) i;
+        ctl = passOf (passed c h .ctl) a ms (e i) (passed c h .«fuel_spent») .ctl;
+        «fuel_spent» = passOf (passed c h .ctl) a ms (e i) (passed c h .«fuel_spent») .«fuel_spent»;
+      };
+      credited = creditedBy m (length c) held (touched c h);
+      wheels = wheelsBy m (length c) held (touch c (lastPoses h));
+    };
+  }
+    where
+      next : {a b : ℕ} → a ≤ b → a < b + 1
+      next l = omega arith
+  drive-at fb h v a ms roads (suc k) e = refl
+
+  -- ---- settle
+  settle-number : (fb : Bool) (h : History) → Valid h → (l : Columns) (x y : Float) (ps : List Pose) → (shortOf l ≡ false → Holds l)
+      → settleCause most (coreOf fb h) l x y ps ≡ settleNumber c h (lengthsOf l) x y ps
+  unfolding settleCause settleNumber shortOf lengthsOf
+  settle-number fb h v l x y ps w =
+      rw (fit-core fb h)
+      (cond-else (ended c h) 4 _ _ (λ e₁.
+      cond-else (not (ltb (settles h) (drives h))) 5 _ _ (λ e₂.
+      cond-skip (leb (opening h .limit) (settles h)) 6 _ (lt-leb (opening h .limit) (settles h) (v .time (ltb-true _ _ (yes-of _ e₂))))
+      ∙ cond-else (shortOf l) 2 _ _ (λ e₃.
+      cond-else (not (placesOk x y ps)) 8 _ _ (λ e₄. cond-skip (not (soundPoses (l .offsets) (l .list) (length c) ps)) 10 0 (ap not (w e₃ .sound ps)))))))
+
+  count-is : (h : History) (x y : Float) (ps : List Pose) → touchedCount c h + newTiles c h ps ≡ touchedCount c (thenSettle h x y ps)
+  unfolding touchedCount newTiles touched
+  count-is h x y ps = sym (howMany-or (length c) (touched c h) (touches c ps))
+
+  end-is : (h : History) (x y : Float) (ps : List Pose)
+      → endOf (touchedCount c (thenSettle h x y ps)) (length c) (lapDone c (thenSettle h x y ps)) (offField x y) ≡ ended c (thenSettle h x y ps)
+  unfolding endOf ended over off settles touchedCount
+  end-is h x y ps =
+      rw (lt-ltb 0 (settles h + 1) (omega arith))
+      (ap (λ (b : Bool). b || (lapDone c (thenSettle h x y ps) || offField x y)) (all-pass (length c) (touched c (thenSettle h x y ps))))
+
+  settled-core : (fb : Bool) (h : History) → Valid h → (x y : Float) (ps : List Pose)
+      → settledCore (coreOf fb h) (newTiles c h ps) (anyBelow 4 (λ w. touch c ps w 0 && not (touch c (lastPoses h) w 0))) (offField x y) ≡ coreOf fb (thenSettle h x y ps)
+  unfolding settledCore lapOf opening settles drives lapDone meetsLap passed
+  settled-core fb h v x y ps =
+      (λ i. at (count-is h x y ps i) (lapAt (count-is h x y ps i)) (endOf (count-is h x y ps i) (length c) (lapAt (count-is h x y ps i)) (offField x y)) (sym (le-ltb (settles h + 1) (drives h) (v .close)) i))
+      ∙ ap (λ (e : Bool). at (touchedCount c (thenSettle h x y ps)) (lapDone c (thenSettle h x y ps)) e (ltb (settles h + 1) (drives h))) (end-is h x y ps)
+    where
+      -- the lap where so many tiles are credited
+      lapAt : ℕ → Bool
+      lapAt count = lapDone c h || (anyBelow 4 (λ w. touch c ps w 0 && not (touch c (lastPoses h) w 0)) && aboveShare count (length c) (opening h .share))
+
+      at : ℕ → Bool → Bool → Bool → Core
+      at count lap e driven = record {
+        n = length c;
+        «visited_count» = count;
+        tick = settles h + 1;
+        «tick_limit» = opening h .limit;
+        «lap_share» = opening h .share;
+        lap = lap;
+        ended = e;
+        fallback = fb;
+        driven = driven;
+        ctl = passed c h .ctl;
+        «fuel_spent» = passed c h .«fuel_spent»;
+      }
+
+  settled-by : (fb : Bool) (h : History) → Valid h → (x y : Float) (ps : List Pose)
+      → record {
+        answer = settleSaid (settledBy (stateOf fb h) (offField x y) (contacted (creditedBy m (length c) held (touched c (thenSettle h x y ps))) (wheelsBy m (length c) held (touch c ps)) (newTiles c h ps) (anyBelow 4 (λ w. touch c ps w 0 && not (touch c (lastPoses h) w 0)))) .answer);
+        state = settledBy (stateOf fb h) (offField x y) (contacted (creditedBy m (length c) held (touched c (thenSettle h x y ps))) (wheelsBy m (length c) held (touch c ps)) (newTiles c h ps) (anyBelow 4 (λ w. touch c ps w 0 && not (touch c (lastPoses h) w 0)))) .state;
+      } ≡ withState fb (settleScore c zero h x y ps)
+  unfolding settledBy settleScore off lastPoses
+  settled-by fb h v x y ps =
+      ap (λ (s : Core). record {
+        answer = settled (newTiles c h ps) (length c) (offField x y) (s .lap) (s .ended);
+        state = record { core = s; credited = creditedBy m (length c) held (touched c (thenSettle h x y ps)); wheels = wheelsBy m (length c) held (touch c ps) };
+      }) (settled-core fb h v x y ps)
+
+  settle-at : (fb : Bool) (h : History) → Valid h → (l : Columns) (x y : Float) (ps : List Pose) (k : ℕ) → (k ≡ 0 → Holds l)
+      → record { answer = settleSaid (settleAt m k (stateOf fb h) l x y ps .answer); state = settleAt m k (stateOf fb h) l x y ps .state } ≡ withState fb (settleScore c k h x y ps)
+  unfolding settleAt settleScore
+  settle-at fb h v l x y ps zero w =
+      ap (λ (g : Contacted). record { answer = settleSaid (settledBy (stateOf fb h) (offField x y) g .answer); state = settledBy (stateOf fb h) (offField x y) g .state }) (settle-contact h l x y ps (w refl))
+      ∙ settled-by fb h v x y ps
+  settle-at fb h v l x y ps (suc k) w = refl
+
+  -- an accepted settle was lent columns that are long enough
+  long-enough : (h : History) (l : Columns) (x y : Float) (ps : List Pose) → settleNumber c h (lengthsOf l) x y ps ≡ 0 → shortOf l ≡ false
+  unfolding settleNumber lengthsOf shortOf
+  long-enough h l x y ps e = cleared (shortOf l) 1 _ (cleared (not (ltb (settles h) (drives h))) 4 _ (cleared (ended c h) 3 _ e .1) .1) .0
+
+  -- ---- one call
+  -- the call as the plain scorer is told of it
+  abbrev pub toldBy : Call → Told
+  toldBy (Call.drive a ms) = Told.drive a ms
+  toldBy (Call.settle l x y ps) = Told.settle (lengthsOf l) x y ps
+
+  -- a settle is lent the course, or too short a column
+  abbrev pub Lent : Call → Type 0
+  Lent (Call.drive a ms) = Unit
+  Lent (Call.settle l x y ps) = shortOf l ≡ false → Holds l
+
+  pub reply-is : (fb : Bool) (h : History) → Valid h → (g : Call) → Lent g → replyOf m most (stateOf fb h) g ≡ withState fb (score c h (toldBy g))
+  unfolding replyOf score coreDriveOf settleOf
+  reply-is fb h v (Call.drive a ms) w =
+      ap (λ (k : ℕ). said k) (drive-number fb h a ms) ∙ drive-at fb h v a ms (roadsOf m (wheelsBy m (length c) held (touch c (lastPoses h)))) (driveNumber c h a ms) (roads-are h)
+    where
+      said : ℕ → Replied
+      said k =
+          let d = driveAt k (coreOf fb h) (passOf (passed c h .ctl) a ms (roadsOf m (wheelsBy m (length c) held (touch c (lastPoses h)))) (passed c h .«fuel_spent»)) in
+          record { answer = driveSaid (d .answer) (d .forces); state = record { core = d .core; credited = creditedBy m (length c) held (touched c h); wheels = wheelsBy m (length c) held (touch c (lastPoses h)) } }
+  reply-is fb h v (Call.settle l x y ps) w =
+      ap (λ (k : ℕ). record { answer = settleSaid (settleAt m k (stateOf fb h) l x y ps .answer); state = settleAt m k (stateOf fb h) l x y ps .state }) (settle-number fb h v l x y ps w)
+      ∙ settle-at fb h v l x y ps (settleNumber c h (lengthsOf l) x y ps) (λ e. w (long-enough h l x y ps e))
