@@ -13,4 +13,5 @@ pub mod Examples
 pub mod SheetLaws
 pub mod BelowLaws
 pub mod PlainContact
+pub mod ScoreLaws
 pub mod Simulation

@@ -40,6 +40,7 @@ use Rattle.run.proofs.WordLaws.{getD-zeros, howMany-cong, howMany-or, s
 use Rattle.run.proofs.CreditLaws.{few, empty-words}
 use Rattle.run.proofs.CallLaws.{cleared, yes-of}
 use Rattle.run.proofs.AnyLaws.{any-none}
+use Rattle.run.proofs.ScoreLaws.{InTurn}
 use Rattle.run.proofs.BelowLaws.{any-cong, below, all-pass}
 use Rattle.run.proofs.PlainContact.{creditedBy, wheelsBy, on-road, contact-is, sets-cong}
 
@@ -72,12 +73,6 @@ module _ (m most : ℕ) (c : List TrackPoint) (room : most ≤ 64 * m) (some : 0
   pub record Holds (l : Columns) : Type 0 where
     pub same : (ps : List Pose) (w t : ℕ) → touchedBy (l .tiles) (l .offsets) (l .list) (quadOf ps w) t ≡ below (length c) (touch c ps w) t
     pub sound : (ps : List Pose) → soundPoses (l .offsets) (l .list) (length c) ps ≡ true
-
-  -- drives and settles of the history alternate, within the tick limit
-  pub record Valid (h : History) : Type 0 where
-    pub ahead : settles h ≤ drives h
-    pub close : drives h ≤ settles h + 1
-    pub time : settles h < drives h → settles h < opening h .limit
 
   abbrev pub coreOf : Bool → History → Core
   coreOf fb h = record {
@@ -168,7 +163,7 @@ module _ (m most : ℕ) (c : List TrackPoint) (room : most ≤ 64 * m) (some : 0
   unfolding driveCause driveNumber
   drive-number fb h a ms = rw (fit-core fb h)
 
-  drive-at : (fb : Bool) (h : History) → Valid h → (a : ℕ) (ms : List Motion) (roads : List Bool) (k : ℕ) → roads ≡ grips c h
+  drive-at : (fb : Bool) (h : History) → InTurn h → (a : ℕ) (ms : List Motion) (roads : List Bool) (k : ℕ) → roads ≡ grips c h
       → record {
         answer = driveSaid (driveAt k (coreOf fb h) (passOf (passed c h .ctl) a ms roads (passed c h .«fuel_spent»)) .answer) (driveAt k (coreOf fb h) (passOf (passed c h .ctl) a ms roads (passed c h .«fuel_spent»)) .forces);
         state = record { core = driveAt k (coreOf fb h) (passOf (passed c h .ctl) a ms roads (passed c h .«fuel_spent»)) .core; credited = creditedBy m (length c) held (touched c h); wheels = wheelsBy m (length c) held (touch c (lastPoses h)) };
@@ -200,7 +195,7 @@ module _ (m most : ℕ) (c : List TrackPoint) (room : most ≤ 64 * m) (some : 0
   drive-at fb h v a ms roads (suc k) e = refl
 
   -- ---- settle
-  settle-number : (fb : Bool) (h : History) → Valid h → (l : Columns) (x y : Float) (ps : List Pose) → (shortOf l ≡ false → Holds l)
+  settle-number : (fb : Bool) (h : History) → InTurn h → (l : Columns) (x y : Float) (ps : List Pose) → (shortOf l ≡ false → Holds l)
       → settleCause most (coreOf fb h) l x y ps ≡ settleNumber c h (lengthsOf l) x y ps
   unfolding settleCause settleNumber shortOf lengthsOf
   settle-number fb h v l x y ps w =
@@ -222,7 +217,7 @@ module _ (m most : ℕ) (c : List TrackPoint) (room : most ≤ 64 * m) (some : 0
       rw (lt-ltb 0 (settles h + 1) (omega arith))
       (ap (λ (b : Bool). b || (lapDone c (thenSettle h x y ps) || offField x y)) (all-pass (length c) (touched c (thenSettle h x y ps))))
 
-  settled-core : (fb : Bool) (h : History) → Valid h → (x y : Float) (ps : List Pose)
+  settled-core : (fb : Bool) (h : History) → InTurn h → (x y : Float) (ps : List Pose)
       → settledCore (coreOf fb h) (newTiles c h ps) (anyBelow 4 (λ w. touch c ps w 0 && not (touch c (lastPoses h) w 0))) (offField x y) ≡ coreOf fb (thenSettle h x y ps)
   unfolding settledCore lapOf opening settles drives lapDone meetsLap passed
   settled-core fb h v x y ps =
@@ -248,7 +243,7 @@ module _ (m most : ℕ) (c : List TrackPoint) (room : most ≤ 64 * m) (some : 0
         «fuel_spent» = passed c h .«fuel_spent»;
       }
 
-  settled-by : (fb : Bool) (h : History) → Valid h → (x y : Float) (ps : List Pose)
+  settled-by : (fb : Bool) (h : History) → InTurn h → (x y : Float) (ps : List Pose)
       → record {
         answer = settleSaid (settledBy (stateOf fb h) (offField x y) (contacted (creditedBy m (length c) held (touched c (thenSettle h x y ps))) (wheelsBy m (length c) held (touch c ps)) (newTiles c h ps) (anyBelow 4 (λ w. touch c ps w 0 && not (touch c (lastPoses h) w 0)))) .answer);
         state = settledBy (stateOf fb h) (offField x y) (contacted (creditedBy m (length c) held (touched c (thenSettle h x y ps))) (wheelsBy m (length c) held (touch c ps)) (newTiles c h ps) (anyBelow 4 (λ w. touch c ps w 0 && not (touch c (lastPoses h) w 0)))) .state;
@@ -260,7 +255,7 @@ module _ (m most : ℕ) (c : List TrackPoint) (room : most ≤ 64 * m) (some : 0
         state = record { core = s; credited = creditedBy m (length c) held (touched c (thenSettle h x y ps)); wheels = wheelsBy m (length c) held (touch c ps) };
       }) (settled-core fb h v x y ps)
 
-  settle-at : (fb : Bool) (h : History) → Valid h → (l : Columns) (x y : Float) (ps : List Pose) (k : ℕ) → (k ≡ 0 → Holds l)
+  settle-at : (fb : Bool) (h : History) → InTurn h → (l : Columns) (x y : Float) (ps : List Pose) (k : ℕ) → (k ≡ 0 → Holds l)
       → record { answer = settleSaid (settleAt m k (stateOf fb h) l x y ps .answer); state = settleAt m k (stateOf fb h) l x y ps .state } ≡ withState fb (settleScore c k h x y ps)
   unfolding settleAt settleScore
   settle-at fb h v l x y ps zero w =
@@ -284,7 +279,7 @@ module _ (m most : ℕ) (c : List TrackPoint) (room : most ≤ 64 * m) (some : 0
   Lent (Call.drive a ms) = Unit
   Lent (Call.settle l x y ps) = shortOf l ≡ false → Holds l
 
-  pub reply-is : (fb : Bool) (h : History) → Valid h → (g : Call) → Lent g → replyOf m most (stateOf fb h) g ≡ withState fb (score c h (toldBy g))
+  pub reply-is : (fb : Bool) (h : History) → InTurn h → (g : Call) → Lent g → replyOf m most (stateOf fb h) g ≡ withState fb (score c h (toldBy g))
   unfolding replyOf score coreDriveOf settleOf
   reply-is fb h v (Call.drive a ms) w =
       ap (λ (k : ℕ). said k) (drive-number fb h a ms) ∙ drive-at fb h v a ms (roadsOf m (wheelsBy m (length c) held (touch c (lastPoses h)))) (driveNumber c h a ms) (roads-are h)
