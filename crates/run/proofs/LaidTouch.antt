@@ -2,7 +2,7 @@
 use mathlib.Core.Bool.{Bool, true, false, _&&_, _||_, and-assoc, and-false, and-true, or-assoc, or-false, and-or-distrib-left}
 use mathlib.Core.List.{List, [], _∷_, _++_, append-assoc}
 use mathlib.Core.Path.{_≡_, refl, sym, ap, ap₂, _∙_}
-use Prim.Native.Nat.{ℕ, zero, suc, _+_, _*_, _≤_, _<_}
+use Prim.Native.Nat.{ℕ, zero, suc, _+_, _*_, _<_}
 use native.Mathlib.Omega.{arith}
 use native.Mathlib.Decide.{decLt, ℕ-discrete}
 use lib.Dec.{eqb, ltb}
@@ -29,6 +29,7 @@ use Rattle.run.specs.declared.state.Pose.{Pose}
 
 -- ---- what a cell lists: the ids below n whose rectangle holds it
 
+-- one member more at the end
 some-end : (p : ℕ → Bool) (xs : List ℕ) (x : ℕ) → someOf p (xs ++ (x ∷ [])) ≡ (someOf p xs || p x)
 unfolding someOf
 some-end p [] x = or-false (p x)
@@ -75,6 +76,7 @@ every-listed h n k = every-of (λ t. ltb t n) (listed h n k) (λ i l. lt-ltb (ge
 
 -- ---- the four cells of a quad's box
 
+-- the number of a point's cell is one of the grid's
 cell-small : (x y : Float) → cellAt x y < cellCount
 unfolding cellAt
 cell-small x y = omega (arith, cell-high x, cell-high y)
@@ -101,6 +103,7 @@ unfolding someOf
 some-factor b f [] = sym (and-false b)
 some-factor b f (x ∷ xs) = ap (λ (r : Bool). (b && f x) || r) (some-factor b f xs) ∙ sym (and-or-distrib-left b (f x) (someOf f xs))
 
+-- a test that every number passes
 every-below : (n : ℕ) (p : ℕ → Bool) → ((i : ℕ) → p i ≡ true) → everyBelow n p ≡ true
 unfolding everyBelow
 every-below zero p f = refl
@@ -108,7 +111,7 @@ every-below (suc n) p f = ap₂ _&&_ (every-below n p f) (f n)
 
 -- ---- the tiles of a course, whatever stands beyond them
 
--- a quad as the column's numbers give it
+-- quads of equal numbers are equal
 quad-same : {a b c d e f g h a′ b′ c′ d′ e′ f′ g′ h′ : Float} → a ≡ a′ → b ≡ b′ → c ≡ c′ → d ≡ d′ → e ≡ e′ → f ≡ f′ → g ≡ g′ → h ≡ h′
     → _≡_ {A = List (List Float)} (pair a b ∷ pair c d ∷ pair e f ∷ pair g h ∷ []) (pair a′ b′ ∷ pair c′ d′ ∷ pair e′ f′ ∷ pair g′ h′ ∷ [])
 quad-same pa pb pc pd pe pf pg ph = λ i. pair (pa i) (pb i) ∷ pair (pc i) (pd i) ∷ pair (pe i) (pf i) ∷ pair (pg i) (ph i) ∷ []
@@ -136,7 +139,7 @@ module _ (c : List TrackPoint) where
         | no e ↦ number-at k t j (eight (tileAt c k) ++ ts) (omega (arith, l, e)) m
       ]
 
-  -- tile t is the one of the points
+  -- the column's tile t is the tile that the points give
   tile-laid : (ts : List Float) (t : ℕ) → t < length c → tileOf (tilesOf c ++ ts) t ≡ tileAt c t
   unfolding tileOf tileAt tileQuad eight
   tile-laid ts t l =
@@ -155,6 +158,7 @@ module _ (c : List TrackPoint) (ts : List Float) (offs l : List ℕ) where
   unfolding fromPoints
   lookup-listed k b = laid (holdsOf (tilesOf c)) (length c) cellCount k offs l b
 
+  -- the offsets of a cell neither fall nor pass the list
   part-sound : (k : ℕ) → k < cellCount → partOk (fromPoints c .offsets ++ offs) (fromPoints c .list ++ l) k ≡ true
   unfolding fromPoints
   part-sound k b = part-ok (holdsOf (tilesOf c)) (length c) cellCount k offs l b
@@ -181,7 +185,7 @@ module _ (c : List TrackPoint) (ts : List Float) (offs l : List ℕ) where
           ≡ (ltb t (length c) && (someOf (holdsOf (tilesOf c) t) (boxCells (quadOf ps w)) && overlapOf (quadOf ps w) (tileAt c t)))
       own = elim (decLt t (length c)) [ yes b ↦ rw (tile-laid c ts t b) | no b ↦ rw (le-ltb t (length c) (omega (arith, b))) ]
 
-  -- no look-up of four poses is a cause 10
+  -- every cell of the grid is sound: its offsets are in order and its ids below n
   sound-cell : (k : ℕ) → k < cellCount → soundCell (fromPoints c .offsets ++ offs) (fromPoints c .list ++ l) (length c) k ≡ true
   unfolding soundCell
   sound-cell k b = ap₂ _&&_ (part-sound k b) (ap (everyOf (λ t. ltb t (length c))) (lookup-listed k b) ∙ every-listed (holdsOf (tilesOf c)) (length c) k)
@@ -190,6 +194,7 @@ module _ (c : List TrackPoint) (ts : List Float) (offs l : List ℕ) where
   unfolding soundQuad
   sound-quad q = every-box (soundCell (fromPoints c .offsets ++ offs) (fromPoints c .list ++ l) (length c)) q sound-cell
 
+  -- no look-up of four poses is a cause 10
   pub sound-laid : (ps : List Pose) → soundPoses (fromPoints c .offsets ++ offs) (fromPoints c .list ++ l) (length c) ps ≡ true
   unfolding soundPoses
   sound-laid ps = every-below 4 (λ w. soundQuad (fromPoints c .offsets ++ offs) (fromPoints c .list ++ l) (length c) (quadOf ps w)) (λ w. sound-quad (quadOf ps w))

@@ -12,3 +12,4 @@ pub mod DriveLaws
 pub mod Examples
 pub mod SheetLaws
 pub mod LaidTouch
+pub mod LentColumns
