@@ -15,3 +15,5 @@ pub mod BelowLaws
 pub mod PlainContact
 pub mod ScoreLaws
 pub mod Simulation
+pub mod LaidTouch
+pub mod LentColumns
