@@ -31,7 +31,7 @@ pub cleared : (b : Bool) (k r : ℕ) → cond b (suc k) r ≡ 0 → (b ≡ false
 cleared true k r h = absurd (omega (arith, h))
 cleared false k r h = (refl, h)
 
-or-no : (a b : Bool) → (a || b) ≡ false → (a ≡ false) × (b ≡ false)
+pub or-no : (a b : Bool) → (a || b) ≡ false → (a ≡ false) × (b ≡ false)
 or-no true b h = absurd (true≢false h)
 or-no false b h = (refl, h)
 

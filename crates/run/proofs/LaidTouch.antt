@@ -26,14 +26,9 @@ use Rattle.run.specs.Wheel.{quadOf, boxCells, leastX, leastY, greatestX,
 use Rattle.run.specs.Touch.{tileOf, lists, listedBy, touchedBy, soundCell, soundQuad, soundPoses}
 use Rattle.run.specs.Scorer.{touch}
 use Rattle.run.specs.declared.state.Pose.{Pose}
+use Rattle.run.proofs.TouchLaws.{some-end}
 
 -- ---- what a cell lists: the ids below n whose rectangle holds it
-
--- one member more at the end
-some-end : (p : ℕ → Bool) (xs : List ℕ) (x : ℕ) → someOf p (xs ++ (x ∷ [])) ≡ (someOf p xs || p x)
-unfolding someOf
-some-end p [] x = or-false (p x)
-some-end p (y ∷ xs) x = ap (λ (b : Bool). p y || b) (some-end p xs x) ∙ sym (or-assoc (p y) (someOf p xs) (p x))
 
 -- an id that is added under a test
 some-added : (p : ℕ → Bool) (b : Bool) (x : ℕ) (xs : List ℕ) → someOf p (addIf b x xs) ≡ (someOf p xs || (b && p x))

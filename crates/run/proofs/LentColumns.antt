@@ -15,7 +15,7 @@ use Rattle.course.specs.Tiles.{noPoint, tilesOf}
 use Rattle.course.specs.Rect.{holdsOf}
 use Rattle.course.specs.Index.{start}
 use Rattle.course.specs.Course.{fromPoints, cellsOf}
-use Rattle.course.specs.Lent.{Lent, Outcome, outcome, roomyOf, filled, written, answered, layInto, laidCauseOf, laidCountOf, lengthOf}
+use Rattle.course.specs.Lent.{Lent, Outcome, outcome, filled, written, answered, layInto, laidCauseOf, laidCountOf, lengthOf}
 use Rattle.course.specs.declared.tiles.TrackPoint.{TrackPoint}
 use Rattle.course.specs.declared.points.Laid.the-variants.{Course as Made}
 use Rattle.course.proofs.CourseTiles.{tiles-long}
@@ -62,10 +62,9 @@ front m own past offs e = ap (λ (z : List ℕ). z ++ offs) (take-at own past m 
 same-columns : {ts ts′ : List Float} {o o′ l l′ : List ℕ} → ts ≡ ts′ → o ≡ o′ → l ≡ l′ → columns ts o l ≡ columns ts′ o′ l′
 same-columns p q r = λ i. columns (p i) (q i) (r i)
 
-module _ (fallback : Bool) (c : List TrackPoint) (l : Lent) (room : roomyOf (l .alpha) (l .beta) (l .x) (l .y) (l .tiles) (l .offsets) ≡ true)
-    (fits : ltb (length (l .list)) (cellsOf c) ≡ false) (few : length c ≤ mostPoints) where
+module _ (fallback : Bool) (c : List TrackPoint) (l : Lent) (fits : ltb (length (l .list)) (cellsOf c) ≡ false) (few : length c ≤ mostPoints) where
   -- the list is long enough: all is written, and the answer is the course
-  laid-whole : layInto fallback c l ≡ outcome (Made (length c) fallback (cellsOf c) (getD c 0 noPoint)) (written false (fromPoints c) l)
+  pub laid-whole : layInto fallback c l ≡ outcome (Made (length c) fallback (cellsOf c) (getD c 0 noPoint)) (written false (fromPoints c) l)
   unfolding layInto answered
   laid-whole = ap (λ (s : Bool). outcome (answered s fallback c) (written s (fromPoints c) l)) fits
 

@@ -17,3 +17,4 @@ pub mod ScoreLaws
 pub mod Simulation
 pub mod LaidTouch
 pub mod LentColumns
+pub mod Certificate

@@ -57,11 +57,11 @@ no-tiles m (suc k) =
     ∙ ap₂ _++_ (no-tiles m k) (no-tile m)
 
 -- ---- chains of causes
-cond-else : (b : Bool) (k x y : ℕ) → (b ≡ false → x ≡ y) → cond b k x ≡ cond b k y
+pub cond-else : (b : Bool) (k x y : ℕ) → (b ≡ false → x ≡ y) → cond b k x ≡ cond b k y
 cond-else true k x y h = refl
 cond-else false k x y h = h refl
 
-cond-skip : (b : Bool) (k x : ℕ) → b ≡ false → cond b k x ≡ x
+pub cond-skip : (b : Bool) (k x : ℕ) → b ≡ false → cond b k x ≡ x
 cond-skip b k x h = rw h
 
 -- ---- on a course of the points c, whose tiles the sets hold

@@ -38,7 +38,7 @@ and-assoc : (a b c : Bool) → (a && (b && c)) ≡ ((a && b) && c)
 and-assoc true b c = refl
 and-assoc false b c = refl
 
-some-end : (p : ℕ → Bool) (xs : List ℕ) (x : ℕ) → someOf p (xs ++ (x ∷ [])) ≡ (someOf p xs || p x)
+pub some-end : (p : ℕ → Bool) (xs : List ℕ) (x : ℕ) → someOf p (xs ++ (x ∷ [])) ≡ (someOf p xs || p x)
 unfolding someOf
 some-end p [] x = or-false (p x)
 some-end p (y ∷ xs) x = ap (λ (b : Bool). p y || b) (some-end p xs x) ∙ or-assoc (p y) (someOf p xs) (p x)

@@ -1,0 +1,212 @@
+-- Demand 3: the certificate's proof, over the whole list of calls. Assumes nothing.
+use mathlib.Core.Bool.{Bool, true, false, cond, not, _&&_, _||_, true≢false}
+use mathlib.Core.List.{List, [], _∷_, _++_, map}
+use mathlib.Core.Path.{_≡_, refl, sym, ap, ap₂, _∙_, subst}
+use Prim.Native.Nat.{ℕ, zero, suc, _+_, _-_, _*_, _≤_, _<_}
+use native.Mathlib.Nat.{le-trans}
+use native.Mathlib.Omega.{arith}
+use lib.Dec.{ltb}
+use lib.ListN.{length, replicate, getD}
+use lib.Ieee.{Float}
+use Rattle.course.specs.Arithmetic.{nought}
+use Rattle.course.specs.Constants.{maxAttempts}
+use Rattle.course.specs.Lengths.{mostPoints, mostNumbers}
+use Rattle.course.specs.Tiles.{tilesOf, noPoint}
+use Rattle.course.specs.Course.{fromPoints, cellsOf}
+use Rattle.course.specs.Lent as course
+use Rattle.course.specs.Lent.{Outcome, outcome, roomyOf, written, answered, layInto, laidCauseOf, laidCountOf}
+use Rattle.course.specs.Lay.{courseOf, layCall}
+use Rattle.course.specs.declared.tiles.TrackPoint.{TrackPoint}
+use Rattle.course.proofs.CourseSizes.{Sized, course-sized}
+use Rattle.course.proofs.LayLaws.{roomy, lay-cause, lay-course}
+use Rattle.run.specs.Widths.{fullWords, mostTiles}
+use Rattle.run.specs.Arguments.{settingsOk, shortColumns, posesOk}
+use Rattle.run.specs.State.{State, Columns, columns, shortOf, unfitCore}
+use Rattle.run.specs.Touch.{soundPoses}
+use Rattle.run.specs.Start.{Settings, startShort, startCause, begunCore, zeroState, Begun, firstContact, startedBy, startAt, startOf, startCauseOf, startCountOf}
+use Rattle.run.specs.Drive.{driveCause, driveAt, coreDriveOf}
+use Rattle.run.specs.Settle.{settleCause, settleAt, settleOf}
+use Rattle.run.specs.Answers.{Answer}
+use Rattle.run.specs.Answers.Answer.{drove, settled, refused}
+use Rattle.run.specs.Calls.{Call, Replied, replyOf, repliesOf, afterOf}
+use Rattle.run.specs.Scorer.{Lengths, Opening, Told, History, opening, drives, settles, touchedCount, lapDone, over, ended, startNumber, score, scores, keptOf}
+use Rattle.run.specs.Scorer.History.{begun}
+use Rattle.run.specs.Certificate.{Lending, lentBy, lengthsOf, Given, callOf, toldOf, callsOf, toldsOf, newSum, endedBy, allOccur, Graded, startOn, Demand3, layNumber, Certificate}
+use Rattle.run.specs.Certificate.Lending.{laid, short}
+use Rattle.run.specs.declared.state.Pose.{Pose}
+use Rattle.run.specs.declared.start.StartAnswer.the-variants.{Started}
+use Rattle.run.proofs.CallLaws.{cleared, or-no}
+use Rattle.run.proofs.ScoreLaws.{InTurn, kept-turn, sum-is, end-is, ended-over, all-occur}
+use Rattle.run.proofs.Simulation.{Holds, stateOf, coreOf, withState, cond-else, cond-skip, started, toldBy, Lent, reply-is}
+use Rattle.run.proofs.LaidTouch.{touched-laid, sound-laid}
+use Rattle.run.proofs.LentColumns.{laid-whole, lent-laid, count}
+
+-- ---- after a refused start: the state of zeros refuses every call by 4 and stays
+zeros-refuse : (m most : ℕ) (g : Call) → replyOf m most (zeroState m) g ≡ record { answer = refused 4; state = zeroState m }
+unfolding replyOf zeroState begunCore coreDriveOf driveCause driveAt settleOf settleCause settleAt unfitCore
+zeros-refuse m most (Call.drive a ms) = refl
+zeros-refuse m most (Call.settle l x y ps) = refl
+
+-- ---- a course c that laying left in o: its n is answered, and what is lent of it, where no column is short, holds it
+module _ (m most : ℕ) (c : List TrackPoint) (room : most ≤ 64 * m) (some : 0 < length c) (fits : length c ≤ most) (o : Outcome)
+    (counted : laidCountOf (o .answer) ≡ length c) (holds : (by : Lending) → shortOf (lentBy o by) ≡ false → Holds m most c room some fits (lentBy o by)) where
+  stay-refused : (cs : List Given) → repliesOf m most (zeroState m) (callsOf o cs) ≡ map (λ (g : Given). refused 4) cs
+  unfolding repliesOf
+  stay-refused [] = refl
+  stay-refused (g ∷ cs) =
+      ap (λ (r : Replied). r .answer ∷ repliesOf m most (r .state) (callsOf o cs)) (zeros-refuse m most (callOf o g))
+      ∙ ap (λ (r : List Answer). refused 4 ∷ r) (stay-refused cs)
+
+  -- ---- each call of the list
+  told-same : (g : Given) → toldBy m most c room some fits (callOf o g) ≡ toldOf o g
+  unfolding callOf toldOf
+  told-same (Given.drive a ms) = refl
+  told-same (Given.settle by x y ps) = refl
+
+  lent-right : (g : Given) → Lent m most c room some fits (callOf o g)
+  unfolding callOf
+  lent-right (Given.drive a ms) = tt
+  lent-right (Given.settle by x y ps) = holds by
+
+  one-reply : (fb : Bool) (h : History) → InTurn h → (g : Given) → replyOf m most (stateOf m most c room some fits fb h) (callOf o g) ≡ withState m most c room some fits fb (score c h (toldOf o g))
+  one-reply fb h v g =
+      reply-is m most c room some fits fb h v (callOf o g) (lent-right g)
+      ∙ ap (λ (t : Told). withState m most c room some fits fb (score c h t)) (told-same g)
+
+  replies-are : (fb : Bool) (cs : List Given) (h : History) → InTurn h → repliesOf m most (stateOf m most c room some fits fb h) (callsOf o cs) ≡ scores c h (toldsOf o cs)
+  unfolding repliesOf scores
+  replies-are fb [] h v = refl
+  replies-are fb (g ∷ cs) h v =
+      ap (λ (r : Replied). r .answer ∷ repliesOf m most (r .state) (callsOf o cs)) (one-reply fb h v g)
+      ∙ ap (λ (r : List Answer). score c h (toldOf o g) .answer ∷ r) (replies-are fb cs (score c h (toldOf o g) .kept) (kept-turn c h v (toldOf o g)))
+
+  pub after-is : (fb : Bool) (cs : List Given) (h : History) → InTurn h → afterOf m most (stateOf m most c room some fits fb h) (callsOf o cs) ≡ stateOf m most c room some fits fb (keptOf c h (toldsOf o cs))
+  unfolding afterOf keptOf
+  after-is fb [] h v = refl
+  after-is fb (g ∷ cs) h v =
+      ap (λ (r : Replied). afterOf m most (r .state) (callsOf o cs)) (one-reply fb h v g)
+      ∙ after-is fb cs (score c h (toldOf o g) .kept) (kept-turn c h v (toldOf o g))
+
+  none-ended : (b : Opening) (r : List Answer) → endedBy false r ≡ endedBy (ended c (begun b)) r
+  unfolding ended settles
+  none-ended b r = refl
+
+  -- ---- the start
+  begins : (b : Opening) → InTurn (begun b)
+  unfolding settles drives opening
+  begins b = record { ahead = omega arith; close = omega arith; time = λ l. absurd (omega arith) }
+
+  module _ (by : Lending) (fb : Bool) (b : Opening) where
+    abbrev at : ℕ → Settings
+    at n = record { n = n; fallback = fb; share = b .share; limit = b .limit; poses = b .poses }
+
+    start-number : startCause most (lentBy o by) (at (length c)) ≡ startNumber c most (lengthsOf (lentBy o by)) b
+    unfolding startCause startNumber startShort shortOf lengthsOf
+    start-number =
+        cond-else (not (settingsOk (b .share) (b .limit))) 1 _ _ (λ e₁.
+        cond-else (shortOf (lentBy o by) || (ltb (length c) 1 || ltb most (length c))) 2 _ _ (λ e₂.
+        cond-else (not (posesOk (b .poses))) 8 _ _ (λ e₃.
+        cond-skip (not (soundPoses (lentBy o by .offsets) (lentBy o by .list) (length c) (b .poses))) 10 0
+        (ap not (holds by (or-no (shortOf (lentBy o by)) (ltb (length c) 1 || ltb most (length c)) e₂ .0) .sound (b .poses))))))
+
+    cause-at : (k : ℕ) (l : Columns) (a : Settings) → startCauseOf (startAt m k l a .answer) ≡ k
+    unfolding startAt startedBy startCauseOf
+    cause-at zero l a = refl
+    cause-at (suc k) l a = refl
+
+    start-same : startOn m most o by fb b ≡ startAt m (startNumber c most (lengthsOf (lentBy o by)) b) (lentBy o by) (at (length c))
+    unfolding startOf
+    start-same =
+        ap (λ (n : ℕ). startAt m (startCause most (lentBy o by) (at n)) (lentBy o by) (at n)) counted
+        ∙ ap (λ (k : ℕ). startAt m k (lentBy o by) (at (length c))) start-number
+
+    lent-long : startNumber c most (lengthsOf (lentBy o by)) b ≡ 0 → shortOf (lentBy o by) ≡ false
+    unfolding startNumber lengthsOf shortOf
+    lent-long e =
+        or-no (shortOf (lentBy o by)) (ltb (length c) 1 || ltb most (length c))
+        (cleared (shortOf (lentBy o by) || (ltb (length c) 1 || ltb most (length c))) 1 _ (cleared (not (settingsOk (b .share) (b .limit))) 0 _ e .1) .0) .0
+
+    abbrev first : Begun
+    first = record { answer = Started (touchedCount c (begun b)) (lapDone c (begun b)); state = stateOf m most c room some fits fb (begun b) }
+
+    pub start-accepted : startNumber c most (lengthsOf (lentBy o by)) b ≡ 0 → startOn m most o by fb b ≡ first
+    unfolding startAt
+    start-accepted e =
+        start-same ∙ ap (λ (k : ℕ). startAt m k (lentBy o by) (at (length c))) e
+        ∙ started m most c room some fits (lentBy o by) b fb (holds by (lent-long e))
+
+    zeros-at : (k : ℕ) (l : Columns) (a : Settings) → (k ≡ 0 → ⊥) → startAt m k l a .state ≡ zeroState m
+    unfolding startAt
+    zeros-at zero l a n = absurd (n refl)
+    zeros-at (suc k) l a n = refl
+
+    -- ---- the list after it
+    graded : (cs : List Given) → Graded m most c o first b cs
+    unfolding startCountOf
+    graded cs =
+        let same = replies-are fb cs (begun b) (begins b) in
+        let last = after-is fb cs (begun b) (begins b) in
+        record {
+          start = refl;
+          answers = same;
+          counts = ap (λ (r : List Answer). touchedCount c (begun b) + newSum r) same ∙ sum-is c (toldsOf o cs) (begun b);
+          ends = λ l. ap (endedBy false) same ∙ none-ended b (scores c (begun b) (toldsOf o cs)) ∙ end-is c (toldsOf o cs) (begun b) ∙ ended-over c (keptOf c (begun b) (toldsOf o cs)) l;
+          occur = ap (allOccur cs) same ∙ all-occur c o cs (begun b);
+          state-count = ap (λ (s : State). s .core .«visited_count») last;
+          state-tick = ap (λ (s : State). s .core .tick) last;
+          state-lap = ap (λ (s : State). s .core .lap) last;
+          state-ended = ap (λ (s : State). s .core .ended) last;
+        }
+
+    pub demand3-on : (cs : List Given) → Demand3 m most c o by fb b cs
+    demand3-on cs =
+        record {
+          starts = ap (λ (s : Begun). startCauseOf (s .answer)) start-same ∙ cause-at (startNumber c most (lengthsOf (lentBy o by)) b) (lentBy o by) (at (length c));
+          runs = λ e. subst (λ (s : Begun). Graded m most c o s b cs) (sym (start-accepted e)) (graded cs);
+          stays = λ n.
+              ap (λ (s : Begun). repliesOf m most (s .state) (callsOf o cs)) start-same
+              ∙ ap (λ (s : State). repliesOf m most s (callsOf o cs)) (zeros-at (startNumber c most (lengthsOf (lentBy o by)) b) (lentBy o by) (at (length c)) n)
+              ∙ stay-refused cs;
+        }
+
+-- ---- a list of points that was laid in full, into any columns: by lay, by points
+module _ (m most : ℕ) (c : List TrackPoint) (room : most ≤ 64 * m) (some : 0 < length c) (fits : length c ≤ most) (small : most ≤ mostPoints)
+    (fallback : Bool) (l : course.Lent) (whole : ltb (length (l .list)) (cellsOf c) ≡ false) where
+  few : length c ≤ mostPoints
+  few = le-trans fits small
+
+  lent-holds : (by : Lending) → shortOf (lentBy (layInto fallback c l) by) ≡ false → Holds m most c room some fits (lentBy (layInto fallback c l) by)
+  unfolding lentBy
+  lent-holds (laid ts offs l′) e =
+      subst (λ (k : Columns). Holds m most c room some fits k) (sym (lent-laid fallback c l whole few ts offs l′))
+      (record {
+        same = touched-laid c (replicate (mostNumbers - length (tilesOf c)) nought ++ ts) offs l′;
+        sound = sound-laid c (replicate (mostNumbers - length (tilesOf c)) nought ++ ts) offs l′;
+      })
+  lent-holds (short k is) e = absurd (true≢false (sym is ∙ e))
+
+  pub laid-demand3 : (by : Lending) (fb : Bool) (b : Opening) (cs : List Given) → Demand3 m most c (layInto fallback c l) by fb b cs
+  laid-demand3 by fb b cs = demand3-on m most c room some fits (layInto fallback c l) (count fallback c l whole few) lent-holds by fb b cs
+
+-- ---- a seed's course
+no-cause : (r s : Bool) → _≡_ {A = ℕ} (cond r (cond s 3 0) 2) 0 → (r ≡ true) × (s ≡ false)
+no-cause true true e = absurd (omega (arith, e))
+no-cause true false e = (refl, refl)
+no-cause false s e = absurd (omega (arith, e))
+
+pub certificate : (seed : ℕ) (l : course.Lent) (by : Lending) (fallback : Bool) (b : Opening) (cs : List Given) → Certificate seed l by fallback b cs
+unfolding layNumber courseOf
+certificate seed l by fallback b cs =
+    record {
+      lays = lay-cause maxAttempts seed l;
+      course = λ e.
+          let q = no-cause (roomy l) (ltb (length (l .list)) (cellsOf (courseOf seed .points))) e in
+          lay-course seed l (q .0) ∙ laid-whole (courseOf seed .fallback) (courseOf seed .points) l (q .1) few;
+      run = λ e.
+          let q = no-cause (roomy l) (ltb (length (l .list)) (cellsOf (courseOf seed .points))) e in
+          subst (λ (o : Outcome). Demand3 fullWords mostTiles (courseOf seed .points) o by fallback b cs) (sym (lay-course seed l (q .0)))
+          (laid-demand3 fullWords mostTiles (courseOf seed .points) (omega arith) (course-sized seed .some) few (omega arith) (courseOf seed .fallback) l (q .1) by fallback b cs);
+    }
+  where
+    few : length (courseOf seed .points) ≤ 2500
+    few = omega (arith, course-sized seed .few)
