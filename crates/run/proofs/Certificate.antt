@@ -6,7 +6,7 @@ use Prim.Native.Nat.{ℕ, zero, suc, _+_, _-_, _*_, _≤_, _<_}
 use native.Mathlib.Nat.{le-trans}
 use native.Mathlib.Omega.{arith}
 use lib.Dec.{ltb}
-use lib.ListN.{length, replicate, getD}
+use lib.ListN.{length, replicate, length-map}
 use lib.Ieee.{Float}
 use Rattle.course.specs.Arithmetic.{nought}
 use Rattle.course.specs.Constants.{maxAttempts}
@@ -47,16 +47,21 @@ unfolding replyOf zeroState begunCore coreDriveOf driveCause driveAt settleOf se
 zeros-refuse m most (Call.drive a ms) = refl
 zeros-refuse m most (Call.settle l x y ps) = refl
 
+pub zeros-stay : (m most : ℕ) (gs : List Call) → repliesOf m most (zeroState m) gs ≡ replicate (length gs) (refused 4)
+unfolding repliesOf
+zeros-stay m most [] = refl
+zeros-stay m most (g ∷ gs) =
+    ap (λ (r : Replied). r .answer ∷ repliesOf m most (r .state) gs) (zeros-refuse m most g)
+    ∙ ap (λ (r : List Answer). refused 4 ∷ r) (zeros-stay m most gs)
+
+pub zeros-after : (m most : ℕ) (gs : List Call) → afterOf m most (zeroState m) gs ≡ zeroState m
+unfolding afterOf
+zeros-after m most [] = refl
+zeros-after m most (g ∷ gs) = ap (λ (r : Replied). afterOf m most (r .state) gs) (zeros-refuse m most g) ∙ zeros-after m most gs
+
 -- ---- a course c that laying left in o: its n is answered, and what is lent of it, where no column is short, holds it
 module _ (m most : ℕ) (c : List TrackPoint) (room : most ≤ 64 * m) (some : 0 < length c) (fits : length c ≤ most) (o : Outcome)
     (counted : laidCountOf (o .answer) ≡ length c) (holds : (by : Lending) → shortOf (lentBy o by) ≡ false → Holds m most c room some fits (lentBy o by)) where
-  stay-refused : (cs : List Given) → repliesOf m most (zeroState m) (callsOf o cs) ≡ map (λ (g : Given). refused 4) cs
-  unfolding repliesOf
-  stay-refused [] = refl
-  stay-refused (g ∷ cs) =
-      ap (λ (r : Replied). r .answer ∷ repliesOf m most (r .state) (callsOf o cs)) (zeros-refuse m most (callOf o g))
-      ∙ ap (λ (r : List Answer). refused 4 ∷ r) (stay-refused cs)
-
   -- ---- each call of the list
   told-same : (g : Given) → toldBy m most c room some fits (callOf o g) ≡ toldOf o g
   unfolding callOf toldOf
@@ -166,7 +171,7 @@ module _ (m most : ℕ) (c : List TrackPoint) (room : most ≤ 64 * m) (some : 0
           stays = λ n.
               ap (λ (s : Begun). repliesOf m most (s .state) (callsOf o cs)) start-same
               ∙ ap (λ (s : State). repliesOf m most s (callsOf o cs)) (zeros-at (startNumber c most (lengthsOf (lentBy o by)) b) (lentBy o by) (at (length c)) n)
-              ∙ stay-refused cs;
+              ∙ zeros-stay m most (callsOf o cs) ∙ ap (λ (k : ℕ). replicate k (refused 4)) (length-map cs (callOf o));
         }
 
 -- ---- a list of points that was laid in full, into any columns: by lay, by points

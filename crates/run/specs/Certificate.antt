@@ -6,7 +6,7 @@ use mathlib.Core.Bool.{Bool, true, false, cond, not, _&&_}
 use mathlib.Core.List.{List, [], _∷_, _++_, map}
 use Prim.Native.Nat.{ℕ, _+_, _<_}
 use lib.Dec.{eqb, ltb}
-use lib.ListN.{length, getD, take}
+use lib.ListN.{length, getD, take, replicate}
 use lib.Ieee.{Float}
 use Rattle.course.specs.Lengths.{mostNumbers, offsetCount}
 use Rattle.course.specs.Constants.{maxAttempts}
@@ -125,7 +125,7 @@ pub record Demand3 (m most : ℕ) (c : List TrackPoint) (o : Outcome) (by : Lend
   -- an accepted start and any list of calls after it
   pub runs : startNumber c most (lengthsOf (lentBy o by)) b ≡ 0 → Graded m most c o (startOn m most o by fallback b) b cs
   -- after a refused start every call is refused by 4
-  pub stays : (startNumber c most (lengthsOf (lentBy o by)) b ≡ 0 → ⊥) → repliesOf m most (startOn m most o by fallback b .state) (callsOf o cs) ≡ map (λ (g : Given). refused 4) cs
+  pub stays : (startNumber c most (lengthsOf (lentBy o by)) b ≡ 0 → ⊥) → repliesOf m most (startOn m most o by fallback b .state) (callsOf o cs) ≡ replicate (length cs) (refused 4)
 
 -- lay's cause: 2 where a lent column is short, else 3 where the index list is, else none
 unfoldable pub layNumber : ℕ → Lent → ℕ

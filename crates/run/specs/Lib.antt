@@ -24,3 +24,4 @@ pub mod Calls
 pub mod Certificate
 pub mod Replay
 pub mod ReplaySteps
+pub mod Batch
