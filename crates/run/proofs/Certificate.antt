@@ -78,7 +78,7 @@ module _ (m most : ℕ) (c : List TrackPoint) (room : most ≤ 64 * m) (some : 0
       reply-is m most c room some fits fb h v (callOf o g) (lent-right g)
       ∙ ap (λ (t : Told). withState m most c room some fits fb (score c h t)) (told-same g)
 
-  replies-are : (fb : Bool) (cs : List Given) (h : History) → InTurn h → repliesOf m most (stateOf m most c room some fits fb h) (callsOf o cs) ≡ scores c h (toldsOf o cs)
+  pub replies-are : (fb : Bool) (cs : List Given) (h : History) → InTurn h → repliesOf m most (stateOf m most c room some fits fb h) (callsOf o cs) ≡ scores c h (toldsOf o cs)
   unfolding repliesOf scores
   replies-are fb [] h v = refl
   replies-are fb (g ∷ cs) h v =
@@ -97,7 +97,7 @@ module _ (m most : ℕ) (c : List TrackPoint) (room : most ≤ 64 * m) (some : 0
   none-ended b r = refl
 
   -- ---- the start
-  begins : (b : Opening) → InTurn (begun b)
+  pub begins : (b : Opening) → InTurn (begun b)
   unfolding settles drives opening
   begins b = record { ahead = omega arith; close = omega arith; time = λ l. absurd (omega arith) }
 
@@ -119,7 +119,7 @@ module _ (m most : ℕ) (c : List TrackPoint) (room : most ≤ 64 * m) (some : 0
     cause-at zero l a = refl
     cause-at (suc k) l a = refl
 
-    start-same : startOn m most o by fb b ≡ startAt m (startNumber c most (lengthsOf (lentBy o by)) b) (lentBy o by) (at (length c))
+    pub start-same : startOn m most o by fb b ≡ startAt m (startNumber c most (lengthsOf (lentBy o by)) b) (lentBy o by) (at (length c))
     unfolding startOf
     start-same =
         ap (λ (n : ℕ). startAt m (startCause most (lentBy o by) (at n)) (lentBy o by) (at n)) counted
@@ -177,10 +177,10 @@ module _ (m most : ℕ) (c : List TrackPoint) (room : most ≤ 64 * m) (some : 0
 -- ---- a list of points that was laid in full, into any columns: by lay, by points
 module _ (m most : ℕ) (c : List TrackPoint) (room : most ≤ 64 * m) (some : 0 < length c) (fits : length c ≤ most) (small : most ≤ mostPoints)
     (fallback : Bool) (l : course.Lent) (whole : ltb (length (l .list)) (cellsOf c) ≡ false) where
-  few : length c ≤ mostPoints
+  pub few : length c ≤ mostPoints
   few = le-trans fits small
 
-  lent-holds : (by : Lending) → shortOf (lentBy (layInto fallback c l) by) ≡ false → Holds m most c room some fits (lentBy (layInto fallback c l) by)
+  pub lent-holds : (by : Lending) → shortOf (lentBy (layInto fallback c l) by) ≡ false → Holds m most c room some fits (lentBy (layInto fallback c l) by)
   unfolding lentBy
   lent-holds (laid ts offs l′) e =
       subst (λ (k : Columns). Holds m most c room some fits k) (sym (lent-laid fallback c l whole few ts offs l′))
@@ -194,7 +194,7 @@ module _ (m most : ℕ) (c : List TrackPoint) (room : most ≤ 64 * m) (some : 0
   laid-demand3 by fb b cs = demand3-on m most c room some fits (layInto fallback c l) (count fallback c l whole few) lent-holds by fb b cs
 
 -- ---- a seed's course
-no-cause : (r s : Bool) → _≡_ {A = ℕ} (cond r (cond s 3 0) 2) 0 → (r ≡ true) × (s ≡ false)
+pub no-cause : (r s : Bool) → _≡_ {A = ℕ} (cond r (cond s 3 0) 2) 0 → (r ≡ true) × (s ≡ false)
 no-cause true true e = absurd (omega (arith, e))
 no-cause true false e = (refl, refl)
 no-cause false s e = absurd (omega (arith, e))

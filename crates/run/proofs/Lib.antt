@@ -18,3 +18,4 @@ pub mod Simulation
 pub mod LaidTouch
 pub mod LentColumns
 pub mod Certificate
+pub mod BatchLaws

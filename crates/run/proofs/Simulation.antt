@@ -154,7 +154,7 @@ module _ (m most : ℕ) (c : List TrackPoint) (room : most ≤ 64 * m) (some : 0
       at : (w : ℕ) → w < 4 → onRoad m (wheelsBy m (length c) held (touch c (lastPoses h))) w ≡ anyBelow (length c) (touch c (lastPoses h) w)
       at w l = on-road m (length c) held (touch c (lastPoses h)) w l
 
-  fit-core : (fb : Bool) (h : History) → unfitCore most (coreOf fb h) ≡ false
+  pub fit-core : (fb : Bool) (h : History) → unfitCore most (coreOf fb h) ≡ false
   unfolding unfitCore touchedCount
   fit-core fb h =
       rw (le-ltb (length c) 1 some, le-ltb most (length c) fits, le-ltb (length c) (howMany (length c) (touched c h)) (few (length c) (touched c h)))

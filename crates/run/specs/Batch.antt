@@ -40,13 +40,13 @@ toldsTo k ws ns (suc n) = toldsTo k ws ns n ++ (toldFrom k (partAt callWords ws 
 
 -- ---- the plain scorer's answers to a start and the calls after it, by the number of start's cause: after a refused start every call is refused by 4
 
-unfoldable pub startAt : ℕ → List TrackPoint → Opening → StartAnswer
-startAt zero c b = Started (touchedCount c (begun b)) (lapDone c (begun b))
-startAt (suc k) c b = NotStarted (suc k)
+unfoldable pub plainStart : ℕ → List TrackPoint → Opening → StartAnswer
+plainStart zero c b = Started (touchedCount c (begun b)) (lapDone c (begun b))
+plainStart (suc k) c b = NotStarted (suc k)
 
-unfoldable pub answersAt : ℕ → List TrackPoint → Opening → List Told → List Answer
-answersAt zero c b ts = scores c (begun b) ts
-answersAt (suc k) c b ts = replicate (length ts) (refused 4)
+unfoldable pub plainAnswers : ℕ → List TrackPoint → Opening → List Told → List Answer
+plainAnswers zero c b ts = scores c (begun b) ts
+plainAnswers (suc k) c b ts = replicate (length ts) (refused 4)
 
 -- the sheet of the calls kept; the state of zeros has none
 unfoldable pub sheetOn : List TrackPoint → Bool → History → SheetAnswer
@@ -61,16 +61,16 @@ sheetOn c fallback h =
       share = shareOf (touchedCount c h) (length c);
     })
 
-unfoldable pub sheetAt : ℕ → CoursePoints → Opening → List Told → SheetAnswer
-sheetAt zero c b ts = sheetOn (c .points) (c .fallback) (keptOf (c .points) (begun b) ts)
-sheetAt (suc k) c b ts = NoSheet 4
+unfoldable pub plainSheet : ℕ → CoursePoints → Opening → List Told → SheetAnswer
+plainSheet zero c b ts = sheetOn (c .points) (c .fallback) (keptOf (c .points) (begun b) ts)
+plainSheet (suc k) c b ts = NoSheet 4
 
 -- ---- the call
 
 -- the course that lay leaves, by the number of its cause: the seed's, or none, on which every start is refused
-unfoldable pub courseAt : ℕ → ℕ → CoursePoints
-courseAt zero seed = courseOf seed
-courseAt (suc k) seed = record { points = []; fallback = false }
+unfoldable pub laidCourse : ℕ → ℕ → CoursePoints
+laidCourse zero seed = courseOf seed
+laidCourse (suc k) seed = record { points = []; fallback = false }
 
 -- what a replay leaves: the answers of lay and start, the sheet after the last call, the lent columns, and every answer in words and numbers
 pub record Replay : Type 0 where
@@ -86,11 +86,11 @@ unfoldable pub replayOn : Lent → ℕ → CoursePoints → ℕ → Opening → 
 replayOn l seed c k b n ts words numbers =
     record {
       laid = layCall maxAttempts seed l .answer;
-      start = startAt k (c .points) b;
-      sheet = sheetAt k c b ts;
+      start = plainStart k (c .points) b;
+      sheet = plainSheet k c b ts;
       lent = layCall maxAttempts seed l .lent;
-      words = allWords (answersAt k (c .points) b ts) ++ drop (answerWords * n) words;
-      numbers = allNumbers (answersAt k (c .points) b ts) ++ drop (answerNumbers * n) numbers;
+      words = allWords (plainAnswers k (c .points) b ts) ++ drop (answerWords * n) words;
+      numbers = allNumbers (plainAnswers k (c .points) b ts) ++ drop (answerNumbers * n) numbers;
     }
 
 -- the columns of calls and answers have n calls' lengths
@@ -103,7 +103,7 @@ roomFor n calls given words numbers =
 unfoldable pub replayOf : ℕ → Lent → Opening → ℕ → List ℕ → List Float → List ℕ → List Float → Replay
 replayOf seed l b n calls given words numbers =
     let k : Lengths = record { tiles = length (l .tiles); offsets = length (l .offsets) } in
-    let c = courseAt (layNumber seed l) seed in
+    let c = laidCourse (layNumber seed l) seed in
     cond (roomFor n calls given words numbers)
     (replayOn l seed c (startNumber (c .points) mostTiles k b) b n (toldsTo k calls given n) words numbers)
     (record { laid = NotLaid 2; start = NotStarted 2; sheet = NoSheet 4; lent = l; words = words; numbers = numbers })
