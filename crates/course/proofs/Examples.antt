@@ -7,6 +7,8 @@ use Rattle.course.specs.Arithmetic.{_⊖_, natural}
 use Rattle.course.specs.Constants.{playfield, scale, gridCell}
 use Rattle.course.specs.Cell.{along, cellOf, count}
 use Rattle.course.specs.Root.{sqrtOf}
+-- examples 1 and 2, passed on
+pub use Rattle.rng.proofs.Examples.{marked as draws}
 
 pub record Marked : Type 0 where
   pub cell-nan : cellOf nan ≡ 0

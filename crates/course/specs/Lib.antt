@@ -1,3 +1,4 @@
+pub mod Draws
 pub mod Arithmetic
 pub mod Constants
 pub mod Numeric

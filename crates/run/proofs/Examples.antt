@@ -1,4 +1,4 @@
--- Marked examples 4, 5, 6, 7, 9 and 10 of document 01: overlap, lap, reward, gas and the braking rule. Assumes nothing.
+-- The ten marked examples of document 01, proved as one theorem, `marked`; those of random numbers, cells and roots in the crates below. Assumes nothing.
 use mathlib.Core.Path.{_≡_, refl, sym, ap, ap₂, _∙_}
 use mathlib.Core.Bool.{Bool, true, false}
 use mathlib.Core.List.{List, [], _∷_}
@@ -7,37 +7,35 @@ use lib.Ieee.{Float, binary64, ofBits, ofInt, round, add, sub, mul, div, neg, lt
 use Rattle.course.specs.Arithmetic.{_⊖_, natural, decimal}
 use Rattle.course.specs.Constants.{f64Max, f64Min}
 use Rattle.course.specs.Numeric.{absOf, minOf, maxOf, leastOf, greatestOf, clampOf, signumOf}
+use Rattle.course.proofs.Examples as course
 use Rattle.run.specs.Overlap.{leastOn, greatestOn, apartOn, apartAlong, apartByEdges, overlapOf}
 use Rattle.run.specs.Lap.{lapOf}
 use Rattle.run.specs.Dynamics.{brakedOf, tyreOf}
 use Rattle.run.specs.Pass.{indicator, gasOf, raisedOf, rearOf, ctlAt, passOf}
 use Rattle.run.specs.Reward.{atLeastOne, rewardOf, defaultWeights}
+use Rattle.run.specs.Examples.{rectangle, RearGas, Marked}
 use Rattle.run.proofs.Literals.{zero-bits, tenth, two-tenths}
 use Rattle.run.specs.declared.state.WheelCtl.{WheelCtl}
 use Rattle.run.specs.declared.dynamics.Motion.{Motion}
 
--- the rectangle from (x, y) to (z, w), its corners in turn
-abbrev pub rectangle : Float → Float → Float → Float → List (List Float)
-rectangle x y z w = (x ∷ y ∷ []) ∷ (z ∷ y ∷ []) ∷ (z ∷ w ∷ []) ∷ (x ∷ w ∷ []) ∷ []
-
 -- 4: the squares 0..1 and 1..2 by 0..1 touch; 0..1 and 1.5..2 do not
-pub squares : (overlapOf (rectangle (natural 0) (natural 0) (natural 1) (natural 1)) (rectangle (natural 1) (natural 0) (natural 2) (natural 1)) ≡ true)
+squares : (overlapOf (rectangle (natural 0) (natural 0) (natural 1) (natural 1)) (rectangle (natural 1) (natural 0) (natural 2) (natural 1)) ≡ true)
     × (overlapOf (rectangle (natural 0) (natural 0) (natural 1) (natural 1)) (rectangle (decimal 15 10) (natural 0) (natural 2) (natural 1)) ≡ false)
 unfolding overlapOf apartByEdges apartAlong apartOn leastOn greatestOn leastOf greatestOf minOf maxOf f64Max f64Min natural decimal ofInt round add sub mul neg lt isNan ofBits
 squares = (refl, refl)
 
 -- 5: two quads shrunk to two different points overlap
-pub two-points : overlapOf (rectangle (natural 0) (natural 0) (natural 0) (natural 0)) (rectangle (natural 1) (natural 1) (natural 1) (natural 1)) ≡ true
+two-points : overlapOf (rectangle (natural 0) (natural 0) (natural 0) (natural 0)) (rectangle (natural 1) (natural 1) (natural 1) (natural 1)) ≡ true
 unfolding overlapOf apartByEdges apartAlong apartOn leastOn greatestOn leastOf greatestOf minOf maxOf f64Max f64Min natural decimal ofInt round add sub mul neg lt isNan ofBits
 two-points = refl
 
 -- 6: 95 of 100 at 0.95 is no lap, 96 is one
-pub lap : (lapOf false true 95 100 (decimal 95 100) ≡ false) × (lapOf false true 96 100 (decimal 95 100) ≡ true)
+lap : (lapOf false true 95 100 (decimal 95 100) ≡ false) × (lapOf false true 96 100 (decimal 95 100) ≡ true)
 unfolding lapOf natural decimal ofInt round div lt
 lap = (refl, refl)
 
 -- 7: 2 new tiles of 250 give 8 − 0.1; off the field, whatever is new, −100
-pub reward : (rewardOf defaultWeights 2 250 false ≡ natural 8 ⊖ decimal 1 10) × ((new n : ℕ) → rewardOf defaultWeights new n true ≡ neg (natural 100))
+reward : (rewardOf defaultWeights 2 250 false ≡ natural 8 ⊖ decimal 1 10) × ((new n : ℕ) → rewardOf defaultWeights new n true ≡ neg (natural 100))
 unfolding rewardOf defaultWeights atLeastOne natural decimal ofInt round add sub mul div neg
 reward = (refl, λ new n. refl)
 
@@ -67,12 +65,8 @@ rear-gas : (ctl : List WheelCtl) (action : ℕ) (ms : List Motion) (roads : List
 unfolding passOf tyreOf rearOf
 rear-gas ctl action ms roads fuel = (refl, refl)
 
--- both rear wheels of a pass have this gas
-abbrev pub RearGas : List WheelCtl → Float → Type 0
-RearGas ctl g = (ctlAt ctl 2 .gas ≡ g) × (ctlAt ctl 3 .gas ≡ g)
-
 -- 9: the gas action from 0, on any ground and at any motion: 0.1, then 0.2
-pub gas : (ctl : List WheelCtl) (ms ms₂ : List Motion) (roads roads₂ : List Bool) (fuel fuel₂ : Float) → RearGas ctl (natural 0)
+gas : (ctl : List WheelCtl) (ms ms₂ : List Motion) (roads roads₂ : List Bool) (fuel fuel₂ : Float) → RearGas ctl (natural 0)
     → RearGas (passOf ctl 3 ms roads fuel .ctl) (decimal 1 10)
     × RearGas (passOf (passOf ctl 3 ms roads fuel .ctl) 3 ms₂ roads₂ fuel₂ .ctl) (decimal 2 10)
 gas ctl ms ms₂ roads roads₂ fuel fuel₂ (p, q) =
@@ -83,6 +77,33 @@ gas ctl ms ms₂ roads roads₂ fuel fuel₂ (p, q) =
     ((p₁, q₁), (b .0 ∙ ap (raisedOf (gasOf 3)) p₁ ∙ second-rise, b .1 ∙ ap (raisedOf (gasOf 3)) q₁ ∙ second-rise))
 
 -- 10: the braking rule alone, brake 0.8
-pub brake : (brakedOf (decimal 8 10) (natural 5) ≡ natural 0) × (brakedOf (decimal 8 10) (natural 20) ≡ natural 8)
+brake : (brakedOf (decimal 8 10) (natural 5) ≡ natural 0) × (brakedOf (decimal 8 10) (natural 20) ≡ natural 8)
 unfolding brakedOf absOf signumOf natural decimal ofInt round add mul lt le neg
 brake = (refl, refl)
+
+-- the whole list
+pub marked : Marked
+marked =
+    record {
+      seed-0 = course.draws .seed-zero;
+      seed-same = course.draws .seed-same;
+      draw-2047 = course.draws .draw-2047;
+      draw-2048 = course.draws .draw-2048;
+      cell-nan = course.marked .cell-nan;
+      cell-low = course.marked .cell-low;
+      cell-0 = course.marked .cell-middle;
+      cell-7 = course.marked .cell-seven;
+      cell-1000 = course.marked .cell-high;
+      squares-touch = squares .0;
+      squares-apart = squares .1;
+      two-points = two-points;
+      lap-95 = lap .0;
+      lap-96 = lap .1;
+      reward-2 = reward .0;
+      reward-off = reward .1;
+      root-4 = course.marked .root-four;
+      root-below = course.marked .root-below;
+      gas = gas;
+      brake-5 = brake .0;
+      brake-20 = brake .1;
+    }

@@ -25,3 +25,4 @@ pub mod Certificate
 pub mod Replay
 pub mod ReplaySteps
 pub mod Batch
+pub mod Examples
