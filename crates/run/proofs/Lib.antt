@@ -11,3 +11,4 @@ pub mod AnyLaws
 pub mod DriveLaws
 pub mod Examples
 pub mod SheetLaws
+pub mod ReplayLaws

@@ -1,0 +1,110 @@
+// The batch grader: a whole list of drives and settles from lent columns, every answer whole (document 01, "The plain scorer").
+ghost use mathlib.Core.Path.{_≡_};
+ghost use mathlib.Core.List.{[], _∷_, _++_};
+ghost use Prim.Native.Nat.{_+_, _*_, _≤_};
+ghost use lib.ListN.{length, drop, set};
+ghost use Rattle.run.specs.Widths.{fullWords, mostTiles};
+ghost use Rattle.run.specs.State.{view, columns};
+ghost use Rattle.run.specs.Calls.{replyOf, repliesOf, afterOf};
+ghost use Rattle.run.specs.Replay.{motionFrom, motionsFrom, poseFrom, posesFrom, forceNumbers, wordsOf, numbersOf, allWords, allNumbers};
+ghost use Rattle.run.specs.ReplaySteps.{callFrom, callsTo};
+use crate::drive;
+use crate::drive::DriveAnswer;
+use crate::dynamics::Force;
+use crate::dynamics::Motion;
+use crate::settle;
+use crate::settle::SettleAnswer;
+use crate::state::Pose;
+use crate::state::Run;
+
+// Words and numbers of a call, and of its answer.
+pub const CALL_WORDS: usize = 4;
+
+pub const CALL_NUMBERS: usize = 20;
+
+pub const ANSWER_WORDS: usize = 4;
+
+pub const ANSWER_NUMBERS: usize = 12;
+
+// A wheel's motion, from number i on.
+fn motion(numbers: &[f64], i: usize) -> Motion
+    requires { do ⌜ i + 5 ≤ (← ⟦numbers.len()⟧) ⌝ }
+    ensures { λ r. ⌜ r ≡ motionFrom (now (numbers .entry)) i ⌝ }
+{
+    Motion {
+        joint_angle: numbers[i],
+        sin: numbers[i + 1],
+        cos: numbers[i + 2],
+        vx: numbers[i + 3],
+        vy: numbers[i + 4],
+    }
+}
+
+// The four wheels' motions of a drive.
+fn motions(numbers: &[f64]) -> [Motion; 4]
+    requires { do ⌜ 20 ≤ (← ⟦numbers.len()⟧) ⌝ }
+    ensures { λ r. ⌜ r ≡ motionsFrom (now (numbers .entry)) ⌝ }
+{
+    let a = motion(numbers, 0);
+    let b = motion(numbers, 5);
+    let c = motion(numbers, 10);
+    let d = motion(numbers, 15);
+    [a, b, c, d]
+}
+
+// A wheel's pose, from number i on.
+fn pose(numbers: &[f64], i: usize) -> Pose
+    requires { do ⌜ i + 4 ≤ (← ⟦numbers.len()⟧) ⌝ }
+    ensures { λ r. ⌜ r ≡ poseFrom (now (numbers .entry)) i ⌝ }
+{
+    Pose {
+        x: numbers[i],
+        y: numbers[i + 1],
+        cos: numbers[i + 2],
+        sin: numbers[i + 3],
+    }
+}
+
+// The four wheels' poses of a settle, behind the hull's place.
+fn poses(numbers: &[f64]) -> [Pose; 4]
+    requires { do ⌜ 18 ≤ (← ⟦numbers.len()⟧) ⌝ }
+    ensures { λ r. ⌜ r ≡ posesFrom (now (numbers .entry)) ⌝ }
+{
+    let a = pose(numbers, 2);
+    let b = pose(numbers, 6);
+    let c = pose(numbers, 10);
+    let d = pose(numbers, 14);
+    [a, b, c, d]
+}
+
+// An answer's four words.
+fn put_words(a: u32, b: u32, c: u32, d: u32, words: &mut [u32])
+    requires { ⌜ length (now words) ≡ 4 ⌝ }
+    ensures { λ _. ⌜ now (words .exit) ≡ a ∷ b ∷ c ∷ d ∷ [] ⌝ }
+{
+    words[0] = a;
+    words[1] = b;
+    words[2] = c;
+    words[3] = d;
+}
+
+// A wheel's force, from number i on.
+fn put_force(f: Force, i: usize, numbers: &mut [f64])
+    requires { ⌜ i + 3 ≤ length (now numbers) ⌝ }
+    ensures { λ _. ⌜ now (numbers .exit) ≡ set (set (set (now (numbers .entry)) i (f .motor)) (i + 1) (f .fx)) (i + 2) (f .fy) ⌝ }
+{
+    numbers[i] = f.motor;
+    numbers[i + 1] = f.fx;
+    numbers[i + 2] = f.fy;
+}
+
+// An answer's twelve numbers.
+fn put_forces(forces: [Force; 4], numbers: &mut [f64])
+    requires { ⌜ length (now numbers) ≡ 12 ⌝ }
+    ensures { λ _. ⌜ now (numbers .exit) ≡ forceNumbers forces ⌝ }
+{
+    put_force(forces[0], 0, numbers);
+    put_force(forces[1], 3, numbers);
+    put_force(forces[2], 6, numbers);
+    put_force(forces[3], 9, numbers);
+}
