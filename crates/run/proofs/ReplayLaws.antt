@@ -1,17 +1,27 @@
 -- Calls and answers in columns: what is written over a column, and a list of calls with one more at its end. Assumes nothing.
 use mathlib.Core.Path.{_≡_, refl, sym, ap, ap₂, _∙_, subst}
 use mathlib.Core.List.{List, [], _∷_, _++_, append-nil, append-assoc}
-use Prim.Native.Nat.{ℕ, zero, suc, _+_, _-_, _*_, _≤_, _<_}
+use mathlib.Core.Bool.{Bool, true, false, cond}
+use Prim.Native.Nat.{ℕ, zero, suc, _+_, _-_, _*_, _≤_, _<_, min}
 use native.Mathlib.Omega.{arith}
-use native.Mathlib.Nat.{le-of-eq}
+use native.Mathlib.Nat.{zero-min, min-zero, suc-min-suc}
 use native.Mathlib.Numerals.{add-one}
-use mathlib.Core.Bool.{Bool}
+use lib.Dec.{eqb}
 use lib.ListN.{length, getD, replicate, take, drop, set, length-append, length-drop, drop-of-length-le}
 use lib.Seq.{sets, sets-eq, take-at, drop-at, drop-drop, length-take-le}
 use lib.Ieee.{Float}
 use Rattle.course.specs.Arithmetic.{nought}
-use Rattle.run.specs.Replay.{answerNumbers, flag, forceNumbers, wordsOf, numbersOf}
-use Rattle.run.specs.Calls.{driveSaid, settleSaid}
+use Rattle.run.specs.State.{State, Columns, columns, view}
+use Rattle.run.specs.Drive.{driveOf}
+use Rattle.run.specs.Settle.{Done, done, settleOf}
+use Rattle.run.specs.Calls.{Call, driveSaid, settleSaid, replyOf}
+use Rattle.run.specs.Calls.Call.{drive, settle}
+use Rattle.run.specs.Replay.{answerNumbers, flag, forceNumbers, motionsFrom, numberAt, posesFrom, wordsOf, numbersOf}
+use Rattle.run.specs.ReplaySteps.{lentTo, callFrom}
+use Rattle.run.specs.declared.state.Pose.{Pose}
+use Rattle.run.specs.declared.state.Run.{Run}
+use Rattle.run.specs.declared.dynamics.Motion.{Motion}
+use Rattle.run.specs.declared.drive.Drove.{Drove}
 use Rattle.run.specs.Pass.{noForces}
 use Rattle.run.specs.declared.drive.DriveAnswer.{DriveAnswer}
 use Rattle.run.specs.declared.drive.DriveAnswer.the-variants.{Forces, Refused as NotDriven}
@@ -79,3 +89,58 @@ pub written-not-settled : (a : SettleAnswer) (ws : List ℕ) (ns : List Float) (
     → ws ≡ 2 ∷ c ∷ 0 ∷ 0 ∷ [] → ns ≡ replicate answerNumbers nought → SettleWritten a ws ns
 unfolding wordsOf numbersOf
 written-not-settled a ws ns c e h k = subst (λ (x : SettleAnswer). SettleWritten x ws ns) (sym e) (h, k)
+
+-- ---- one call
+
+-- the state after a call, and its answer in words and numbers
+abbrev pub Answered : ℕ → ℕ → State → Call → State → List ℕ → List Float → Type 0
+Answered m most s c after ws ns =
+    (after ≡ replyOf m most s c .state) × ((ws ≡ wordsOf (replyOf m most s c .answer)) × (ns ≡ numbersOf (replyOf m most s c .answer)))
+
+pub answered-drive : (m most : ℕ) (r : Run) (a : ℕ) (ms : List Motion) (g : List Float) (d : Drove) (ws : List ℕ) (ns : List Float)
+    → ms ≡ motionsFrom g → d ≡ driveOf m most r a ms → ws ≡ wordsOf (driveSaid (d .answer) (d .forces)) → ns ≡ numbersOf (driveSaid (d .answer) (d .forces))
+    → Answered m most (view r) (drive a (motionsFrom g)) (view (d .run)) ws ns
+unfolding view driveOf replyOf
+answered-drive m most r a ms g d ws ns e f h k =
+    let q : d ≡ driveOf m most r a (motionsFrom g) = f ∙ ap (driveOf m most r a) e in
+    (ap (λ (x : Drove). view (x .run)) q, (h ∙ ap (λ (x : Drove). wordsOf (driveSaid (x .answer) (x .forces))) q, k ∙ ap (λ (x : Drove). numbersOf (driveSaid (x .answer) (x .forces))) q))
+
+pub answered-settle : (m most : ℕ) (s : State) (l : Columns) (x y : Float) (ps : List Pose) (g : List Float) (a : SettleAnswer) (after : State) (ws : List ℕ) (ns : List Float)
+    → ps ≡ posesFrom g → done a after ≡ settleOf m most s l x y ps → ws ≡ wordsOf (settleSaid a) → ns ≡ numbersOf (settleSaid a)
+    → Answered m most s (settle l x y (posesFrom g)) after ws ns
+unfolding replyOf
+answered-settle m most s l x y ps g a after ws ns e f h k =
+    let q : done a after ≡ settleOf m most s l x y (posesFrom g) = f ∙ ap (settleOf m most s l x y) e in
+    (ap (λ (d : Done). d .state) q, (h ∙ ap (λ (d : Done). wordsOf (settleSaid (d .answer))) q, k ∙ ap (λ (d : Done). numbersOf (settleSaid (d .answer))) q))
+
+-- a length past the end asks for all that there is
+take-min : {A : Type 0} (k : ℕ) (l : List A) → take (min k (length l)) l ≡ take k l
+take-min zero l = ap (λ (n : ℕ). take n l) (zero-min (length l))
+take-min (suc k) [] = ap (λ (n : ℕ). take n []) (min-zero (suc k))
+take-min {A} (suc k) (x ∷ xs) = ap (λ (n : ℕ). take n (x ∷ xs)) (suc-min-suc k (length xs)) ∙ ap (λ (r : List A). x ∷ r) (take-min k xs)
+
+lent-is : (l : Columns) (k j a b : ℕ) → a ≡ min k (length (l .tiles)) → b ≡ min j (length (l .offsets))
+    → columns (take a (l .tiles)) (take b (l .offsets)) (l .list) ≡ lentTo l k j
+unfolding lentTo
+lent-is l k j a b e f =
+    ap₂ (λ (t : List Float) (o : List ℕ). columns t o (l .list))
+    (ap (λ (n : ℕ). take n (l .tiles)) e ∙ take-min k (l .tiles))
+    (ap (λ (n : ℕ). take n (l .offsets)) f ∙ take-min j (l .offsets))
+
+-- by its first word a call is a drive or a settle
+pub answered-as-drive : (m most : ℕ) (s : State) (l : Columns) (ws₀ : List ℕ) (g : List Float) (after : State) (ws : List ℕ) (ns : List Float)
+    → eqb (getD ws₀ 0 0) 0 ≡ true → Answered m most s (drive (getD ws₀ 1 0) (motionsFrom g)) after ws ns → Answered m most s (callFrom l ws₀ g) after ws ns
+unfolding callFrom
+answered-as-drive m most s l ws₀ g after ws ns t h =
+    subst (λ (b : Bool). Answered m most s (cond b (drive (getD ws₀ 1 0) (motionsFrom g)) (settle (lentTo l (getD ws₀ 2 0) (getD ws₀ 3 0)) (numberAt g 0) (numberAt g 1) (posesFrom g))) after ws ns)
+    (sym t) h
+
+pub answered-as-settle : (m most : ℕ) (s : State) (l : Columns) (ws₀ : List ℕ) (g : List Float) (after : State) (ws : List ℕ) (ns : List Float) (a b : ℕ)
+    → eqb (getD ws₀ 0 0) 0 ≡ false → a ≡ min (getD ws₀ 2 0) (length (l .tiles)) → b ≡ min (getD ws₀ 3 0) (length (l .offsets))
+    → Answered m most s (settle (columns (take a (l .tiles)) (take b (l .offsets)) (l .list)) (numberAt g 0) (numberAt g 1) (posesFrom g)) after ws ns
+    → Answered m most s (callFrom l ws₀ g) after ws ns
+unfolding callFrom
+answered-as-settle m most s l ws₀ g after ws ns a b t e f h =
+    subst (λ (z : Bool). Answered m most s (cond z (drive (getD ws₀ 1 0) (motionsFrom g)) (settle (lentTo l (getD ws₀ 2 0) (getD ws₀ 3 0)) (numberAt g 0) (numberAt g 1) (posesFrom g))) after ws ns)
+    (sym t)
+    (subst (λ (c : Columns). Answered m most s (settle c (numberAt g 0) (numberAt g 1) (posesFrom g)) after ws ns) (lent-is l (getD ws₀ 2 0) (getD ws₀ 3 0) a b e f) h)

@@ -1,13 +1,13 @@
 // The batch grader: a whole list of drives and settles from lent columns, every answer whole (document 01, "The plain scorer").
 ghost use mathlib.Core.Path.{_≡_};
 ghost use mathlib.Core.List.{[], _∷_, _++_};
-ghost use Prim.Native.Nat.{_+_, _*_, _≤_};
+ghost use Prim.Native.Nat.{_+_, _*_, _≤_, min};
 ghost use lib.ListN.{length, drop, set, replicate};
 ghost use Rattle.course.specs.Arithmetic.{nought};
 ghost use Rattle.run.specs.Widths.{fullWords, mostTiles};
 ghost use Rattle.run.specs.State.{view, columns};
 ghost use Rattle.run.specs.Calls.{Call, driveSaid, settleSaid, replyOf, repliesOf, afterOf};
-ghost use Rattle.run.specs.Replay.{motionFrom, motionsFrom, poseFrom, posesFrom, answerNumbers, flag, forceNumbers, wordsOf, numbersOf, allWords, allNumbers};
+ghost use Rattle.run.specs.Replay.{motionFrom, motionsFrom, poseFrom, posesFrom, numberAt, answerNumbers, flag, forceNumbers, wordsOf, numbersOf, allWords, allNumbers};
 ghost use Rattle.run.specs.ReplaySteps.{callFrom, callsTo};
 use crate::drive;
 use crate::drive::DriveAnswer;
@@ -179,4 +179,92 @@ fn put_settle(answer: SettleAnswer, words: &mut [u32], numbers: &mut [f64])
             put_words(2, k, 0, 0, words);
         }
     }
+}
+
+// A drive from the numbers of its call, and its answer.
+fn reply_drive(run: Run, action: u32, given: &[f64], words: &mut [u32], numbers: &mut [f64]) -> Run
+    requires { do ⌜ 20 ≤ (← ⟦given.len()⟧) ⌝ }
+    requires { ⌜ length (now words) ≡ 4 ⌝ }
+    requires { ⌜ length (now numbers) ≡ 12 ⌝ }
+    ensures { λ r. ⌜ view r ≡ replyOf fullWords mostTiles (view run) (Call.drive action (motionsFrom (now (given .entry)))) .state ⌝ }
+    ensures { λ _. ⌜ now (words .exit) ≡ wordsOf (replyOf fullWords mostTiles (view run) (Call.drive action (motionsFrom (now (given .entry)))) .answer) ⌝ }
+    ensures { λ _. ⌜ now (numbers .exit) ≡ numbersOf (replyOf fullWords mostTiles (view run) (Call.drive action (motionsFrom (now (given .entry)))) .answer) ⌝ }
+{
+    let d = drive::drive(run, action, motions(given));
+    let answer = d.answer;
+    let forces = d.forces;
+    let after = d.run;
+    put_drive(answer, forces, words, numbers);
+    after
+}
+
+// A settle on the lent columns from the numbers of its call, and its answer.
+fn reply_settle(
+    run: Run,
+    tiles: &[f64],
+    offsets: &[u32],
+    list: &[u32],
+    given: &[f64],
+    words: &mut [u32],
+    numbers: &mut [f64],
+) -> Run
+    requires { do ⌜ 20 ≤ (← ⟦given.len()⟧) ⌝ }
+    requires { ⌜ length (now words) ≡ 4 ⌝ }
+    requires { ⌜ length (now numbers) ≡ 12 ⌝ }
+    ensures { λ r. ⌜ view r ≡ replyOf fullWords mostTiles (view run) (Call.settle (columns (now (tiles .entry)) (now (offsets .entry)) (now (list .entry))) (numberAt (now (given .entry)) 0) (numberAt (now (given .entry)) 1) (posesFrom (now (given .entry)))) .state ⌝ }
+    ensures { λ _. ⌜ now (words .exit) ≡ wordsOf (replyOf fullWords mostTiles (view run) (Call.settle (columns (now (tiles .entry)) (now (offsets .entry)) (now (list .entry))) (numberAt (now (given .entry)) 0) (numberAt (now (given .entry)) 1) (posesFrom (now (given .entry)))) .answer) ⌝ }
+    ensures { λ _. ⌜ now (numbers .exit) ≡ numbersOf (replyOf fullWords mostTiles (view run) (Call.settle (columns (now (tiles .entry)) (now (offsets .entry)) (now (list .entry))) (numberAt (now (given .entry)) 0) (numberAt (now (given .entry)) 1) (posesFrom (now (given .entry)))) .answer) ⌝ }
+{
+    let d = settle::settle(run, tiles, offsets, list, given[0], given[1], poses(given));
+    let answer = d.answer;
+    let after = d.run;
+    put_settle(answer, words, numbers);
+    after
+}
+
+// The length asked for, or all that there is.
+fn upto(asked: u32, most: usize) -> usize
+    ensures { λ r. ⌜ r ≡ min asked most ⌝ }
+    ensures { λ r. ⌜ r ≤ most ⌝ }
+{
+    let k = asked as usize;
+    if k < most {
+        return k;
+    }
+    most
+}
+
+// The call that four words and twenty numbers hold, and its answer.
+fn reply(
+    run: Run,
+    tiles: &[f64],
+    offsets: &[u32],
+    list: &[u32],
+    call: &[u32],
+    given: &[f64],
+    words: &mut [u32],
+    numbers: &mut [f64],
+) -> Run
+    requires { do ⌜ 4 ≤ (← ⟦call.len()⟧) ⌝ }
+    requires { do ⌜ 20 ≤ (← ⟦given.len()⟧) ⌝ }
+    requires { ⌜ length (now words) ≡ 4 ⌝ }
+    requires { ⌜ length (now numbers) ≡ 12 ⌝ }
+    ensures { λ r. ⌜ view r ≡ replyOf fullWords mostTiles (view run) (callFrom (columns (now (tiles .entry)) (now (offsets .entry)) (now (list .entry))) (now (call .entry)) (now (given .entry))) .state ⌝ }
+    ensures { λ _. ⌜ now (words .exit) ≡ wordsOf (replyOf fullWords mostTiles (view run) (callFrom (columns (now (tiles .entry)) (now (offsets .entry)) (now (list .entry))) (now (call .entry)) (now (given .entry))) .answer) ⌝ }
+    ensures { λ _. ⌜ now (numbers .exit) ≡ numbersOf (replyOf fullWords mostTiles (view run) (callFrom (columns (now (tiles .entry)) (now (offsets .entry)) (now (list .entry))) (now (call .entry)) (now (given .entry))) .answer) ⌝ }
+{
+    if call[0] == 0 {
+        return reply_drive(run, call[1], given, words, numbers);
+    }
+    let most = upto(call[2], tiles.len());
+    let last = upto(call[3], offsets.len());
+    reply_settle(
+        run,
+        &tiles[..most],
+        &offsets[..last],
+        list,
+        given,
+        words,
+        numbers,
+    )
 }
