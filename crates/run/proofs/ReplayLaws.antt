@@ -14,10 +14,13 @@ use Rattle.course.specs.Arithmetic.{nought}
 use Rattle.run.specs.State.{State, Columns, columns, view}
 use Rattle.run.specs.Drive.{driveOf}
 use Rattle.run.specs.Settle.{Done, done, settleOf}
-use Rattle.run.specs.Calls.{Call, driveSaid, settleSaid, replyOf}
+use Rattle.run.specs.Calls.{Call, driveSaid, settleSaid, replyOf, repliesOf, afterOf}
 use Rattle.run.specs.Calls.Call.{drive, settle}
 use Rattle.run.specs.Replay.{answerNumbers, flag, forceNumbers, motionsFrom, numberAt, posesFrom, wordsOf, numbersOf}
-use Rattle.run.specs.ReplaySteps.{lentTo, callFrom}
+use Rattle.run.specs.Replay.{callWords, callNumbers, partAt, allWords, allNumbers}
+use Rattle.run.specs.ReplaySteps.{lentTo, callFrom, callsTo}
+use Rattle.run.specs.Answers.{Answer}
+use Rattle.run.specs.Answers.Answer.{drove, settled, refused}
 use Rattle.run.specs.declared.state.Pose.{Pose}
 use Rattle.run.specs.declared.state.Run.{Run}
 use Rattle.run.specs.declared.dynamics.Motion.{Motion}
@@ -144,3 +147,160 @@ answered-as-settle m most s l ws₀ g after ws ns a b t e f h =
     subst (λ (z : Bool). Answered m most s (cond z (drive (getD ws₀ 1 0) (motionsFrom g)) (settle (lentTo l (getD ws₀ 2 0) (getD ws₀ 3 0)) (numberAt g 0) (numberAt g 1) (posesFrom g))) after ws ns)
     (sym t)
     (subst (λ (c : Columns). Answered m most s (settle c (numberAt g 0) (numberAt g 1) (posesFrom g)) after ws ns) (lent-is l (getD ws₀ 2 0) (getD ws₀ 3 0) a b e f) h)
+
+-- ---- a call more at the end of a list
+
+pub replies-more : (m most : ℕ) (s : State) (cs : List Call) (c : Call)
+    → repliesOf m most s (cs ++ (c ∷ [])) ≡ repliesOf m most s cs ++ (replyOf m most (afterOf m most s cs) c .answer ∷ [])
+unfolding repliesOf afterOf
+replies-more m most s [] c = refl
+replies-more m most s (d ∷ cs) c = ap (λ (r : List Answer). replyOf m most s d .answer ∷ r) (replies-more m most (replyOf m most s d .state) cs c)
+
+pub after-more : (m most : ℕ) (s : State) (cs : List Call) (c : Call) → afterOf m most s (cs ++ (c ∷ [])) ≡ replyOf m most (afterOf m most s cs) c .state
+unfolding afterOf
+after-more m most s [] c = refl
+after-more m most s (d ∷ cs) c = after-more m most (replyOf m most s d .state) cs c
+
+pub words-more : (rs : List Answer) (r : Answer) → allWords (rs ++ (r ∷ [])) ≡ allWords rs ++ wordsOf r
+unfolding allWords
+words-more [] r = append-nil (wordsOf r)
+words-more (q ∷ rs) r = ap (λ (l : List ℕ). wordsOf q ++ l) (words-more rs r) ∙ sym (append-assoc (wordsOf q) (allWords rs) (wordsOf r))
+
+pub numbers-more : (rs : List Answer) (r : Answer) → allNumbers (rs ++ (r ∷ [])) ≡ allNumbers rs ++ numbersOf r
+unfolding allNumbers
+numbers-more [] r = append-nil (numbersOf r)
+numbers-more (q ∷ rs) r = ap (λ (l : List Float). numbersOf q ++ l) (numbers-more rs r) ∙ sym (append-assoc (numbersOf q) (allNumbers rs) (numbersOf r))
+
+-- ---- lengths: four words and twelve numbers to an answer, and an answer to a call
+
+pub words-four : (r : Answer) → length (wordsOf r) ≡ 4
+unfolding wordsOf
+words-four (drove fs) = refl
+words-four (settled new n off lap ended) = refl
+words-four (refused k) = refl
+
+pub numbers-twelve : (r : Answer) → length (numbersOf r) ≡ 12
+unfolding numbersOf forceNumbers
+numbers-twelve (drove fs) = refl
+numbers-twelve (settled new n off lap ended) = refl
+numbers-twelve (refused k) = refl
+
+pub all-words-long : (rs : List Answer) → length (allWords rs) ≡ 4 * length rs
+unfolding allWords
+all-words-long [] = refl
+all-words-long (r ∷ rs) = length-append (wordsOf r) (allWords rs) ∙ omega (arith, words-four r, all-words-long rs)
+
+pub all-numbers-long : (rs : List Answer) → length (allNumbers rs) ≡ 12 * length rs
+unfolding allNumbers
+all-numbers-long [] = refl
+all-numbers-long (r ∷ rs) = length-append (numbersOf r) (allNumbers rs) ∙ omega (arith, numbers-twelve r, all-numbers-long rs)
+
+replies-long : (m most : ℕ) (s : State) (cs : List Call) → length (repliesOf m most s cs) ≡ length cs
+unfolding repliesOf
+replies-long m most s [] = refl
+replies-long m most s (c ∷ cs) = ap suc (replies-long m most (replyOf m most s c .state) cs)
+
+calls-long : (l : Columns) (ws : List ℕ) (ns : List Float) (k : ℕ) → length (callsTo l ws ns k) ≡ k
+unfolding callsTo
+calls-long l ws ns zero = refl
+calls-long l ws ns (suc k) =
+    length-append (callsTo l ws ns k) (callFrom l (partAt callWords ws k) (partAt callNumbers ns k) ∷ []) ∙ omega (arith, calls-long l ws ns k)
+
+-- ---- a column that is written part by part
+
+size : (a k : ℕ) → a + k - a ≡ k
+size a k = omega arith
+
+pub part-long : {A : Type 0} (a k : ℕ) (l : List A) → a + k ≤ length l → length (take (a + k - a) (drop a l)) ≡ k
+part-long a k l h = length-take-le (a + k - a) (drop a l) (omega (arith, length-drop a l)) ∙ size a k
+
+-- a part more behind what is written
+part-more : {A : Type 0} (a k b : ℕ) (front p col col₀ : List A) → length front ≡ a → col ≡ front ++ drop a col₀ → a + k ≡ b
+    → take a col ++ (p ++ drop (a + k - a) (drop a col)) ≡ (front ++ p) ++ drop b col₀
+part-more {A} a k b front p col col₀ e h s =
+    ap₂ (λ (x y : List A). x ++ (p ++ y))
+    (ap (take a) h ∙ take-at front (drop a col₀) a e)
+    (ap₂ (λ (j : ℕ) (x : List A). drop j x) (size a k) (ap (drop a) h ∙ drop-at front (drop a col₀) a e) ∙ drop-drop k a col₀ ∙ ap (λ (j : ℕ). drop j col₀) s)
+    ∙ sym (append-assoc front p (drop b col₀))
+
+column-long : {A : Type 0} (a : ℕ) (front col₀ : List A) → length front ≡ a → a ≤ length col₀ → length (front ++ drop a col₀) ≡ length col₀
+column-long a front col₀ e h = length-append front (drop a col₀) ∙ omega (arith, length-drop a col₀)
+
+-- ---- the calls one after the other
+
+-- the answers to the first k calls of the columns
+abbrev answersTo : ℕ → ℕ → State → Columns → List ℕ → List Float → ℕ → List Answer
+answersTo m most s l ws ns k = repliesOf m most s (callsTo l ws ns k)
+
+-- after i of the calls: the state, and the answers at the front of the columns W and N
+pub record Replying (m most : ℕ) (l : Columns) (calls : List ℕ) (given : List Float) (s₀ : State) (W₀ : List ℕ) (N₀ : List Float) (many : ℕ) (s : State) (W : List ℕ) (N : List Float) (i : ℕ) : Type 0 where
+  pub upto : i ≤ many
+  pub words-long : length W ≡ length W₀
+  pub numbers-long : length N ≡ length N₀
+  pub state : s ≡ afterOf m most s₀ (callsTo l calls given i)
+  pub words : W ≡ allWords (answersTo m most s₀ l calls given i) ++ drop (4 * i) W₀
+  pub numbers : N ≡ allNumbers (answersTo m most s₀ l calls given i) ++ drop (12 * i) N₀
+
+module _ (m most : ℕ) (l : Columns) (calls : List ℕ) (given : List Float) (s₀ : State) (W₀ : List ℕ) (N₀ : List Float) (many : ℕ) where
+  pub no-reply : Replying m most l calls given s₀ W₀ N₀ many s₀ W₀ N₀ 0
+  unfolding callsTo repliesOf afterOf allWords allNumbers
+  no-reply = record { upto = omega arith; words-long = refl; numbers-long = refl; state = refl; words = refl; numbers = refl }
+
+  answers-long : (i : ℕ) → length (answersTo m most s₀ l calls given i) ≡ i
+  answers-long i = replies-long m most s₀ (callsTo l calls given i) ∙ calls-long l calls given i
+
+  front-words : (i : ℕ) → length (allWords (answersTo m most s₀ l calls given i)) ≡ 4 * i
+  front-words i = all-words-long (answersTo m most s₀ l calls given i) ∙ ap (λ (k : ℕ). 4 * k) (answers-long i)
+
+  front-numbers : (i : ℕ) → length (allNumbers (answersTo m most s₀ l calls given i)) ≡ 12 * i
+  front-numbers i = all-numbers-long (answersTo m most s₀ l calls given i) ∙ ap (λ (k : ℕ). 12 * k) (answers-long i)
+
+  calls-more : (i : ℕ) → callsTo l calls given (i + 1) ≡ callsTo l calls given i ++ (callFrom l (partAt callWords calls i) (partAt callNumbers given i) ∷ [])
+  unfolding callsTo
+  calls-more i = ap (callsTo l calls given) (add-one i)
+
+  pub one-reply : (s : State) (W : List ℕ) (N : List Float) (i : ℕ) (after : State) (ws : List ℕ) (ns : List Float)
+      → 4 * many ≤ length W₀ → 12 * many ≤ length N₀ → i < many → Replying m most l calls given s₀ W₀ N₀ many s W N i
+      → Answered m most s (callFrom l (take (4 * i + 4 - 4 * i) (drop (4 * i) calls)) (take (20 * i + 20 - 20 * i) (drop (20 * i) given))) after ws ns
+      → Replying m most l calls given s₀ W₀ N₀ many after
+      (take (4 * i) W ++ (ws ++ drop (4 * i + 4 - 4 * i) (drop (4 * i) W)))
+      (take (12 * i) N ++ (ns ++ drop (12 * i + 12 - 12 * i) (drop (12 * i) N))) (i + 1)
+  one-reply s W N i after ws ns hw hn b h a =
+      let c = callFrom l (partAt callWords calls i) (partAt callNumbers given i) in
+      let was = callsTo l calls given i in
+      let same : callFrom l (take (4 * i + 4 - 4 * i) (drop (4 * i) calls)) (take (20 * i + 20 - 20 * i) (drop (20 * i) given)) ≡ c =
+      ap₂ (λ (j k : ℕ). callFrom l (take j (drop (4 * i) calls)) (take k (drop (20 * i) given))) (size (4 * i) 4) (size (20 * i) 20) in
+      let now : Answered m most (afterOf m most s₀ was) c after ws ns =
+      subst (λ (z : State). Answered m most z c after ws ns) (h .state) (subst (λ (z : Call). Answered m most s z after ws ns) same a) in
+      let said = replyOf m most (afterOf m most s₀ was) c .answer in
+      let answers : answersTo m most s₀ l calls given (i + 1) ≡ answersTo m most s₀ l calls given i ++ (said ∷ []) =
+      ap (repliesOf m most s₀) (calls-more i) ∙ replies-more m most s₀ was c in
+      let w : take (4 * i) W ++ (ws ++ drop (4 * i + 4 - 4 * i) (drop (4 * i) W)) ≡ allWords (answersTo m most s₀ l calls given (i + 1)) ++ drop (4 * (i + 1)) W₀ =
+      part-more (4 * i) 4 (4 * (i + 1)) (allWords (answersTo m most s₀ l calls given i)) ws W W₀ (front-words i) (h .words) (omega arith)
+      ∙ ap (λ (x : List ℕ). x ++ drop (4 * (i + 1)) W₀)
+      (ap (λ (x : List ℕ). allWords (answersTo m most s₀ l calls given i) ++ x) (now .1 .0) ∙ sym (words-more (answersTo m most s₀ l calls given i) said) ∙ ap allWords (sym answers)) in
+      let n : take (12 * i) N ++ (ns ++ drop (12 * i + 12 - 12 * i) (drop (12 * i) N)) ≡ allNumbers (answersTo m most s₀ l calls given (i + 1)) ++ drop (12 * (i + 1)) N₀ =
+      part-more (12 * i) 12 (12 * (i + 1)) (allNumbers (answersTo m most s₀ l calls given i)) ns N N₀ (front-numbers i) (h .numbers) (omega arith)
+      ∙ ap (λ (x : List Float). x ++ drop (12 * (i + 1)) N₀)
+      (ap (λ (x : List Float). allNumbers (answersTo m most s₀ l calls given i) ++ x) (now .1 .1) ∙ sym (numbers-more (answersTo m most s₀ l calls given i) said) ∙ ap allNumbers (sym answers)) in
+      record {
+        upto = omega arith;
+        words-long = ap length w ∙ column-long (4 * (i + 1)) (allWords (answersTo m most s₀ l calls given (i + 1))) W₀ (front-words (i + 1)) (omega arith);
+        numbers-long = ap length n ∙ column-long (12 * (i + 1)) (allNumbers (answersTo m most s₀ l calls given (i + 1))) N₀ (front-numbers (i + 1)) (omega arith);
+        state = now .0 ∙ sym (after-more m most s₀ was c) ∙ ap (afterOf m most s₀) (sym (calls-more i));
+        words = w;
+        numbers = n;
+      }
+
+  -- all calls are answered
+  pub all-replies : (s : State) (W : List ℕ) (N : List Float) (i : ℕ) → many ≤ i → Replying m most l calls given s₀ W₀ N₀ many s W N i
+      → (s ≡ afterOf m most s₀ (callsTo l calls given many))
+      × ((W ≡ allWords (answersTo m most s₀ l calls given many) ++ drop (4 * many) W₀) × (N ≡ allNumbers (answersTo m most s₀ l calls given many) ++ drop (12 * many) N₀))
+  all-replies s W N i b h =
+      let e : i ≡ many = omega (arith, h .upto) in (
+        h .state ∙ ap (λ (k : ℕ). afterOf m most s₀ (callsTo l calls given k)) e,
+        (
+          h .words ∙ ap (λ (k : ℕ). allWords (answersTo m most s₀ l calls given k) ++ drop (4 * k) W₀) e,
+          h .numbers ∙ ap (λ (k : ℕ). allNumbers (answersTo m most s₀ l calls given k) ++ drop (12 * k) N₀) e,
+        ),
+      )

@@ -268,3 +268,46 @@ fn reply(
         numbers,
     )
 }
+
+// All calls of the columns in their order, each on the state that the one before it returned, and their answers.
+pub(crate) fn replies(
+    run: Run,
+    tiles: &[f64],
+    offsets: &[u32],
+    list: &[u32],
+    many: usize,
+    calls: &[u32],
+    given: &[f64],
+    words: &mut [u32],
+    numbers: &mut [f64],
+) -> Run
+    requires { do ⌜ 4 * many ≤ (← ⟦calls.len()⟧) ⌝ }
+    requires { do ⌜ 20 * many ≤ (← ⟦given.len()⟧) ⌝ }
+    requires { ⌜ 4 * many ≤ length (now words) ⌝ }
+    requires { ⌜ 12 * many ≤ length (now numbers) ⌝ }
+    ensures { λ r. ⌜ view r ≡ afterOf fullWords mostTiles (view run) (callsTo (columns (now (tiles .entry)) (now (offsets .entry)) (now (list .entry))) (now (calls .entry)) (now (given .entry)) many) ⌝ }
+    ensures { λ _. ⌜ now (words .exit) ≡ allWords (repliesOf fullWords mostTiles (view run) (callsTo (columns (now (tiles .entry)) (now (offsets .entry)) (now (list .entry))) (now (calls .entry)) (now (given .entry)) many)) ++ drop (4 * many) (now (words .entry)) ⌝ }
+    ensures { λ _. ⌜ now (numbers .exit) ≡ allNumbers (repliesOf fullWords mostTiles (view run) (callsTo (columns (now (tiles .entry)) (now (offsets .entry)) (now (list .entry))) (now (calls .entry)) (now (given .entry)) many)) ++ drop (12 * many) (now (numbers .entry)) ⌝ }
+{
+    let mut state = run;
+    let mut i: usize = 0;
+    while i < many {
+        let c = CALL_WORDS * i;
+        let g = CALL_NUMBERS * i;
+        let w = ANSWER_WORDS * i;
+        let n = ANSWER_NUMBERS * i;
+        let next = reply(
+            state,
+            tiles,
+            offsets,
+            list,
+            &calls[c..c + CALL_WORDS],
+            &given[g..g + CALL_NUMBERS],
+            &mut words[w..w + ANSWER_WORDS],
+            &mut numbers[n..n + ANSWER_NUMBERS],
+        );
+        state = next;
+        i += 1;
+    }
+    state
+}
