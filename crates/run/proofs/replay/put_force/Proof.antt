@@ -1,6 +1,6 @@
+-- `run::replay::put_force` meets its contract. Assumes nothing.
 use lib.ListN.{length-set}
 use native.Mathlib.Omega.{arith}
--- `run::replay::put_force` meets its contract. Assumes nothing.
 use borrow.Author.Needs.{needs}
 use Rattle.run.proofs.replay.put_force.Statement.{statement}
 use Rattle.run.proofs.replay.put_force.Tie as tie

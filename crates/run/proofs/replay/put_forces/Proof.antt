@@ -1,8 +1,7 @@
+-- `run::replay::put_forces` meets its contract. Assumes nothing.
 use mathlib.Core.Path.{_≡_}
 use lib.ListN.{length}
 use Rattle.run.proofs.ReplayLaws.{all-forces}
-use native.Mathlib.Omega.{arith}
--- `run::replay::put_forces` meets its contract. Assumes nothing.
 use borrow.Author.Needs.{needs}
 use Rattle.run.proofs.replay.put_forces.Statement.{statement}
 use Rattle.run.proofs.replay.put_forces.Tie as tie

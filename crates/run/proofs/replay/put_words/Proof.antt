@@ -1,6 +1,6 @@
+-- `run::replay::put_words` meets its contract. Assumes nothing.
 use mathlib.Core.List.{[], _∷_}
 use Rattle.run.proofs.ReplayLaws.{written-over}
--- `run::replay::put_words` meets its contract. Assumes nothing.
 use borrow.Author.Needs.{needs}
 use Rattle.run.proofs.replay.put_words.Statement.{statement}
 use Rattle.run.proofs.replay.put_words.Tie as tie

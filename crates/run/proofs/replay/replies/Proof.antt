@@ -1,13 +1,12 @@
+-- `run::replay::replies` meets its contract. Assumes nothing.
 use native.Mathlib.Nat.{le-of-eq}
-use lib.ListN.{length}
 use borrow.Author.Needs.{needs}
 use native.Mathlib.Omega.{arith}
-use Prim.Native.Nat.{_+_, _-_, _*_, _≤_}
-use mathlib.Core.Path.{_≡_, sym, _∙_}
+use Prim.Native.Nat.{_-_, _*_}
+use mathlib.Core.Path.{sym}
 use Rattle.run.specs.State.{view, columns}
 use Rattle.run.proofs.ReplayLaws.{Replying, no-reply, one-reply, all-replies, part-long}
 use Rattle.run.specs.Widths.{fullWords, mostTiles}
--- `run::replay::replies` meets its contract. Assumes nothing.
 use Rattle.run.proofs.replay.replies.Statement.{statement}
 use Rattle.run.proofs.replay.replies.Tie as tie
 use Rattle.run.proofs.replay.replies.Reads as reads
@@ -25,76 +24,76 @@ loop-holds : tie.Need-loop-holds Inv-loop μ-loop
 loop-holds c = no-reply _ _ _ _ _ _ _ _ _
 
 mul-c : tie.Need-mul-c Inv-loop μ-loop
-mul-c c = omega (arith, c .before .before .before .before .before .before .before .before .before .pre, c .before .loop .inv .upto, c .before .loop .inv .words-long, c .before .loop .inv .numbers-long, c .loop-test .taken)
+mul-c c = search needs
 
 mul-g : tie.Need-mul-g Inv-loop μ-loop
-mul-g c = omega (arith, c .before .before .before .before .before .before .before .before .before .pre, c .before .loop .inv .upto, c .before .loop .inv .words-long, c .before .loop .inv .numbers-long, c .loop-test .taken)
+mul-g c = search needs
 
 mul-w : tie.Need-mul-w Inv-loop μ-loop
-mul-w c = omega (arith, c .before .before .before .before .before .before .before .before .before .pre, c .before .loop .inv .upto, c .before .loop .inv .words-long, c .before .loop .inv .numbers-long, c .loop-test .taken)
+mul-w c = search needs
 
 mul-n : tie.Need-mul-n Inv-loop μ-loop
-mul-n c = omega (arith, c .before .before .before .before .before .before .before .before .before .pre, c .before .loop .inv .upto, c .before .loop .inv .words-long, c .before .loop .inv .numbers-long, c .loop-test .taken)
+mul-n c = search needs
 
 add-reply : tie.Need-add-reply Inv-loop μ-loop
-add-reply c = omega (arith, c .before .before .before .before .before .before .before .before .before .pre, c .before .loop .inv .upto, c .before .loop .inv .words-long, c .before .loop .inv .numbers-long, c .loop-test .taken)
+add-reply c = search needs
 
 mul-reply : tie.Need-mul-reply Inv-loop μ-loop
-mul-reply c = omega (arith, c .before .before .before .before .before .before .before .before .before .pre, c .before .loop .inv .upto, c .before .loop .inv .words-long, c .before .loop .inv .numbers-long, c .loop-test .taken)
+mul-reply c = search needs
 
 sub-reply : tie.Need-sub-reply Inv-loop μ-loop
-sub-reply c = omega (arith, c .before .before .before .before .before .before .before .before .before .pre, c .before .loop .inv .upto, c .before .loop .inv .words-long, c .before .loop .inv .numbers-long, c .loop-test .taken)
+sub-reply c = search needs
 
 part-reply-start : tie.Need-part-reply-start Inv-loop μ-loop
-part-reply-start c = omega (arith, c .before .before .before .before .before .before .before .before .before .pre, c .before .loop .inv .upto, c .before .loop .inv .words-long, c .before .loop .inv .numbers-long, c .loop-test .taken)
+part-reply-start c = search needs
 
 part-reply-end : tie.Need-part-reply-end Inv-loop μ-loop
-part-reply-end c = omega (arith, c .before .before .before .before .before .before .before .before .before .pre, c .before .loop .inv .upto, c .before .loop .inv .words-long, c .before .loop .inv .numbers-long, c .loop-test .taken)
+part-reply-end c = search needs
 
 add-reply-2 : tie.Need-add-reply-2 Inv-loop μ-loop
-add-reply-2 c = omega (arith, c .before .before .before .before .before .before .before .before .before .before .pre, c .before .before .loop .inv .upto, c .before .before .loop .inv .words-long, c .before .before .loop .inv .numbers-long, c .before .loop-test .taken)
+add-reply-2 c = search needs
 
 mul-reply-2 : tie.Need-mul-reply-2 Inv-loop μ-loop
-mul-reply-2 c = omega (arith, c .before .before .before .before .before .before .before .before .before .before .pre, c .before .before .loop .inv .upto, c .before .before .loop .inv .words-long, c .before .before .loop .inv .numbers-long, c .before .loop-test .taken)
+mul-reply-2 c = search needs
 
 sub-reply-2 : tie.Need-sub-reply-2 Inv-loop μ-loop
-sub-reply-2 c = omega (arith, c .before .before .before .before .before .before .before .before .before .before .pre, c .before .before .loop .inv .upto, c .before .before .loop .inv .words-long, c .before .before .loop .inv .numbers-long, c .before .loop-test .taken)
+sub-reply-2 c = search needs
 
 part-reply-start-2 : tie.Need-part-reply-start-2 Inv-loop μ-loop
-part-reply-start-2 c = omega (arith, c .before .before .before .before .before .before .before .before .before .before .pre, c .before .before .loop .inv .upto, c .before .before .loop .inv .words-long, c .before .before .loop .inv .numbers-long, c .before .loop-test .taken)
+part-reply-start-2 c = search needs
 
 part-reply-end-2 : tie.Need-part-reply-end-2 Inv-loop μ-loop
-part-reply-end-2 c = omega (arith, c .before .before .before .before .before .before .before .before .before .before .pre, c .before .before .loop .inv .upto, c .before .before .loop .inv .words-long, c .before .before .loop .inv .numbers-long, c .before .loop-test .taken)
+part-reply-end-2 c = search needs
 
 add-reply-3 : tie.Need-add-reply-3 Inv-loop μ-loop
-add-reply-3 c = omega (arith, c .before .before .before .before .before .before .before .before .before .before .before .pre, c .before .before .before .loop .inv .upto, c .before .before .before .loop .inv .words-long, c .before .before .before .loop .inv .numbers-long, c .before .before .loop-test .taken)
+add-reply-3 c = search needs
 
 mul-reply-3 : tie.Need-mul-reply-3 Inv-loop μ-loop
-mul-reply-3 c = omega (arith, c .before .before .before .before .before .before .before .before .before .before .before .pre, c .before .before .before .loop .inv .upto, c .before .before .before .loop .inv .words-long, c .before .before .before .loop .inv .numbers-long, c .before .before .loop-test .taken)
+mul-reply-3 c = search needs
 
 sub-reply-3 : tie.Need-sub-reply-3 Inv-loop μ-loop
-sub-reply-3 c = omega (arith, c .before .before .before .before .before .before .before .before .before .before .before .pre, c .before .before .before .loop .inv .upto, c .before .before .before .loop .inv .words-long, c .before .before .before .loop .inv .numbers-long, c .before .before .loop-test .taken)
+sub-reply-3 c = search needs
 
 part-reply-start-3 : tie.Need-part-reply-start-3 Inv-loop μ-loop
-part-reply-start-3 c = omega (arith, c .before .before .before .before .before .before .before .before .before .before .before .pre, c .before .before .before .loop .inv .upto, c .before .before .before .loop .inv .words-long, c .before .before .before .loop .inv .numbers-long, c .before .before .loop-test .taken)
+part-reply-start-3 c = search needs
 
 part-reply-end-3 : tie.Need-part-reply-end-3 Inv-loop μ-loop
-part-reply-end-3 c = omega (arith, c .before .before .before .before .before .before .before .before .before .before .before .pre, c .before .before .before .loop .inv .upto, c .before .before .before .loop .inv .words-long, c .before .before .before .loop .inv .numbers-long, c .before .before .loop-test .taken)
+part-reply-end-3 c = search needs
 
 add-reply-4 : tie.Need-add-reply-4 Inv-loop μ-loop
-add-reply-4 c = omega (arith, c .before .before .before .before .before .before .before .before .before .before .before .before .pre, c .before .before .before .before .loop .inv .upto, c .before .before .before .before .loop .inv .words-long, c .before .before .before .before .loop .inv .numbers-long, c .before .before .before .loop-test .taken)
+add-reply-4 c = search needs
 
 mul-reply-4 : tie.Need-mul-reply-4 Inv-loop μ-loop
-mul-reply-4 c = omega (arith, c .before .before .before .before .before .before .before .before .before .before .before .before .pre, c .before .before .before .before .loop .inv .upto, c .before .before .before .before .loop .inv .words-long, c .before .before .before .before .loop .inv .numbers-long, c .before .before .before .loop-test .taken)
+mul-reply-4 c = search needs
 
 sub-reply-4 : tie.Need-sub-reply-4 Inv-loop μ-loop
-sub-reply-4 c = omega (arith, c .before .before .before .before .before .before .before .before .before .before .before .before .pre, c .before .before .before .before .loop .inv .upto, c .before .before .before .before .loop .inv .words-long, c .before .before .before .before .loop .inv .numbers-long, c .before .before .before .loop-test .taken)
+sub-reply-4 c = search needs
 
 part-reply-start-4 : tie.Need-part-reply-start-4 Inv-loop μ-loop
-part-reply-start-4 c = omega (arith, c .before .before .before .before .before .before .before .before .before .before .before .before .pre, c .before .before .before .before .loop .inv .upto, c .before .before .before .before .loop .inv .words-long, c .before .before .before .before .loop .inv .numbers-long, c .before .before .before .loop-test .taken)
+part-reply-start-4 c = search needs
 
 part-reply-end-4 : tie.Need-part-reply-end-4 Inv-loop μ-loop
-part-reply-end-4 c = omega (arith, c .before .before .before .before .before .before .before .before .before .before .before .before .pre, c .before .before .before .before .loop .inv .upto, c .before .before .before .before .loop .inv .words-long, c .before .before .before .before .loop .inv .numbers-long, c .before .before .before .loop-test .taken)
+part-reply-end-4 c = search needs
 
 reply-requires : tie.Need-reply-requires Inv-loop μ-loop
 reply-requires c κs =
