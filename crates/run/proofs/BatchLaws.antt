@@ -26,7 +26,7 @@ use Rattle.run.specs.Widths.{fullWords, mostTiles}
 use Rattle.run.specs.State.{State, Columns, columns, shortOf, unfitCore}
 use Rattle.run.specs.Start.{Settings, startShort, startCause, begunCore, zeroState, Begun, begun, startAt, startOf}
 use Rattle.run.specs.Sheet.{figuresOf, sheetCause, sheetAt, coreSheetOf}
-use Rattle.run.specs.Calls.{Call, repliesOf, afterOf}
+use Rattle.run.specs.Calls.{Call, repliesOf, stateAfter}
 use Rattle.run.specs.Answers.{Answer}
 use Rattle.run.specs.Answers.Answer.{refused}
 use Rattle.run.specs.Scorer.{Lengths, Opening, Told, History, touchedCount, lapDone, startNumber, scores, keptOf}
@@ -142,7 +142,7 @@ module _ (b : Opening) (k : Lengths) (n : ℕ) (calls : List ℕ) (given : List 
   pub record Plain (j : ℕ) (c : CoursePoints) (l : Columns) (sa : StartAnswer) (s : State) : Type 0 where
     pub start : sa ≡ plainStart j (c .points) b
     pub answers : repliesOf fullWords mostTiles s (callsTo l calls given n) ≡ plainAnswers j (c .points) b ts
-    pub sheet : coreSheetOf mostTiles (afterOf fullWords mostTiles s (callsTo l calls given n) .core) ≡ plainSheet j c b ts
+    pub sheet : coreSheetOf mostTiles (stateAfter fullWords mostTiles s (callsTo l calls given n) .core) ≡ plainSheet j c b ts
 
   -- a refused start
   no-sheet : coreSheetOf mostTiles (zeroState fullWords .core) ≡ NoSheet 4
@@ -159,7 +159,7 @@ module _ (b : Opening) (k : Lengths) (n : ℕ) (calls : List ℕ) (given : List 
             ap (λ (x : State). repliesOf fullWords mostTiles x (callsTo l calls given n)) es ∙ zeros-stay fullWords mostTiles (callsTo l calls given n)
             ∙ ap (λ (x : ℕ). replicate x (refused 4)) (calls-many l calls given n ∙ sym (tolds-many k calls given n));
         sheet =
-            ap (λ (x : State). coreSheetOf mostTiles (afterOf fullWords mostTiles x (callsTo l calls given n) .core)) es
+            ap (λ (x : State). coreSheetOf mostTiles (stateAfter fullWords mostTiles x (callsTo l calls given n) .core)) es
             ∙ ap (λ (x : State). coreSheetOf mostTiles (x .core)) (zeros-after fullWords mostTiles (callsTo l calls given n)) ∙ no-sheet;
       }
 
@@ -252,7 +252,7 @@ module _ (b : Opening) (k : Lengths) (n : ℕ) (calls : List ℕ) (given : List 
                 ∙ replies-are fullWords mostTiles c room some fits o counted holds fallback (m .0) (History.begun b) first
                 ∙ ap (scores c (History.begun b)) (m .2);
             sheet =
-                ap₂ (λ (x : State) (y : List Call). coreSheetOf mostTiles (afterOf fullWords mostTiles x y .core)) es (sym (m .1))
+                ap₂ (λ (x : State) (y : List Call). coreSheetOf mostTiles (stateAfter fullWords mostTiles x y .core)) es (sym (m .1))
                 ∙ ap (λ (x : State). coreSheetOf mostTiles (x .core)) (after-is fullWords mostTiles c room some fits o counted holds fallback (m .0) (History.begun b) first)
                 ∙ figures (keptOf c (History.begun b) (toldsOf o (m .0)))
                 ∙ ap (λ (x : List Told). sheetOn c fallback (keptOf c (History.begun b) x)) (m .2);
@@ -320,7 +320,7 @@ module _ (seed : ℕ) (l : course.Lent) (b : Opening) (n : ℕ) (calls : List �
   pub replayed : (words : List ℕ) (numbers : List Float) (o : Outcome) (sa : StartAnswer) (s last : State) (sheet : SheetAnswer) (words′ : List ℕ) (numbers′ : List Float)
       → roomFor n calls given words numbers ≡ true → o ≡ layCall maxAttempts seed l → length (o .lent .tiles) ≡ length (l .tiles) → length (o .lent .offsets) ≡ length (l .offsets)
       → begun sa s ≡ startOf fullWords mostTiles (columnsOf o) (record { n = laidCountOf (o .answer); fallback = fallbackOf (o .answer); share = b .share; limit = b .limit; poses = b .poses })
-      → last ≡ afterOf fullWords mostTiles s (callsTo (columnsOf o) calls given n)
+      → last ≡ stateAfter fullWords mostTiles s (callsTo (columnsOf o) calls given n)
       → words′ ≡ allWords (repliesOf fullWords mostTiles s (callsTo (columnsOf o) calls given n)) ++ drop (answerWords * n) words
       → numbers′ ≡ allNumbers (repliesOf fullWords mostTiles s (callsTo (columnsOf o) calls given n)) ++ drop (answerNumbers * n) numbers
       → sheet ≡ coreSheetOf mostTiles (last .core)

@@ -28,7 +28,7 @@ use Rattle.run.specs.Drive.{driveCause, driveAt, coreDriveOf}
 use Rattle.run.specs.Settle.{settleCause, settleAt, settleOf}
 use Rattle.run.specs.Answers.{Answer}
 use Rattle.run.specs.Answers.Answer.{drove, settled, refused}
-use Rattle.run.specs.Calls.{Call, Replied, replyOf, repliesOf, afterOf}
+use Rattle.run.specs.Calls.{Call, Replied, replyOf, repliesOf, stateAfter}
 use Rattle.run.specs.Scorer.{Lengths, Opening, Told, History, opening, drives, settles, touchedCount, lapDone, over, ended, startNumber, score, scores, keptOf}
 use Rattle.run.specs.Scorer.History.{begun}
 use Rattle.run.specs.Certificate.{Lending, lentBy, lengthsOf, Given, callOf, toldOf, callsOf, toldsOf, newSum, endedBy, allOccur, Graded, startOn, Demand3, layNumber, Certificate}
@@ -54,10 +54,10 @@ zeros-stay m most (g ∷ gs) =
     ap (λ (r : Replied). r .answer ∷ repliesOf m most (r .state) gs) (zeros-refuse m most g)
     ∙ ap (λ (r : List Answer). refused 4 ∷ r) (zeros-stay m most gs)
 
-pub zeros-after : (m most : ℕ) (gs : List Call) → afterOf m most (zeroState m) gs ≡ zeroState m
-unfolding afterOf
+pub zeros-after : (m most : ℕ) (gs : List Call) → stateAfter m most (zeroState m) gs ≡ zeroState m
+unfolding stateAfter
 zeros-after m most [] = refl
-zeros-after m most (g ∷ gs) = ap (λ (r : Replied). afterOf m most (r .state) gs) (zeros-refuse m most g) ∙ zeros-after m most gs
+zeros-after m most (g ∷ gs) = ap (λ (r : Replied). stateAfter m most (r .state) gs) (zeros-refuse m most g) ∙ zeros-after m most gs
 
 -- ---- a course c that laying left in o: its n is answered, and what is lent of it, where no column is short, holds it
 module _ (m most : ℕ) (c : List TrackPoint) (room : most ≤ 64 * m) (some : 0 < length c) (fits : length c ≤ most) (o : Outcome)
@@ -85,11 +85,11 @@ module _ (m most : ℕ) (c : List TrackPoint) (room : most ≤ 64 * m) (some : 0
       ap (λ (r : Replied). r .answer ∷ repliesOf m most (r .state) (callsOf o cs)) (one-reply fb h v g)
       ∙ ap (λ (r : List Answer). score c h (toldOf o g) .answer ∷ r) (replies-are fb cs (score c h (toldOf o g) .kept) (kept-turn c h v (toldOf o g)))
 
-  pub after-is : (fb : Bool) (cs : List Given) (h : History) → InTurn h → afterOf m most (stateOf m most c room some fits fb h) (callsOf o cs) ≡ stateOf m most c room some fits fb (keptOf c h (toldsOf o cs))
-  unfolding afterOf keptOf
+  pub after-is : (fb : Bool) (cs : List Given) (h : History) → InTurn h → stateAfter m most (stateOf m most c room some fits fb h) (callsOf o cs) ≡ stateOf m most c room some fits fb (keptOf c h (toldsOf o cs))
+  unfolding stateAfter keptOf
   after-is fb [] h v = refl
   after-is fb (g ∷ cs) h v =
-      ap (λ (r : Replied). afterOf m most (r .state) (callsOf o cs)) (one-reply fb h v g)
+      ap (λ (r : Replied). stateAfter m most (r .state) (callsOf o cs)) (one-reply fb h v g)
       ∙ after-is fb cs (score c h (toldOf o g) .kept) (kept-turn c h v (toldOf o g))
 
   none-ended : (b : Opening) (r : List Answer) → endedBy false r ≡ endedBy (ended c (begun b)) r

@@ -19,3 +19,4 @@ pub mod LaidTouch
 pub mod LentColumns
 pub mod Certificate
 pub mod BatchLaws
+pub mod ReplayLaws

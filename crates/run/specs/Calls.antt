@@ -50,6 +50,6 @@ repliesOf m most s [] = []
 repliesOf m most s (c ∷ cs) = replyOf m most s c .answer ∷ repliesOf m most (replyOf m most s c .state) cs
 
 -- the state after them
-unfoldable pub afterOf : ℕ → ℕ → State → List Call → State
-afterOf m most s [] = s
-afterOf m most s (c ∷ cs) = afterOf m most (replyOf m most s c .state) cs
+unfoldable pub stateAfter : ℕ → ℕ → State → List Call → State
+stateAfter m most s [] = s
+stateAfter m most s (c ∷ cs) = stateAfter m most (replyOf m most s c .state) cs

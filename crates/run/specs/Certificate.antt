@@ -21,7 +21,7 @@ use Rattle.run.specs.State.{State, Columns, columns, shortOf}
 use Rattle.run.specs.Start.{Begun, startOf, startCauseOf, startCountOf}
 use Rattle.run.specs.Answers.{Answer}
 use Rattle.run.specs.Answers.Answer.{drove, settled, refused}
-use Rattle.run.specs.Calls.{Call, repliesOf, afterOf}
+use Rattle.run.specs.Calls.{Call, repliesOf, stateAfter}
 use Rattle.run.specs.Scorer.{Lengths, Opening, Told, History, settles, touchedCount, lapDone, over, ended, startNumber, scores, keptOf}
 use Rattle.run.specs.Scorer.History.{begun}
 use Rattle.run.specs.declared.state.Pose.{Pose}
@@ -108,10 +108,10 @@ pub record Graded (m most : ℕ) (c : List TrackPoint) (o : Outcome) (s : Begun)
   -- 10 and a settle's 6 do not occur
   pub occur : allOccur cs (repliesOf m most (s .state) (callsOf o cs)) ≡ true
   -- the returned state's count, tick, lap and ended
-  pub state-count : afterOf m most (s .state) (callsOf o cs) .core .«visited_count» ≡ touchedCount c (keptOf c (begun b) (toldsOf o cs))
-  pub state-tick : afterOf m most (s .state) (callsOf o cs) .core .tick ≡ settles (keptOf c (begun b) (toldsOf o cs))
-  pub state-lap : afterOf m most (s .state) (callsOf o cs) .core .lap ≡ lapDone c (keptOf c (begun b) (toldsOf o cs))
-  pub state-ended : afterOf m most (s .state) (callsOf o cs) .core .ended ≡ ended c (keptOf c (begun b) (toldsOf o cs))
+  pub state-count : stateAfter m most (s .state) (callsOf o cs) .core .«visited_count» ≡ touchedCount c (keptOf c (begun b) (toldsOf o cs))
+  pub state-tick : stateAfter m most (s .state) (callsOf o cs) .core .tick ≡ settles (keptOf c (begun b) (toldsOf o cs))
+  pub state-lap : stateAfter m most (s .state) (callsOf o cs) .core .lap ≡ lapDone c (keptOf c (begun b) (toldsOf o cs))
+  pub state-ended : stateAfter m most (s .state) (callsOf o cs) .core .ended ≡ ended c (keptOf c (begun b) (toldsOf o cs))
 
 -- the start with this opening and its n, as laying answered it
 abbrev pub startOn : ℕ → ℕ → Outcome → Lending → Bool → Opening → Begun

@@ -7,6 +7,7 @@ pub mod drive;
 pub mod dynamics;
 mod lap;
 pub mod quad;
+pub mod replay;
 pub mod reward;
 pub mod settle;
 pub mod sheet;

@@ -1,0 +1,28 @@
+-- `run::replay::poses` meets its contract. Assumes nothing.
+use Rattle.run.specs.Replay.{posesFrom}
+use borrow.Author.Needs.{needs}
+use Rattle.run.proofs.replay.poses.Statement.{statement}
+use Rattle.run.proofs.replay.poses.Tie as tie
+use Rattle.run.proofs.replay.poses.Reads as reads
+use Rattle.run.proofs.replay.poses.Lts as lts
+use Rattle.run.proofs.replay.pose.Reads as pose-reads
+
+pose-requires : tie.Need-pose-requires
+pose-requires c κs = search needs
+
+pose-requires-2 : tie.Need-pose-requires-2
+pose-requires-2 c κs = search needs
+
+pose-requires-3 : tie.Need-pose-requires-3
+pose-requires-3 c κs = search needs
+
+pose-requires-4 : tie.Need-pose-requires-4
+pose-requires-4 c κs = search needs
+
+returns : tie.Need-returns
+unfolding posesFrom
+returns c = search needs
+
+pub poses-spec : {M : Type 1} → statement M
+poses-spec =
+    tie.close (tie.spec pose-requires pose-requires-2 pose-requires-3 pose-requires-4 returns)
