@@ -5,11 +5,11 @@ use mathlib.Core.Path.{_≡_, refl, sym, ap, ap₂, _∙_, subst}
 use Prim.Native.Nat.{ℕ, zero, suc, _+_, _*_, _≤_, _<_, min}
 use native.Mathlib.Numerals.{add-one}
 use native.Mathlib.Omega.{arith}
-use lib.Dec.{ltb, eqb}
+use lib.Dec.{ltb, leb, eqb}
 use lib.ListN.{length, getD, take, drop, replicate, length-append, length-take, take-append-drop}
 use lib.Seq.{take-take, take-length}
 use lib.Ieee.{Float}
-use borrow.Author.Tests.{ltb-false}
+use borrow.Author.Tests.{ltb-false, leb-true}
 use Rattle.course.specs.Constants.{maxAttempts}
 use Rattle.course.specs.Lengths.{mostNumbers, offsetCount, mostPoints}
 use Rattle.course.specs.Course.{cellsOf}
@@ -19,6 +19,7 @@ use Rattle.course.specs.Lay.{CoursePoints, courseOf, layCall}
 use Rattle.course.specs.declared.tiles.TrackPoint.{TrackPoint}
 use Rattle.course.specs.declared.points.Laid.{Laid}
 use Rattle.course.specs.declared.points.Laid.the-variants.{Course as Made, Short, Refused as NotLaid}
+use Rattle.course.proofs.IndexLaws.{and-left, and-right}
 use Rattle.course.proofs.CourseSizes.{course-sized}
 use Rattle.course.proofs.LayLaws.{roomy, lay-cause, lay-course}
 use Rattle.run.specs.Arguments.{settingsOk, shortColumns, posesOk}
@@ -317,17 +318,19 @@ module _ (seed : ℕ) (l : course.Lent) (b : Opening) (n : ℕ) (calls : List �
       (no-count (o .answer) j (ap (λ (x : Outcome). laidCauseOf (x .answer)) eo ∙ lays seed l ∙ q)))
 
   -- all that it leaves, where the columns of calls and answers are long enough
-  pub replayed : (words : List ℕ) (numbers : List Float) (o : Outcome) (sa : StartAnswer) (s last : State) (sheet : SheetAnswer) (words′ : List ℕ) (numbers′ : List Float)
-      → roomFor n calls given words numbers ≡ true → o ≡ layCall maxAttempts seed l → length (o .lent .tiles) ≡ length (l .tiles) → length (o .lent .offsets) ≡ length (l .offsets)
-      → begun sa s ≡ startOf fullWords mostTiles (columnsOf o) (record { n = laidCountOf (o .answer); fallback = fallbackOf (o .answer); share = b .share; limit = b .limit; poses = b .poses })
+  pub replayed : (words : List ℕ) (numbers : List Float) (o : Outcome) (many : ℕ) (fb : Bool) (sa : StartAnswer) (s last : State) (sheet : SheetAnswer) (words′ : List ℕ) (numbers′ : List Float)
+      → roomFor n (length calls) (length given) (length words) (length numbers) ≡ true → o ≡ layCall maxAttempts seed l → length (o .lent .tiles) ≡ length (l .tiles) → length (o .lent .offsets) ≡ length (l .offsets)
+      → many ≡ laidCountOf (o .answer) → fb ≡ fallbackOf (o .answer)
+      → begun sa s ≡ startOf fullWords mostTiles (columnsOf o) (record { n = many; fallback = fb; share = b .share; limit = b .limit; poses = b .poses })
       → last ≡ stateAfter fullWords mostTiles s (callsTo (columnsOf o) calls given n)
       → words′ ≡ allWords (repliesOf fullWords mostTiles s (callsTo (columnsOf o) calls given n)) ++ drop (answerWords * n) words
       → numbers′ ≡ allNumbers (repliesOf fullWords mostTiles s (callsTo (columnsOf o) calls given n)) ++ drop (answerNumbers * n) numbers
       → sheet ≡ coreSheetOf mostTiles (last .core)
       → record { laid = o .answer; start = sa; sheet = sheet; lent = o .lent; words = words′; numbers = numbers′ } ≡ replayOf seed l b n calls given words numbers
   unfolding replayOf replayOn
-  replayed words numbers o sa s last sheet words′ numbers′ room eo et ef es el ew en eh =
-      let p = replay-plain (layNumber seed l) refl o eo et ef sa s es in
+  replayed words numbers o many fb sa s last sheet words′ numbers′ room eo et ef em eb es el ew en eh =
+      let p = replay-plain (layNumber seed l) refl o eo et ef sa s
+      (es ∙ (λ i. startOf fullWords mostTiles (columnsOf o) (record { n = em i; fallback = eb i; share = b .share; limit = b .limit; poses = b .poses }))) in
       rw room (λ i.
       record {
         laid = eo i .answer;
@@ -339,7 +342,26 @@ module _ (seed : ℕ) (l : course.Lent) (b : Opening) (n : ℕ) (calls : List �
       })
 
   -- a column of calls or answers is short
-  pub short-replay : (words : List ℕ) (numbers : List Float) → roomFor n calls given words numbers ≡ false
+  pub short-replay : (words : List ℕ) (numbers : List Float) → roomFor n (length calls) (length given) (length words) (length numbers) ≡ false
       → record { laid = NotLaid 2; start = NotStarted 2; sheet = NoSheet 4; lent = l; words = words; numbers = numbers } ≡ replayOf seed l b n calls given words numbers
   unfolding replayOf
   short-replay words numbers e = rw e
+
+-- room for n calls, column by column
+pub record Room (n c g w v : ℕ) : Type 0 where
+  pub calls : callWords * n ≤ c
+  pub given : callNumbers * n ≤ g
+  pub words : answerWords * n ≤ w
+  pub numbers : answerNumbers * n ≤ v
+
+pub room-each : (n calls given words numbers : ℕ) → roomFor n calls given words numbers ≡ true → Room n calls given words numbers
+unfolding roomFor
+room-each n calls given words numbers e =
+    let p = and-right (leb (callWords * n) calls) (leb (callNumbers * n) given && (leb (answerWords * n) words && leb (answerNumbers * n) numbers)) e in
+    let q = and-right (leb (callNumbers * n) given) (leb (answerWords * n) words && leb (answerNumbers * n) numbers) p in
+    record {
+      calls = leb-true _ _ (and-left (leb (callWords * n) calls) (leb (callNumbers * n) given && (leb (answerWords * n) words && leb (answerNumbers * n) numbers)) e);
+      given = leb-true _ _ (and-left (leb (callNumbers * n) given) (leb (answerWords * n) words && leb (answerNumbers * n) numbers) p);
+      words = leb-true _ _ (and-left (leb (answerWords * n) words) (leb (answerNumbers * n) numbers) q);
+      numbers = leb-true _ _ (and-right (leb (answerWords * n) words) (leb (answerNumbers * n) numbers) q);
+    }

@@ -81,6 +81,9 @@ pub record Replay : Type 0 where
   pub words : List ℕ
   pub numbers : List Float
 
+abbrev pub replay : Laid → StartAnswer → SheetAnswer → Lent → List ℕ → List Float → Replay
+replay laid start sheet l words numbers = record { laid = laid; start = start; sheet = sheet; lent = l; words = words; numbers = numbers }
+
 -- on the course c, with start's cause k and n calls
 unfoldable pub replayOn : Lent → ℕ → CoursePoints → ℕ → Opening → ℕ → List Told → List ℕ → List Float → Replay
 replayOn l seed c k b n ts words numbers =
@@ -93,17 +96,16 @@ replayOn l seed c k b n ts words numbers =
       numbers = allNumbers (plainAnswers k (c .points) b ts) ++ drop (answerNumbers * n) numbers;
     }
 
--- the columns of calls and answers have n calls' lengths
-unfoldable pub roomFor : ℕ → List ℕ → List Float → List ℕ → List Float → Bool
+-- the columns of calls and answers, by their lengths, have room for n calls
+unfoldable pub roomFor : ℕ → ℕ → ℕ → ℕ → ℕ → Bool
 roomFor n calls given words numbers =
-    leb (callWords * n) (length calls)
-    && (leb (callNumbers * n) (length given) && (leb (answerWords * n) (length words) && leb (answerNumbers * n) (length numbers)))
+    leb (callWords * n) calls && (leb (callNumbers * n) given && (leb (answerWords * n) words && leb (answerNumbers * n) numbers))
 
 -- 2 where a column of calls or answers is short: nothing is laid, started or written
 unfoldable pub replayOf : ℕ → Lent → Opening → ℕ → List ℕ → List Float → List ℕ → List Float → Replay
 replayOf seed l b n calls given words numbers =
     let k : Lengths = record { tiles = length (l .tiles); offsets = length (l .offsets) } in
     let c = laidCourse (layNumber seed l) seed in
-    cond (roomFor n calls given words numbers)
+    cond (roomFor n (length calls) (length given) (length words) (length numbers))
     (replayOn l seed c (startNumber (c .points) mostTiles k b) b n (toldsTo k calls given n) words numbers)
     (record { laid = NotLaid 2; start = NotStarted 2; sheet = NoSheet 4; lent = l; words = words; numbers = numbers })

@@ -12,7 +12,7 @@ use Rattle.run.proofs.replay.reply.Reads as reads
 use Rattle.run.proofs.replay.reply.Lts as lts
 use Rattle.run.proofs.replay.reply_drive.Reads as reply-drive-reads
 use Rattle.run.proofs.replay.reply_settle.Reads as reply-settle-reads
-use Rattle.run.proofs.replay.upto.Reads as upto-reads
+use Rattle.run.proofs.call.upto.Reads as upto-reads
 
 shared-slice-read-if1 : tie.Need-shared-slice-read-if1
 shared-slice-read-if1 c = search needs
@@ -33,7 +33,7 @@ returns : tie.Need-returns
 returns c =
     let s = c .before .before .before .before .before .before .before .before .before .before .before .before .before .before .before .before .before in
     let d = c .before .before .before .before .reply-drive in
-    answered-as-drive fullWords mostTiles (view (s .args .run)) (columns (s .args .tiles .now) (s .args .offsets .now) (s .args .list .now)) (s .args .call .now) (s .args .given .now) (view (d .result)) _ _ (eq-eqb _ 0 (c .before .before .before .before .before .before .before .before .if1 .taken)) (d .ensures)
+    answered-as-drive fullWords mostTiles (view (s .args .run)) (columns (s .args .tiles .now) (s .args .offsets .now) (s .args .list .now)) (s .args .asked .now) (s .args .given .now) (view (d .result)) _ _ (eq-eqb _ 0 (c .before .before .before .before .before .before .before .before .if1 .taken)) (d .ensures)
 
 shared-slice-read-upto : tie.Need-shared-slice-read-upto
 shared-slice-read-upto c = search needs
@@ -68,7 +68,7 @@ returns-2 c =
     let d = c .before .before .before .before .reply-settle in
     let a = c .before .before .before .before .before .before .before .before .before .before .before .upto in
     let b = c .before .before .before .before .before .before .before .before .before .upto2 in
-    answered-as-settle fullWords mostTiles (view (s .args .run)) (columns (s .args .tiles .now) (s .args .offsets .now) (s .args .list .now)) (s .args .call .now) (s .args .given .now) (view (d .result)) _ _ (a .result) (b .result) (ne-eqb _ 0 (c .before .before .before .before .before .before .before .before .before .before .before .before .before .if1 .left)) (a .ensures .0) (b .ensures .0) (d .ensures)
+    answered-as-settle fullWords mostTiles (view (s .args .run)) (columns (s .args .tiles .now) (s .args .offsets .now) (s .args .list .now)) (s .args .asked .now) (s .args .given .now) (view (d .result)) _ _ (a .result) (b .result) (ne-eqb _ 0 (c .before .before .before .before .before .before .before .before .before .before .before .before .before .if1 .left)) (a .ensures .0) (b .ensures .0) (d .ensures)
 
 pub reply-spec : {M : Type 1} → statement M
 reply-spec =

@@ -7,8 +7,8 @@ use Rattle.run.proofs.replay.reply_drive.Tie as tie
 use Rattle.run.proofs.replay.reply_drive.Reads as reads
 use Rattle.run.proofs.replay.reply_drive.Lts as lts
 use Rattle.run.proofs.drive.drive.Reads as drive-reads
-use Rattle.run.proofs.replay.motions.Reads as motions-reads
-use Rattle.run.proofs.replay.put_drive.Reads as put-drive-reads
+use Rattle.run.proofs.call.motions.Reads as motions-reads
+use Rattle.run.proofs.answer.put_drive.Reads as put-drive-reads
 
 motions-requires : tie.Need-motions-requires
 motions-requires c κs = search needs

@@ -7,8 +7,8 @@ use Rattle.run.proofs.replay.reply_settle.Statement.{statement}
 use Rattle.run.proofs.replay.reply_settle.Tie as tie
 use Rattle.run.proofs.replay.reply_settle.Reads as reads
 use Rattle.run.proofs.replay.reply_settle.Lts as lts
-use Rattle.run.proofs.replay.poses.Reads as poses-reads
-use Rattle.run.proofs.replay.put_settle.Reads as put-settle-reads
+use Rattle.run.proofs.call.poses.Reads as poses-reads
+use Rattle.run.proofs.answer.put_settle.Reads as put-settle-reads
 use Rattle.run.proofs.settle.settle.Reads as settle-reads
 
 shared-slice-read-settle : tie.Need-shared-slice-read-settle

@@ -1,11 +1,11 @@
--- `run::replay::motion` meets its contract. Assumes nothing.
+-- `run::call::pose` meets its contract. Assumes nothing.
 use mathlib.Core.Path.{refl}
-use Rattle.run.specs.Replay.{motionFrom}
+use Rattle.run.specs.Replay.{poseFrom}
 use borrow.Author.Needs.{needs}
-use Rattle.run.proofs.replay.motion.Statement.{statement}
-use Rattle.run.proofs.replay.motion.Tie as tie
-use Rattle.run.proofs.replay.motion.Reads as reads
-use Rattle.run.proofs.replay.motion.Lts as lts
+use Rattle.run.proofs.call.pose.Statement.{statement}
+use Rattle.run.proofs.call.pose.Tie as tie
+use Rattle.run.proofs.call.pose.Reads as reads
+use Rattle.run.proofs.call.pose.Lts as lts
 
 mul-t3 : tie.Need-mul-t3
 mul-t3 c = search needs
@@ -40,21 +40,12 @@ mul-t15 c = search needs
 shared-slice-read-t17 : tie.Need-shared-slice-read-t17
 shared-slice-read-t17 c = search needs
 
-add-t18 : tie.Need-add-t18
-add-t18 c = search needs
-
-mul-t19 : tie.Need-mul-t19
-mul-t19 c = search needs
-
-shared-slice-read-t21 : tie.Need-shared-slice-read-t21
-shared-slice-read-t21 c = search needs
-
 returns : tie.Need-returns
-unfolding motionFrom
+unfolding poseFrom
 returns c = refl
 
-pub motion-spec : {M : Type 1} → statement M
-motion-spec =
+pub pose-spec : {M : Type 1} → statement M
+pose-spec =
     tie.close
     (tie.spec
     mul-t3
@@ -68,7 +59,4 @@ motion-spec =
     add-t14
     mul-t15
     shared-slice-read-t17
-    add-t18
-    mul-t19
-    shared-slice-read-t21
     returns)

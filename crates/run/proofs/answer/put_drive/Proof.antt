@@ -1,13 +1,13 @@
--- `run::replay::put_drive` meets its contract. Assumes nothing.
+-- `run::answer::put_drive` meets its contract. Assumes nothing.
 use Rattle.run.proofs.ReplayLaws.{written-forces, written-not-driven}
 use borrow.Author.Needs.{needs}
-use Rattle.run.proofs.replay.put_drive.Statement.{statement}
-use Rattle.run.proofs.replay.put_drive.Tie as tie
-use Rattle.run.proofs.replay.put_drive.Reads as reads
-use Rattle.run.proofs.replay.put_drive.Lts as lts
-use Rattle.run.proofs.replay.put_forces.Reads as put-forces-reads
-use Rattle.run.proofs.replay.put_words.Reads as put-words-reads
-use Rattle.run.proofs.replay.put_zeros.Reads as put-zeros-reads
+use Rattle.run.proofs.answer.put_drive.Statement.{statement}
+use Rattle.run.proofs.answer.put_drive.Tie as tie
+use Rattle.run.proofs.answer.put_drive.Reads as reads
+use Rattle.run.proofs.answer.put_drive.Lts as lts
+use Rattle.run.proofs.answer.put_forces.Reads as put-forces-reads
+use Rattle.run.proofs.answer.put_words.Reads as put-words-reads
+use Rattle.run.proofs.answer.put_zeros.Reads as put-zeros-reads
 
 enum-told : tie.Need-enum-told
 enum-told c = search needs

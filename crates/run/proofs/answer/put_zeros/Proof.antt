@@ -1,12 +1,12 @@
--- `run::replay::put_zeros` meets its contract. Assumes nothing.
+-- `run::answer::put_zeros` meets its contract. Assumes nothing.
 use mathlib.Core.Path.{_∙_}
 use Rattle.run.proofs.ReplayLaws.{no-numbers}
 use borrow.Author.Needs.{needs}
-use Rattle.run.proofs.replay.put_zeros.Statement.{statement}
-use Rattle.run.proofs.replay.put_zeros.Tie as tie
-use Rattle.run.proofs.replay.put_zeros.Reads as reads
-use Rattle.run.proofs.replay.put_zeros.Lts as lts
-use Rattle.run.proofs.replay.put_forces.Reads as put-forces-reads
+use Rattle.run.proofs.answer.put_zeros.Statement.{statement}
+use Rattle.run.proofs.answer.put_zeros.Tie as tie
+use Rattle.run.proofs.answer.put_zeros.Reads as reads
+use Rattle.run.proofs.answer.put_zeros.Lts as lts
+use Rattle.run.proofs.answer.put_forces.Reads as put-forces-reads
 
 put-forces-requires : tie.Need-put-forces-requires
 put-forces-requires c κs = search needs

@@ -1,13 +1,13 @@
--- `run::replay::put_settle` meets its contract. Assumes nothing.
+-- `run::answer::put_settle` meets its contract. Assumes nothing.
 use Rattle.run.proofs.ReplayLaws.{written-settled, written-not-settled}
 use borrow.Author.Needs.{needs}
-use Rattle.run.proofs.replay.put_settle.Statement.{statement}
-use Rattle.run.proofs.replay.put_settle.Tie as tie
-use Rattle.run.proofs.replay.put_settle.Reads as reads
-use Rattle.run.proofs.replay.put_settle.Lts as lts
-use Rattle.run.proofs.replay.flags.Reads as flags-reads
-use Rattle.run.proofs.replay.put_words.Reads as put-words-reads
-use Rattle.run.proofs.replay.put_zeros.Reads as put-zeros-reads
+use Rattle.run.proofs.answer.put_settle.Statement.{statement}
+use Rattle.run.proofs.answer.put_settle.Tie as tie
+use Rattle.run.proofs.answer.put_settle.Reads as reads
+use Rattle.run.proofs.answer.put_settle.Lts as lts
+use Rattle.run.proofs.answer.flags.Reads as flags-reads
+use Rattle.run.proofs.answer.put_words.Reads as put-words-reads
+use Rattle.run.proofs.answer.put_zeros.Reads as put-zeros-reads
 
 put-zeros-requires : tie.Need-put-zeros-requires
 put-zeros-requires c κs = search needs

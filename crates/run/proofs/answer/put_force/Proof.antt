@@ -1,11 +1,11 @@
--- `run::replay::put_force` meets its contract. Assumes nothing.
+-- `run::answer::put_force` meets its contract. Assumes nothing.
 use lib.ListN.{length-set}
 use native.Mathlib.Omega.{arith}
 use borrow.Author.Needs.{needs}
-use Rattle.run.proofs.replay.put_force.Statement.{statement}
-use Rattle.run.proofs.replay.put_force.Tie as tie
-use Rattle.run.proofs.replay.put_force.Reads as reads
-use Rattle.run.proofs.replay.put_force.Lts as lts
+use Rattle.run.proofs.answer.put_force.Statement.{statement}
+use Rattle.run.proofs.answer.put_force.Tie as tie
+use Rattle.run.proofs.answer.put_force.Reads as reads
+use Rattle.run.proofs.answer.put_force.Lts as lts
 
 mul-numbers : tie.Need-mul-numbers
 mul-numbers c = search needs

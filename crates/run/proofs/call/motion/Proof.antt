@@ -1,11 +1,11 @@
--- `run::replay::pose` meets its contract. Assumes nothing.
+-- `run::call::motion` meets its contract. Assumes nothing.
 use mathlib.Core.Path.{refl}
-use Rattle.run.specs.Replay.{poseFrom}
+use Rattle.run.specs.Replay.{motionFrom}
 use borrow.Author.Needs.{needs}
-use Rattle.run.proofs.replay.pose.Statement.{statement}
-use Rattle.run.proofs.replay.pose.Tie as tie
-use Rattle.run.proofs.replay.pose.Reads as reads
-use Rattle.run.proofs.replay.pose.Lts as lts
+use Rattle.run.proofs.call.motion.Statement.{statement}
+use Rattle.run.proofs.call.motion.Tie as tie
+use Rattle.run.proofs.call.motion.Reads as reads
+use Rattle.run.proofs.call.motion.Lts as lts
 
 mul-t3 : tie.Need-mul-t3
 mul-t3 c = search needs
@@ -40,12 +40,21 @@ mul-t15 c = search needs
 shared-slice-read-t17 : tie.Need-shared-slice-read-t17
 shared-slice-read-t17 c = search needs
 
+add-t18 : tie.Need-add-t18
+add-t18 c = search needs
+
+mul-t19 : tie.Need-mul-t19
+mul-t19 c = search needs
+
+shared-slice-read-t21 : tie.Need-shared-slice-read-t21
+shared-slice-read-t21 c = search needs
+
 returns : tie.Need-returns
-unfolding poseFrom
+unfolding motionFrom
 returns c = refl
 
-pub pose-spec : {M : Type 1} → statement M
-pose-spec =
+pub motion-spec : {M : Type 1} → statement M
+motion-spec =
     tie.close
     (tie.spec
     mul-t3
@@ -59,4 +68,7 @@ pose-spec =
     add-t14
     mul-t15
     shared-slice-read-t17
+    add-t18
+    mul-t19
+    shared-slice-read-t21
     returns)

@@ -1,13 +1,13 @@
--- `run::replay::put_forces` meets its contract. Assumes nothing.
+-- `run::answer::put_forces` meets its contract. Assumes nothing.
 use mathlib.Core.Path.{_≡_}
 use lib.ListN.{length}
 use Rattle.run.proofs.ReplayLaws.{all-forces}
 use borrow.Author.Needs.{needs}
-use Rattle.run.proofs.replay.put_forces.Statement.{statement}
-use Rattle.run.proofs.replay.put_forces.Tie as tie
-use Rattle.run.proofs.replay.put_forces.Reads as reads
-use Rattle.run.proofs.replay.put_forces.Lts as lts
-use Rattle.run.proofs.replay.put_force.Reads as put-force-reads
+use Rattle.run.proofs.answer.put_forces.Statement.{statement}
+use Rattle.run.proofs.answer.put_forces.Tie as tie
+use Rattle.run.proofs.answer.put_forces.Reads as reads
+use Rattle.run.proofs.answer.put_forces.Lts as lts
+use Rattle.run.proofs.answer.put_force.Reads as put-force-reads
 
 array-copy-out-put-force : tie.Need-array-copy-out-put-force
 array-copy-out-put-force c = search needs

@@ -1,11 +1,11 @@
--- `run::replay::put_words` meets its contract. Assumes nothing.
+-- `run::answer::put_words` meets its contract. Assumes nothing.
 use mathlib.Core.List.{[], _∷_}
 use Rattle.run.proofs.ReplayLaws.{written-over}
 use borrow.Author.Needs.{needs}
-use Rattle.run.proofs.replay.put_words.Statement.{statement}
-use Rattle.run.proofs.replay.put_words.Tie as tie
-use Rattle.run.proofs.replay.put_words.Reads as reads
-use Rattle.run.proofs.replay.put_words.Lts as lts
+use Rattle.run.proofs.answer.put_words.Statement.{statement}
+use Rattle.run.proofs.answer.put_words.Tie as tie
+use Rattle.run.proofs.answer.put_words.Reads as reads
+use Rattle.run.proofs.answer.put_words.Lts as lts
 
 slice-write-words : tie.Need-slice-write-words
 slice-write-words c = search needs

@@ -1,11 +1,11 @@
--- `run::replay::poses` meets its contract. Assumes nothing.
+-- `run::call::poses` meets its contract. Assumes nothing.
 use Rattle.run.specs.Replay.{posesFrom}
 use borrow.Author.Needs.{needs}
-use Rattle.run.proofs.replay.poses.Statement.{statement}
-use Rattle.run.proofs.replay.poses.Tie as tie
-use Rattle.run.proofs.replay.poses.Reads as reads
-use Rattle.run.proofs.replay.poses.Lts as lts
-use Rattle.run.proofs.replay.pose.Reads as pose-reads
+use Rattle.run.proofs.call.poses.Statement.{statement}
+use Rattle.run.proofs.call.poses.Tie as tie
+use Rattle.run.proofs.call.poses.Reads as reads
+use Rattle.run.proofs.call.poses.Lts as lts
+use Rattle.run.proofs.call.pose.Reads as pose-reads
 
 pose-requires : tie.Need-pose-requires
 pose-requires c κs = search needs

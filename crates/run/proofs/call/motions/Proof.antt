@@ -1,11 +1,11 @@
--- `run::replay::motions` meets its contract. Assumes nothing.
+-- `run::call::motions` meets its contract. Assumes nothing.
 use Rattle.run.specs.Replay.{motionsFrom}
 use borrow.Author.Needs.{needs}
-use Rattle.run.proofs.replay.motions.Statement.{statement}
-use Rattle.run.proofs.replay.motions.Tie as tie
-use Rattle.run.proofs.replay.motions.Reads as reads
-use Rattle.run.proofs.replay.motions.Lts as lts
-use Rattle.run.proofs.replay.motion.Reads as motion-reads
+use Rattle.run.proofs.call.motions.Statement.{statement}
+use Rattle.run.proofs.call.motions.Tie as tie
+use Rattle.run.proofs.call.motions.Reads as reads
+use Rattle.run.proofs.call.motions.Lts as lts
+use Rattle.run.proofs.call.motion.Reads as motion-reads
 
 motion-requires : tie.Need-motion-requires
 motion-requires c κs = search needs
