@@ -29,11 +29,11 @@ use Rattle.run.specs.Certificate.Lending.{laid}
 -- ---- lengths of a course's columns
 
 -- the tiles have room
-tiles-few : (c : List TrackPoint) → length c ≤ mostPoints → length (tilesOf c) ≤ mostNumbers
+pub tiles-few : (c : List TrackPoint) → length c ≤ mostPoints → length (tilesOf c) ≤ mostNumbers
 tiles-few c h = omega (arith, tiles-long c (length c), h)
 
 -- an offset for each cell, and the list's end
-offsets-long : (c : List TrackPoint) → length (fromPoints c .offsets) ≡ offsetCount
+pub offsets-long : (c : List TrackPoint) → length (fromPoints c .offsets) ≡ offsetCount
 unfolding fromPoints
 offsets-long c = table-length (start (holdsOf (tilesOf c)) (length c)) (cellCount + 1)
 
@@ -43,7 +43,7 @@ unfolding fromPoints cellsOf
 list-long c = index-length (holdsOf (tilesOf c)) (length c) cellCount ∙ sym (needed-start (tilesOf c) (length c))
 
 -- a course's own numbers and the zeros behind them are m
-own-long : (m : ℕ) (own : List Float) → length own ≤ m → length (own ++ replicate (m - length own) nought) ≡ m
+pub own-long : (m : ℕ) (own : List Float) → length own ≤ m → length (own ++ replicate (m - length own) nought) ≡ m
 own-long m own h = omega (arith, length-append own (replicate (m - length own) nought), length-replicate (m - length own) nought, h)
 
 -- the first m entries of a filled column, with anything beyond them

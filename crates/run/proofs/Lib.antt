@@ -20,3 +20,4 @@ pub mod LentColumns
 pub mod Certificate
 pub mod BatchLaws
 pub mod ReplayLaws
+pub mod Worked
