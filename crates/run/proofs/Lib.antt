@@ -21,3 +21,4 @@ pub mod Certificate
 pub mod BatchLaws
 pub mod ReplayLaws
 pub mod Worked
+pub mod ReadBack

@@ -1,7 +1,7 @@
 -- The batch grader's columns: how a call stands in four words and twenty numbers, and its answer in four words and twelve numbers. Assumes nothing.
 use mathlib.Core.Bool.{Bool, true, false, cond}
 use mathlib.Core.List.{List, [], _∷_, _++_}
-use Prim.Native.Nat.{ℕ, zero, suc, _+_, _*_}
+use Prim.Native.Nat.{ℕ, zero, suc, _+_, _*_, _/_, _%_}
 use lib.Dec.{eqb}
 use lib.ListN.{getD, take, drop, replicate}
 use lib.Ieee.{Float, nan}
@@ -92,3 +92,20 @@ allWords (a ∷ rest) = wordsOf a ++ allWords rest
 unfoldable pub allNumbers : List Answer → List Float
 allNumbers [] = []
 allNumbers (a ∷ rest) = numbersOf a ++ allNumbers rest
+
+-- ---- and back: what the words and numbers say
+
+unfoldable pub forceFrom : List Float → ℕ → Force
+forceFrom ns i = record { motor = numberAt ns i; fx = numberAt ns (i + 1); fy = numberAt ns (i + 2) }
+
+-- the answer that four words and twelve numbers hold
+unfoldable pub answerFrom : List ℕ → List Float → Answer
+answerFrom ws ns =
+    cond (eqb (getD ws 0 0) 0) (drove (forceFrom ns 0 ∷ forceFrom ns 3 ∷ forceFrom ns 6 ∷ forceFrom ns 9 ∷ []))
+    (cond (eqb (getD ws 0 0) 1) (settled (getD ws 1 0) (getD ws 2 0) (eqb (getD ws 3 0 % 2) 1) (eqb (getD ws 3 0 / 2 % 2) 1) (eqb (getD ws 3 0 / 4) 1))
+    (refused (getD ws 1 0)))
+
+-- the first n answers of two columns
+unfoldable pub answersFrom : ℕ → List ℕ → List Float → List Answer
+answersFrom zero ws ns = []
+answersFrom (suc n) ws ns = answerFrom (take answerWords ws) (take answerNumbers ns) ∷ answersFrom n (drop answerWords ws) (drop answerNumbers ns)
