@@ -10,11 +10,14 @@
 //! In whole runs the Rust also goes its own way, from the start on, and must come to the same state at every tick.
 //!
 //! Random values come from the reference's SplitMix64 at a fixed seed, so the files come out the same each time.
+#[path = "shared/blocks.rs"]
+mod blocks;
 #[path = "shared/car.rs"]
 mod car;
 #[path = "shared/lent.rs"]
 mod lent;
 
+use blocks::{append, save};
 use car::{beyond, bits, car, five, near, near_car, numbers, pick, road_motion, step, FAR, MOST, P};
 use lent::{between, hash, put};
 use oracle::oracle::{default_weights, overlap, probe, reward, Run, Tile, Track, TrackPoint};
@@ -40,10 +43,6 @@ const BRAKED: u64 = 14;
 const QUAD: u64 = 15;
 const CELLS: u64 = 16;
 const WEIGHTS: u64 = 17;
-
-/// The list goes in blocks of so many bytes, at most so many of them. No record stands in two: zeros fill a block up.
-const BLOCK: usize = 262_144;
-const BLOCKS: usize = 16;
 
 /// The lengths of the program's tiles, offsets and index list; document 01's of the first two.
 const LONG: [usize; 3] = [20_100, 4_600, 60_000];
@@ -185,11 +184,7 @@ impl Replay {
     }
     fn ask(&mut self, code: u64, arguments: impl IntoIterator<Item = u64>) {
         self.tally.records[code as usize] += 1;
-        let record: Vec<u8> = [code].into_iter().chain(arguments).flat_map(u64::to_le_bytes).collect();
-        if self.list.len() % BLOCK + record.len() > BLOCK {
-            self.list.resize(self.list.len().next_multiple_of(BLOCK), 0);
-        }
-        self.list.extend(record);
+        append(&mut self.list, [code].into_iter().chain(arguments));
     }
     fn whole(&mut self, n: impl Into<u64>) {
         writeln!(self.lines, "{}", n.into()).unwrap();
@@ -1243,7 +1238,6 @@ fn main() {
     // An unknown code ends a block: the record behind it has no answer.
     r.ask(0, []);
     r.list.extend([SHEET, SHEET].iter().flat_map(|w| w.to_le_bytes()));
-    assert!(r.list.len() <= BLOCK * BLOCKS, "{} bytes do not fit the program's blocks", r.list.len());
     let names = [
         "", "course", "tile", "offset", "id", "core", "credited", "wheels", "start", "drive", "settle", "sheet",
         "reward", "overlap", "braked", "quad", "cells", "weights",
@@ -1255,6 +1249,6 @@ fn main() {
     eprintln!("refused, by cause from 0: start, drive, settle, sheet {:?}", r.tally.refused);
     eprintln!("settles that ended a run: by lap {}, off {}, all {}", r.tally.laps, r.tally.offs, r.tally.all);
     eprintln!("ticks of whole runs: {:?}", r.tally.ticks);
-    std::fs::write(&path, &r.list).expect("the list could not be written");
+    save(&r.list, &path);
     print!("{}", r.lines);
 }

@@ -8,7 +8,7 @@ pub const STATED: [usize; 6] = [2_500, 2_500, 2_500, 2_500, 20_000, 4_490];
 
 /// What stands in each place of a lent column before a call.
 pub const UNTOUCHED: f64 = 1e7;
-const UNTOUCHED_ID: u32 = 4_000_000_000;
+pub const UNTOUCHED_ID: u32 = 4_000_000_000;
 
 fn mix(h: u64, w: u64) -> u64 {
     (h ^ w).wrapping_mul(0x100_0000_01B3) ^ (h >> 29)
