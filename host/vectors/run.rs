@@ -16,15 +16,18 @@ mod blocks;
 mod car;
 #[path = "shared/lent.rs"]
 mod lent;
+#[path = "shared/model.rs"]
+mod model;
 
 use blocks::{append, save};
 use car::{beyond, bits, car, five, near, near_car, numbers, pick, road_motion, step, FAR, MOST, P};
-use lent::{between, hash, put};
-use oracle::oracle::{default_weights, overlap, probe, reward, Run, Tile, Track, TrackPoint};
+use lent::{between, hash};
+use model::{box_cells, Begin, Model, State, STATED};
+use oracle::oracle::{default_weights, overlap, probe, reward, Run, Track, TrackPoint};
 use oracle::{Motion, Pose, Push};
 use reinfors_core::{Rng, SplitMix64};
 use std::fmt::Write;
-use std::sync::Arc;
+use std::ops::{Deref, DerefMut};
 
 const COURSE: u64 = 1;
 const TILE: u64 = 2;
@@ -44,100 +47,8 @@ const QUAD: u64 = 15;
 const CELLS: u64 = 16;
 const WEIGHTS: u64 = 17;
 
-/// The lengths of the program's tiles, offsets and index list; document 01's of the first two.
+/// The lengths of the program's tiles, offsets and index list.
 const LONG: [usize; 3] = [20_100, 4_600, 60_000];
-const STATED: [usize; 2] = [20_000, 4_490];
-
-#[derive(Clone)]
-struct State {
-    n: u32,
-    count: u32,
-    tick: u32,
-    limit: u32,
-    share: f64,
-    lap: bool,
-    ended: bool,
-    fallback: bool,
-    driven: bool,
-    /// Gas, brake, steer, omega and phase of each wheel.
-    ctl: [[f64; 5]; 4],
-    fuel: f64,
-    credited: [u64; 40],
-    wheels: [u64; 160],
-}
-
-impl State {
-    fn zero() -> State {
-        State {
-            n: 0,
-            count: 0,
-            tick: 0,
-            limit: 0,
-            share: 0.0,
-            lap: false,
-            ended: false,
-            fallback: false,
-            driven: false,
-            ctl: [[0.0; 5]; 4],
-            fuel: 0.0,
-            credited: [0; 40],
-            wheels: [0; 160],
-        }
-    }
-    fn flags(&self) -> [bool; 4] {
-        [self.lap, self.ended, self.fallback, self.driven]
-    }
-    fn hash(&self) -> u64 {
-        let counts = [self.n, self.count, self.tick, self.limit].map(u64::from);
-        let controls = self.ctl.iter().flatten().map(|&x| bits(x));
-        let front = counts.into_iter().chain([bits(self.share)]).chain(self.flags().map(u64::from));
-        hash(front.chain(controls).chain([bits(self.fuel)]).chain(self.credited).chain(self.wheels))
-    }
-    /// Cause 4 without its ended part.
-    fn unfit(&self) -> bool {
-        self.n < 1 || self.n > MOST || self.count > self.n
-    }
-    /// The tiles of a wheel's set.
-    fn tiles_of(&self, wheel: usize) -> Vec<u32> {
-        (0..2560).filter(|t| self.wheels[wheel * 40 + *t as usize / 64] >> (t % 64) & 1 == 1).collect()
-    }
-    /// The sets that the Rust has now.
-    fn take_sets(&mut self, run: &Run) {
-        put(&mut self.credited, run.visited().iter().copied(), 40);
-        self.wheels = [0; 160];
-        for w in 0..4 {
-            for &id in run.wheel_tiles(w) {
-                self.wheels[w * 40 + id as usize / 64] |= 1 << (id % 64);
-            }
-        }
-        self.count = run.credited();
-        self.lap = run.lap();
-    }
-    fn take_controls(&mut self, run: &Run) {
-        self.ctl = [0, 1, 2, 3].map(|i| run.ctl(i));
-        self.fuel = run.fuel();
-    }
-}
-
-/// The cells of the corners of a quad's box, least and greatest folded as `contact_pass` does.
-fn box_cells(q: [[f64; 2]; 4]) -> [usize; 4] {
-    let [[x0, x1], [y0, y1]] = [0, 1].map(|k| {
-        let least = q.iter().fold(f64::MAX, |m, c| m.min(c[k]));
-        let greatest = q.iter().fold(f64::MIN, |m, c| m.max(c[k]));
-        [probe::cell(least), probe::cell(greatest)]
-    });
-    [y0 * 67 + x0, y0 * 67 + x1, y1 * 67 + x0, y1 * 67 + x1]
-}
-
-/// How a start is asked for.
-#[derive(Clone)]
-struct Begin {
-    lent: [usize; 3],
-    n: u32,
-    fallback: bool,
-    share: f64,
-    limit: u32,
-}
 
 /// What is counted: records of each code, refusals of start, drive, settle and sheet by each cause, settles that
 /// ended a run, and the ticks of each whole run.
@@ -151,36 +62,30 @@ struct Tally {
     ticks: Vec<u32>,
 }
 
-/// The list and its answers as they grow; the lent columns and the state, which stand from record to record; and
-/// the Rust's runs: `made` has the track of the columns with n tiles, `ring` one that nothing damages.
+/// The list and its answers as they grow; and the lent columns and the state, which stand from record to record.
 struct Replay {
     list: Vec<u8>,
     lines: String,
-    tiles: Vec<f64>,
-    offsets: Vec<u32>,
-    ids: Vec<u32>,
-    state: State,
-    made: Option<Arc<Track>>,
-    ring: Arc<Track>,
-    rust: Run,
+    model: Model,
     tally: Tally,
+}
+
+impl Deref for Replay {
+    type Target = Model;
+    fn deref(&self) -> &Model {
+        &self.model
+    }
+}
+
+impl DerefMut for Replay {
+    fn deref_mut(&mut self) -> &mut Model {
+        &mut self.model
+    }
 }
 
 impl Replay {
     fn new() -> Replay {
-        let ring = Arc::new(probe::given(probe::ring(), false));
-        Replay {
-            list: Vec::new(),
-            lines: String::new(),
-            tiles: vec![0.0; LONG[0]],
-            offsets: vec![0; LONG[1]],
-            ids: vec![0; LONG[2]],
-            state: State::zero(),
-            made: None,
-            rust: Run::start(ring.clone(), 0.95, Pose::default(), [Pose::default(); 4]),
-            ring,
-            tally: Tally::default(),
-        }
+        Replay { list: Vec::new(), lines: String::new(), model: Model::new(LONG), tally: Tally::default() }
     }
     fn ask(&mut self, code: u64, arguments: impl IntoIterator<Item = u64>) {
         self.tally.records[code as usize] += 1;
@@ -208,13 +113,9 @@ impl Replay {
         let given = points.iter().flat_map(|p| [p.beta, p.x, p.y]).map(f64::to_bits);
         self.ask(COURSE, [points.len() as u64].into_iter().chain(given));
         let track = probe::given(points.to_vec(), false);
-        let (offsets, ids) = probe::raw_ref(&track);
-        put(&mut self.tiles, track.tiles.iter().flat_map(|t| t.quad.into_iter().flatten()), STATED[0]);
-        put(&mut self.offsets, offsets.iter().copied(), STATED[1]);
-        put(&mut self.ids, ids.iter().copied(), ids.len());
-        self.made = None;
+        self.model.lay(&track);
         self.whole(points.len() as u64);
-        self.whole(ids.len() as u64);
+        self.whole(probe::raw_ref(&track).1.len() as u64);
         self.hex(hash(self.tiles.iter().map(|&x| bits(x))));
         self.hex(hash(self.offsets.iter().map(|&o| o.into())));
         self.hex(hash(self.ids.iter().map(|&id| id.into())));
@@ -235,21 +136,6 @@ impl Replay {
         self.ids[at] = value;
         self.made = None;
     }
-    /// The Rust's track of the columns as they stand, with n tiles.
-    fn track(&mut self, n: u32) -> Arc<Track> {
-        match &self.made {
-            Some(t) if t.tiles.len() == n as usize => t.clone(),
-            _ => {
-                let tile = |t: &[f64]| Tile { quad: [[t[0], t[1]], [t[2], t[3]], [t[4], t[5]], [t[6], t[7]]] };
-                let tiles = self.tiles.chunks(8).take(n as usize).map(tile).collect();
-                let points = vec![TrackPoint { beta: 0.0, x: 0.0, y: 0.0 }];
-                let made = Arc::new(probe::made(points, tiles, self.offsets.clone(), self.ids.clone()));
-                self.made = Some(made.clone());
-                made
-            }
-        }
-    }
-
     /// The state but for its sets becomes that of s.
     fn core(&mut self, s: &State) {
         let counts = [s.n, s.count, s.tick, s.limit].map(u64::from);
@@ -268,46 +154,15 @@ impl Replay {
         self.state.wheels[first..end].fill(w);
     }
 
-    /// The four cells of the box of each wheel.
-    fn cells(&mut self, poses: &[Pose; 4]) -> [[usize; 4]; 4] {
-        self.rust.put_wheels(poses);
-        [0, 1, 2, 3].map(|i| box_cells(self.rust.wheel_quad(i)))
-    }
-    /// Cause 10 does not hold: in each cell the offsets neither fall nor pass the list, and every id is below n.
-    fn sound(&mut self, lent: [usize; 3], n: u32, poses: &[Pose; 4]) -> bool {
-        let cells = self.cells(poses);
-        cells.iter().flatten().all(|&c| {
-            let (from, to) = (self.offsets[c] as usize, self.offsets[c + 1] as usize);
-            from <= to && to <= lent[2] && self.ids[from..to].iter().all(|&id| id < n)
-        })
-    }
-    fn start_cause(&mut self, b: &Begin, poses: &[Pose; 4]) -> usize {
-        if !(0.0..=1.0).contains(&b.share) || !(1..=1_000_000).contains(&b.limit) {
-            1
-        } else if b.lent[0] < STATED[0] || b.lent[1] < STATED[1] || !(1..=MOST).contains(&b.n) {
-            2
-        } else if !poses.iter().flat_map(numbers).all(near) {
-            8
-        } else if !self.sound(b.lent, b.n, poses) {
-            10
-        } else {
-            0
-        }
-    }
     /// A start; the number of the cause, or 0.
     fn start(&mut self, b: &Begin, poses: &[Pose; 4]) -> usize {
         let lent = b.lent.map(|l| l as u64);
         let rest = [b.n.into(), b.fallback.into(), b.share.to_bits(), b.limit.into()];
         self.ask(START, lent.into_iter().chain(rest).chain(poses.iter().flat_map(numbers).map(f64::to_bits)));
-        let cause = self.start_cause(b, poses);
-        self.state = State::zero();
+        let cause = self.model.start(b, poses);
         if cause > 0 {
             self.refuse(0, cause);
         } else {
-            let run = Run::start(self.track(b.n), b.share, Pose::default(), *poses);
-            let Begin { n, fallback, share, limit, .. } = *b;
-            self.state = State { n, fallback, share, limit, ..State::zero() };
-            self.state.take_sets(&run);
             self.whole(self.state.count);
             self.whole(self.state.lap);
         }
@@ -315,44 +170,14 @@ impl Replay {
         cause
     }
 
-    fn drive_cause(&self, action: u32, m: &[Motion; 4]) -> usize {
-        let s = &self.state;
-        if s.unfit() || s.ended {
-            4
-        } else if s.driven {
-            5
-        } else if s.tick >= s.limit {
-            6
-        } else if action > 4 {
-            7
-        } else if !m.iter().flat_map(five).all(near) {
-            8
-        } else {
-            0
-        }
-    }
-    /// The Rust's run as the state has it, over a track.
-    fn load(&mut self, track: Arc<Track>) {
-        let s = &self.state;
-        self.rust.put_sets(track, s.share, s.tick, s.lap, s.count, &s.credited, [0, 1, 2, 3].map(|w| s.tiles_of(w)));
-        for i in 0..4 {
-            self.rust.put_ctl(i, s.ctl[i]);
-        }
-        self.rust.put_fuel(s.fuel);
-    }
     /// A drive; the number of the cause, or 0, and the forces.
     fn drive(&mut self, action: u32, m: &[Motion; 4]) -> (usize, [Push; 4]) {
         self.ask(DRIVE, [action.into()].into_iter().chain(m.iter().flat_map(five).map(f64::to_bits)));
-        let cause = self.drive_cause(action, m);
-        let mut push = [Push::default(); 4];
+        let (cause, push) = self.model.drive(action, m);
         if cause > 0 {
             self.refuse(1, cause);
             self.hex(hash([0; 12]));
         } else {
-            self.load(self.ring.clone());
-            push = self.rust.step(action as usize, m, Pose::default(), [Pose::default(); 4]).push;
-            self.state.take_controls(&self.rust);
-            self.state.driven = true;
             for x in push.iter().flat_map(|f| [f.motor, f.fx, f.fy]) {
                 self.value(x);
             }
@@ -361,48 +186,27 @@ impl Replay {
         (cause, push)
     }
 
-    fn settle_cause(&mut self, lent: [usize; 3], x: f64, y: f64, poses: &[Pose; 4]) -> usize {
-        let s = &self.state;
-        let n = s.n;
-        if s.unfit() || s.ended {
-            4
-        } else if !s.driven {
-            5
-        } else if s.tick >= s.limit {
-            6
-        } else if lent[0] < STATED[0] || lent[1] < STATED[1] {
-            2
-        } else if !near(x) || !near(y) || !poses.iter().flat_map(numbers).all(near) {
-            8
-        } else if !self.sound(lent, n, poses) {
-            10
-        } else {
-            0
-        }
-    }
     /// A settle; the number of the cause, or 0, and the number of new tiles.
     fn settle(&mut self, lent: [usize; 3], x: f64, y: f64, poses: &[Pose; 4]) -> (usize, u32) {
         let front = lent.map(|l| l as u64).into_iter().chain([x, y].map(f64::to_bits));
         self.ask(SETTLE, front.chain(poses.iter().flat_map(numbers).map(f64::to_bits)));
-        let cause = self.settle_cause(lent, x, y, poses);
-        let mut fresh = 0;
-        if cause > 0 {
-            self.refuse(2, cause);
-        } else {
-            let track = self.track(self.state.n);
-            self.load(track);
-            let e = self.rust.step(0, &[Motion::default(); 4], Pose { x, y, cos: 1.0, sin: 0.0 }, *poses);
-            self.state.take_sets(&self.rust);
-            self.state.tick = self.rust.tick();
-            (self.state.driven, self.state.ended, fresh) = (false, e.ended, e.new_tiles);
-            self.whole(fresh);
-            self.whole(e.n);
-            for b in [e.off, e.lap, e.ended] {
-                self.whole(b);
+        let (mut cause, mut fresh) = (0, 0);
+        match self.model.settle(lent, x, y, poses) {
+            Err(number) => {
+                cause = number;
+                self.refuse(2, cause);
             }
-            self.tally.laps += usize::from(e.ended && e.lap);
-            self.tally.offs += usize::from(e.ended && e.off);
-            self.tally.all += usize::from(e.ended && self.state.count == e.n);
+            Ok(e) => {
+                fresh = e.new_tiles;
+                self.whole(fresh);
+                self.whole(e.n);
+                for b in [e.off, e.lap, e.ended] {
+                    self.whole(b);
+                }
+                self.tally.laps += usize::from(e.ended && e.lap);
+                self.tally.offs += usize::from(e.ended && e.off);
+                self.tally.all += usize::from(e.ended && self.state.count == e.n);
+            }
         }
         self.line_state();
         (cause, fresh)
