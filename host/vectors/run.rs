@@ -14,6 +14,8 @@
 mod blocks;
 #[path = "shared/car.rs"]
 mod car;
+#[path = "shared/edges.rs"]
+mod edges;
 #[path = "shared/lent.rs"]
 mod lent;
 #[path = "shared/model.rs"]
@@ -21,6 +23,7 @@ mod model;
 
 use blocks::{append, save};
 use car::{beyond, bits, car, five, near, near_car, numbers, pick, road_motion, step, FAR, MOST, P};
+use edges::{edge, edge_motion, edge_pose, wild};
 use lent::{between, hash};
 use model::{box_cells, Begin, Model, State, STATED};
 use oracle::oracle::{default_weights, overlap, probe, reward, Run, Track, TrackPoint};
@@ -272,37 +275,6 @@ impl Replay {
             self.value(x);
         }
     }
-}
-
-/// An input float at an edge, not refused.
-fn edge(g: &mut SplitMix64) -> f64 {
-    let any = [between(g, -1.0, 1.0), between(g, -FAR, FAR), between(g, -400.0, 400.0)];
-    let edges = [0.0, -0.0, FAR, -FAR, 5e-324, -3e-310, f64::MIN_POSITIVE, 0.6, -0.6, 1e-160, P, -P, step(P, 1), 1.0];
-    if g.next_u64() % 3 == 0 {
-        pick(g, &any)
-    } else {
-        pick(g, &edges)
-    }
-}
-
-/// A float of a state or a tile: any at all.
-fn wild(g: &mut SplitMix64) -> f64 {
-    let some = edge(g);
-    let far = [f64::NAN, f64::INFINITY, f64::NEG_INFINITY, f64::MAX, f64::MIN, 1e200, -1e155, 0.1, 12.0, -12.0, 15.0];
-    match g.next_u64() % 4 {
-        0 => f64::from_bits(g.next_u64()),
-        1 => some,
-        _ => pick(g, &far),
-    }
-}
-
-fn edge_pose(g: &mut SplitMix64) -> Pose {
-    let k = pick(g, &[1.0, 1.0, 1e-4, 3e-4]);
-    Pose { x: edge(g) * k, y: edge(g) * k, cos: edge(g) * k, sin: edge(g) * k }
-}
-
-fn edge_motion(g: &mut SplitMix64) -> Motion {
-    Motion { joint_angle: edge(g), sin: edge(g), cos: edge(g), vx: edge(g), vy: edge(g) }
 }
 
 fn begin(n: u32, share: f64, limit: u32) -> Begin {
