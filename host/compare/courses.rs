@@ -4,7 +4,7 @@ use crate::lent::{between, put, roomy, stated, Lent, STATED};
 use crate::port::{self, Laid};
 use crate::tally::{Tally, Unit};
 use oracle::oracle::{probe, Track, TrackPoint};
-use reinfors_core::{Rng, SplitMix64};
+use reinfors_core::SplitMix64;
 
 /// The lengths of the whole columns: alpha, beta, x, y, tiles, offsets, index list.
 const LONG: [usize; 7] = [2_520, 2_520, 2_520, 2_520, 20_050, 4_500, 60_000];

@@ -4,7 +4,7 @@ use crate::lent::between;
 use crate::port;
 use crate::tally::{Tally, Unit};
 use oracle::oracle::probe;
-use reinfors_core::{Rng, SplitMix64};
+use reinfors_core::SplitMix64;
 
 const P: f64 = 2000.0 / 6.0;
 

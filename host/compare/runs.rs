@@ -11,7 +11,7 @@ use crate::port::{self, Core, Course, WheelCtl};
 use crate::tally::{Tally, Unit};
 use oracle::oracle::{overlap, probe, reward, Track, TrackPoint};
 use oracle::{Motion, Pose};
-use reinfors_core::{Rng, SplitMix64};
+use reinfors_core::SplitMix64;
 
 /// A state as the port has it.
 fn ported(s: &State) -> port::Run {
@@ -227,7 +227,8 @@ pub fn run(t: &mut Tally, g: &mut SplitMix64, unit: Unit, most: u64) {
         }
         if tick == 0 || (b.model.state.ended && g.next_u64() % 3 == 0) {
             let bad = g.next_u64() % 6 == 0;
-            let asked = begin(g, n, if g.next_u64() % 2 == 0 { exact } else { b.whole() }, bad);
+            let lent = if g.next_u64() % 2 == 0 { exact } else { b.whole() };
+            let asked = begin(g, n, lent, bad);
             b.start(&asked, &poses);
         }
         if g.next_u64() % 12 == 0 {

@@ -2,7 +2,7 @@
 use crate::car::{pick, step, FAR, P};
 use crate::lent::between;
 use oracle::{Motion, Pose};
-use reinfors_core::{Rng, SplitMix64};
+use reinfors_core::SplitMix64;
 
 /// An input float at an edge, not refused.
 pub fn edge(g: &mut SplitMix64) -> f64 {

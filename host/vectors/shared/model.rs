@@ -92,7 +92,7 @@ pub fn box_cells(q: [[f64; 2]; 4]) -> [usize; 4] {
 }
 
 /// How a start is asked for.
-#[derive(Clone)]
+#[derive(Clone, Debug)]
 pub struct Begin {
     pub lent: [usize; 3],
     pub n: u32,
