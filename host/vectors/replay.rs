@@ -21,7 +21,7 @@ use car::{beyond, bits, car, five, near, near_car, numbers, pick, road_motion, s
 use lent::{between, hash, hash_ids, roomy, stated, Lent, STATED, UNTOUCHED, UNTOUCHED_ID};
 use oracle::oracle::{probe, Run, Settled, Track, TrackPoint};
 use oracle::{Motion, Pose, Push};
-use reinfors_core::{Rng, SplitMix64};
+use reinfors_core::SplitMix64;
 use std::sync::Arc;
 
 const REPLAY: u64 = 1;
@@ -324,10 +324,12 @@ fn wheels(place: &TrackPoint, angle: f64) -> [Pose; 4] {
 }
 
 impl Driver {
-    fn start(seed: u32, lent: [usize; 7], share: f64, limit: u32, place: &TrackPoint) -> Driver {
-        let poses = wheels(place, 0.0);
+    /// At a point of the seed's course.
+    fn start(seed: u32, lent: [usize; 7], share: f64, limit: u32, at: usize) -> Driver {
+        let track = Track::generate(seed);
+        let poses = wheels(&track.points[at], 0.0);
         let log = Log { seed, lent, share, limit, poses, many: 0, lent_calls: [0; 4], calls: Vec::new() };
-        let run = Graded::start(Arc::new(Track::generate(seed)), &log);
+        let run = Graded::start(Arc::new(track), &log);
         Driver { log, run, before: poses, now: poses, angle: 0.0 }
     }
     fn ask(&mut self, call: Call) -> Answer {
@@ -348,15 +350,29 @@ impl Driver {
             Motion { joint_angle: if i < 2 { self.angle } else { 0.0 }, sin: to.sin, cos: to.cos, vx, vy }
         })
     }
-    /// A tick: a drive as the car moves now, and a settle where it is then, at the next place.
-    fn tick(&mut self, action: u32, place: &TrackPoint, angle: f64) -> Settled {
-        let forces = self.ask(drive(action, &self.motions()));
-        assert!(matches!(forces, Answer::Forces(_)));
+    /// A drive as the car moves now, which brings it to the next place.
+    fn drive_to(&mut self, action: u32, place: &TrackPoint, angle: f64) {
+        let answer = self.ask(drive(action, &self.motions()));
+        assert!(matches!(answer, Answer::Forces(_)), "{}", answer.line());
         (self.before, self.now, self.angle) = (self.now, wheels(place, angle), angle);
-        match self.ask(settle(ENOUGH, place.x, place.y, &self.now)) {
-            Answer::Settled(s) => s,
+    }
+    /// A settle where the car is, its hull at the place.
+    fn settle_at(&mut self, lent: [u32; 2], place: &TrackPoint) -> Settled {
+        match self.ask(settle(lent, place.x, place.y, &self.now)) {
+            Answer::Settled(settled) => settled,
             other => panic!("{}", other.line()),
         }
+    }
+    fn tick(&mut self, action: u32, place: &TrackPoint, angle: f64) -> Settled {
+        self.drive_to(action, place, angle);
+        self.settle_at(ENOUGH, place)
+    }
+    /// A tick with refused calls in it: one where the drive is due, and one where the settle is.
+    fn mixed_tick(&mut self, action: u32, place: &TrackPoint, angle: f64, k: usize) -> Settled {
+        self.refused_before_drive(k);
+        self.drive_to(action, place, angle);
+        self.refused_before_settle(k, place.x, place.y);
+        self.settle_at([u32::MAX; 2], place)
     }
     /// Where a drive is due, a call that is refused: by 5, 7 or 8, other causes behind it in the order besides.
     fn refused_before_drive(&mut self, k: usize) {
@@ -392,17 +408,6 @@ impl Driver {
             }
         }
     }
-    /// A tick with refused calls in it: one where the drive is due, and one where the settle is.
-    fn mixed_tick(&mut self, action: u32, place: &TrackPoint, angle: f64, k: usize) -> Settled {
-        self.refused_before_drive(k);
-        assert!(matches!(self.ask(drive(action, &self.motions())), Answer::Forces(_)));
-        (self.before, self.now, self.angle) = (self.now, wheels(place, angle), angle);
-        self.refused_before_settle(k, place.x, place.y);
-        match self.ask(settle([u32::MAX; 2], place.x, place.y, &self.now)) {
-            Answer::Settled(s) => s,
-            other => panic!("{}", other.line()),
-        }
-    }
     /// A few calls beyond the end, good ones and bad.
     fn beyond_the_end(&mut self) {
         let (m, here) = (self.motions(), self.now);
@@ -428,17 +433,16 @@ fn turn(from: &TrackPoint, to: &TrackPoint) -> f64 {
     (libm::sin((to.beta - from.beta).clamp(-16.0, 16.0)) * 4.0).clamp(-0.4, 0.4) as f32 as f64
 }
 
-/// Once round the course of a seed, `pace` points to a tick, until the run ends; every `every`th tick has refused calls.
-/// From point `leave` to point `back` the car is beside the road.
-fn round(g: &mut SplitMix64, seed: u32, lent: [usize; 7], share: f64, pace: f64, every: usize, off: [f64; 2]) -> Driver {
-    let points = Track::generate(seed).points;
-    let mut place = along(&points, 0.0, 0.0);
-    let mut d = Driver::start(seed, lent, share, 1_000_000, &place);
+/// From the start once round its course, `pace` points to a tick, until the run ends and a few calls beyond. Every
+/// `every`th tick has refused calls. Between the points `beside` the car is off the road.
+fn round(g: &mut SplitMix64, d: &mut Driver, pace: f64, every: usize, beside: [f64; 2]) {
+    let points = Track::generate(d.log.seed).points;
+    let mut place = points[0];
     let (mut far, mut k) = (0.0, 0);
     while !d.run.ended {
         (far, k) = (far + pace, k + 1);
-        assert!(far < points.len() as f64 + 8.0, "the run of seed {seed} does not end");
-        let side = if (off[0]..off[1]).contains(&far) { 12.0 } else { between(g, -1.0, 1.0) };
+        assert!(far < points.len() as f64 + 8.0, "the run does not end");
+        let side = if (beside[0]..beside[1]).contains(&far) { 12.0 } else { between(g, -1.0, 1.0) };
         let next = along(&points, far, side);
         let (action, angle) = (pick(g, &[0, 1, 2, 3, 3, 3, 3, 4]), turn(&place, &next));
         match k % every {
@@ -448,31 +452,45 @@ fn round(g: &mut SplitMix64, seed: u32, lent: [usize; 7], share: f64, pace: f64,
         place = next;
     }
     d.beyond_the_end();
-    d
 }
 
 fn need(seed: u32) -> usize {
     probe::raw_ref(&Track::generate(seed)).1.len()
 }
 
-/// Whole laps: seed 0, with some tiles left out, to the lap; the shortest course of the first 20,000 seeds, to its last
-/// tile; and one in which nothing is credited twice for the lap to need it.
+/// Whole laps: seed 0, with some tiles left out, to the lap; and the shortest course of the first 20,000 seeds, to its
+/// last tile, with a lap share that no lap can pass.
 fn laps(r: &mut Replay, g: &mut SplitMix64) {
-    let d = round(g, 0, LONG, 0.95, 0.92, 7, [100.0, 109.0]);
-    let n = Track::generate(0).tiles.len() as u32;
-    assert!(d.run.rust.lap() && d.run.rust.credited() < n);
+    let mut d = Driver::start(0, LONG, 0.95, 1_000_000, 0);
+    round(g, &mut d, 0.92, 7, [100.0, 109.0]);
+    assert!(d.run.rust.lap() && d.run.rust.credited() == 284);
     r.record(&d.log.exact());
-    let d = round(g, 17_366, stated(need(17_366)), 1.0, 1.0, 5, [0.0, 0.0]);
+    let mut d = Driver::start(17_366, stated(need(17_366)), 1.0, 1_000_000, 0);
+    round(g, &mut d, 1.0, 5, [0.0, 0.0]);
     assert!(!d.run.rust.lap() && d.run.rust.credited() == 207);
-    let log = d.log.exact();
-    r.record(&Log { lent_calls: LONG_CALLS, ..log });
+    r.record(&Log { lent_calls: LONG_CALLS, ..d.log.exact() });
+}
+
+/// A car that pulls away, so slowly at first that its tyres hold, and brakes again.
+fn pulling_away(r: &mut Replay) {
+    let points = Track::generate(0).points;
+    let mut d = Driver::start(0, stated(need(0)), 0.95, 1_000_000, 20);
+    let (mut far, mut pace) = (20.0, 0.0);
+    for k in 0..60 {
+        let action = [3, 3, 1, 3, 3, 2, 0, 3, 4, 4][k / 6];
+        pace = if action == 4 { pace * 0.7 } else { pace + 0.0007 * k as f64 };
+        let next = along(&points, far + pace, 0.0);
+        d.tick(action, &next, [0.0, -0.2, 0.2][(action % 3) as usize]);
+        far += pace;
+    }
+    r.record(&d.log.exact());
 }
 
 /// A car that leaves the field, outwards from a point of the course.
 fn leaving(r: &mut Replay, g: &mut SplitMix64) {
     for (seed, at, pace) in [(2, 60, 7.0), (u32::MAX, 150, 11.0)] {
         let p = Track::generate(seed).points[at];
-        let mut d = Driver::start(seed, stated(need(seed)), 0.5, 1_000, &p);
+        let mut d = Driver::start(seed, stated(need(seed)), 0.5, 1_000, at);
         let size = (p.x * p.x + p.y * p.y).sqrt();
         let mut k = 0;
         while !d.run.ended {
@@ -491,7 +509,7 @@ fn leaving(r: &mut Replay, g: &mut SplitMix64) {
 fn limits(r: &mut Replay, g: &mut SplitMix64) {
     for (seed, limit) in [(5, 1), (6, 3), (581, 20)] {
         let points = Track::generate(seed).points;
-        let mut d = Driver::start(seed, LONG, 0.95, limit, &points[40]);
+        let mut d = Driver::start(seed, LONG, 0.95, limit, 40);
         for k in 1..=limit as usize {
             assert!(!d.tick(pick(g, &[0, 1, 2, 3, 4]), &points[40 + k], 0.0).ended);
         }
@@ -504,36 +522,47 @@ fn limits(r: &mut Replay, g: &mut SplitMix64) {
     }
 }
 
-/// Starts on tile 0: with lap share 0 the lap is flagged at once, and the run ends at its first settle, wherever that is;
-/// with a share just below what is credited and just at it; and a start elsewhere, which comes to tile 0 later.
+/// Starts on tile 0: where the lap share is below what they credit the lap is flagged at once, and the run ends at its
+/// first settle, wherever that is; at just that share it is not.
 fn tile_zero(r: &mut Replay) {
-    for (seed, at, share, flagged, ticks) in [
-        (7, 0, 0.0, true, 1),
-        (7, 0, -0.0, true, 1),
-        (11, 0, 0.5, false, 2),
-        (11, 100, 0.0, false, 3),
-        (12_345, 0, 5e-324, true, 1),
+    let begin = |seed, share| Driver::start(seed, LONG, share, 9, 0);
+    let first = begin(11, 1.0).run;
+    let just = f64::from(first.rust.credited()) / first.rust.live_track().tiles.len() as f64;
+    for (seed, share, flagged) in [
+        (7, 0.0, true),
+        (7, -0.0, true),
+        (12_345, 5e-324, true),
+        (11, step(just, -1), true),
+        (11, just, false),
+        (11, step(just, 1), false),
     ] {
-        let points = Track::generate(seed).points;
-        let mut d = Driver::start(seed, LONG, share, 9, &points[at]);
+        let mut d = begin(seed, share);
         assert_eq!(d.run.rust.lap(), flagged);
-        d.refused(5, settle(ENOUGH, 0.0, 0.0, &d.now.clone()));
-        for k in 1..=ticks {
-            // The third place is tile 0 again.
-            let place = if k == 3 { &points[0] } else { &points[at + 30 * k] };
-            assert_eq!(d.mixed_tick(3, place, 0.0, k).ended, flagged || (k == 3 && share == 0.0));
-        }
-        if d.run.ended {
+        let far = Track::generate(seed).points[100];
+        assert_eq!(d.mixed_tick(3, &far, 0.0, seed as usize).ended, flagged);
+        if flagged {
             d.beyond_the_end();
         }
         r.record(&d.log.exact());
     }
 }
 
+/// A start elsewhere with lap share 0: the run ends where a wheel comes to tile 0, from wherever it comes.
+fn to_tile_zero(r: &mut Replay) {
+    let points = Track::generate(11).points;
+    let mut d = Driver::start(11, LONG, 0.0, 9, 100);
+    for (k, at) in [101, 50, 250, 0].into_iter().enumerate() {
+        let s = d.mixed_tick(3, &points[at], 0.0, k);
+        assert_eq!([s.lap, s.ended], [at == 0; 2]);
+    }
+    d.beyond_the_end();
+    r.record(&d.log.exact());
+}
+
 /// A short log of three ticks, with room for just its calls and with columns of just the stated lengths.
 fn short_log(seed: u32) -> Log {
     let points = Track::generate(seed).points;
-    let mut d = Driver::start(seed, stated(need(seed)), 0.9, 100, &points[0]);
+    let mut d = Driver::start(seed, stated(need(seed)), 0.9, 100, 0);
     for k in 1..4 {
         d.tick(3, &points[k], 0.0);
     }
@@ -613,6 +642,9 @@ fn counts(r: &mut Replay) {
     for many in [0, 1, 5, 7, 905] {
         r.record(&Log { many, lent_calls: LONG_CALLS, ..log.clone() });
     }
+    // What stands behind the last call of this one is a settle in its turn, of numbers that are too great.
+    let open = Log { calls: log.calls[..5].to_vec(), ..log.clone() };
+    r.record(&Log { many: 8, lent_calls: LONG_CALLS, ..open });
     let none = Log { many: 0, lent_calls: [0; 4], ..log };
     for (limit, list) in [(9, none.lent[6]), (0, none.lent[6]), (9, 0)] {
         r.record(&Log { limit, lent: stated(list), ..none.clone() });
@@ -646,14 +678,13 @@ fn any_logs(r: &mut Replay, g: &mut SplitMix64) {
         let points = Track::generate(seed).points;
         let place = |g: &mut SplitMix64| points[g.next_u64() as usize % points.len()];
         let (share, limit) = ([0.95, 0.1, 0.3, 1.0][k % 4], [30, 1_000_000][k % 2]);
-        let mut d = Driver::start(seed, LONG, share, limit, &place(g));
+        let mut d = Driver::start(seed, LONG, share, limit, g.next_u64() as usize % points.len());
         for _ in 0..80 {
             let p = place(g);
             let call = any_call(g, &d.run, &p);
             d.ask(call);
         }
-        let log = d.log.exact();
-        r.record(&Log { lent_calls: LONG_CALLS, ..log });
+        r.record(&Log { lent_calls: LONG_CALLS, ..d.log.exact() });
     }
 }
 
@@ -662,9 +693,11 @@ fn main() {
     let mut r = Replay::default();
     let mut g = SplitMix64::new(17);
     laps(&mut r, &mut g);
+    pulling_away(&mut r);
     leaving(&mut r, &mut g);
     limits(&mut r, &mut g);
     tile_zero(&mut r);
+    to_tile_zero(&mut r);
     refused_lays(&mut r);
     refused_starts(&mut r, &mut g);
     refused_wholes(&mut r);
