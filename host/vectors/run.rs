@@ -10,6 +10,16 @@
 //! In whole runs the Rust also goes its own way, from the start on, and must come to the same state at every tick.
 //!
 //! Random values come from the reference's SplitMix64 at a fixed seed, so the files come out the same each time.
+#[path = "shared/blocks.rs"]
+mod blocks;
+#[path = "shared/car.rs"]
+mod car;
+#[path = "shared/lent.rs"]
+mod lent;
+
+use blocks::{append, save};
+use car::{beyond, bits, car, five, near, near_car, numbers, pick, road_motion, step, FAR, MOST, P};
+use lent::{between, hash, put};
 use oracle::oracle::{default_weights, overlap, probe, reward, Run, Tile, Track, TrackPoint};
 use oracle::{Motion, Pose, Push};
 use reinfors_core::{Rng, SplitMix64};
@@ -34,50 +44,9 @@ const QUAD: u64 = 15;
 const CELLS: u64 = 16;
 const WEIGHTS: u64 = 17;
 
-/// The list goes in blocks of so many bytes, at most so many of them. No record stands in two: zeros fill a block up.
-const BLOCK: usize = 262_144;
-const BLOCKS: usize = 16;
-
 /// The lengths of the program's tiles, offsets and index list; document 01's of the first two.
 const LONG: [usize; 3] = [20_100, 4_600, 60_000];
 const STATED: [usize; 2] = [20_000, 4_490];
-
-/// The most tiles of a course, and half the width of the playfield (P of document 01).
-const MOST: u32 = 2_500;
-const P: f64 = 2000.0 / 6.0;
-
-/// The greatest magnitude of an input float.
-const FAR: f64 = 1_000_000.0;
-
-const NAN: u64 = 0x7ff8_0000_0000_0000;
-
-/// The bits of x, the same for every NaN. Optimized, rustc may take one NaN for another where the test is
-/// `x.is_nan()`, so the test is of bits that it knows nothing about.
-fn bits(x: f64) -> u64 {
-    let b = std::hint::black_box(x.to_bits());
-    if b % (1 << 63) > 0x7ff0_0000_0000_0000 {
-        NAN
-    } else {
-        b
-    }
-}
-
-fn mix(h: u64, w: u64) -> u64 {
-    (h ^ w).wrapping_mul(0x100_0000_01B3) ^ (h >> 29)
-}
-
-fn hash(words: impl IntoIterator<Item = u64>) -> u64 {
-    words.into_iter().fold(1, mix)
-}
-
-/// The values stand in front of the column, and zeros behind them up to `end`.
-fn put<T: Default>(col: &mut [T], values: impl Iterator<Item = T>, end: usize) {
-    let mut values = values.fuse();
-    for place in &mut col[..end] {
-        *place = values.next().unwrap_or_default();
-    }
-    assert!(values.next().is_none());
-}
 
 #[derive(Clone)]
 struct State {
@@ -150,19 +119,6 @@ impl State {
     }
 }
 
-/// An input float that is not refused.
-fn near(x: f64) -> bool {
-    (-FAR..=FAR).contains(&x)
-}
-
-fn numbers(p: &Pose) -> [f64; 4] {
-    [p.x, p.y, p.cos, p.sin]
-}
-
-fn five(m: &Motion) -> [f64; 5] {
-    [m.joint_angle, m.sin, m.cos, m.vx, m.vy]
-}
-
 /// The cells of the corners of a quad's box, least and greatest folded as `contact_pass` does.
 fn box_cells(q: [[f64; 2]; 4]) -> [usize; 4] {
     let [[x0, x1], [y0, y1]] = [0, 1].map(|k| {
@@ -228,11 +184,7 @@ impl Replay {
     }
     fn ask(&mut self, code: u64, arguments: impl IntoIterator<Item = u64>) {
         self.tally.records[code as usize] += 1;
-        let record: Vec<u8> = [code].into_iter().chain(arguments).flat_map(u64::to_le_bytes).collect();
-        if self.list.len() % BLOCK + record.len() > BLOCK {
-            self.list.resize(self.list.len().next_multiple_of(BLOCK), 0);
-        }
-        self.list.extend(record);
+        append(&mut self.list, [code].into_iter().chain(arguments));
     }
     fn whole(&mut self, n: impl Into<u64>) {
         writeln!(self.lines, "{}", n.into()).unwrap();
@@ -518,26 +470,6 @@ impl Replay {
     }
 }
 
-/// The float d places after x in the order of the floats, where the two zeros are one place.
-fn step(x: f64, d: i64) -> f64 {
-    let size = (x.to_bits() << 1 >> 1) as i64;
-    let place = if x.is_sign_negative() { d - size } else { d + size };
-    let there = f64::from_bits(place.unsigned_abs());
-    if place < 0 {
-        -there
-    } else {
-        there
-    }
-}
-
-fn between(g: &mut SplitMix64, lo: f64, hi: f64) -> f64 {
-    lo + (hi - lo) * g.unit()
-}
-
-fn pick<T: Copy>(g: &mut SplitMix64, from: &[T]) -> T {
-    from[g.next_u64() as usize % from.len()]
-}
-
 /// An input float at an edge, not refused.
 fn edge(g: &mut SplitMix64) -> f64 {
     let any = [between(g, -1.0, 1.0), between(g, -FAR, FAR), between(g, -400.0, 400.0)];
@@ -560,11 +492,6 @@ fn wild(g: &mut SplitMix64) -> f64 {
     }
 }
 
-/// A float that is refused.
-fn beyond(g: &mut SplitMix64) -> f64 {
-    pick(g, &[f64::NAN, f64::INFINITY, f64::NEG_INFINITY, step(FAR, 1), -step(FAR, 1), f64::MAX, -1e300])
-}
-
 fn edge_pose(g: &mut SplitMix64) -> Pose {
     let k = pick(g, &[1.0, 1.0, 1e-4, 3e-4]);
     Pose { x: edge(g) * k, y: edge(g) * k, cos: edge(g) * k, sin: edge(g) * k }
@@ -572,30 +499,6 @@ fn edge_pose(g: &mut SplitMix64) -> Pose {
 
 fn edge_motion(g: &mut SplitMix64) -> Motion {
     Motion { joint_angle: edge(g), sin: edge(g), cos: edge(g), vx: edge(g), vy: edge(g) }
-}
-
-fn road_motion(g: &mut SplitMix64) -> Motion {
-    let a = between(g, -3.0, 3.0);
-    let (sin, cos) = (libm::sin(a) as f32 as f64, libm::cos(a) as f32 as f64);
-    Motion { joint_angle: between(g, -0.5, 0.5), sin, cos, vx: between(g, -40.0, 40.0), vy: between(g, -40.0, 40.0) }
-}
-
-/// A car at a point, turned by d and moved by (ox, oy).
-fn car(p: &TrackPoint, d: f64, ox: f64, oy: f64) -> [Pose; 4] {
-    let a = (p.beta + d).clamp(-16.0, 16.0);
-    let (c, s) = (libm::cos(a), libm::sin(a));
-    [[-55.0, 80.0], [55.0, 80.0], [-55.0, -82.0], [55.0, -82.0]].map(|[u, v]| Pose {
-        x: (p.x + ox + (c * u - s * v) * 0.02) as f32 as f64,
-        y: (p.y + oy + (s * u + c * v) * 0.02) as f32 as f64,
-        cos: c as f32 as f64,
-        sin: s as f32 as f64,
-    })
-}
-
-/// A car near a point.
-fn near_car(g: &mut SplitMix64, p: &TrackPoint, noise: f64) -> [Pose; 4] {
-    let d = between(g, -0.3, 0.3);
-    car(p, d, between(g, -noise, noise), between(g, -noise, noise))
 }
 
 fn begin(n: u32, share: f64, limit: u32) -> Begin {
@@ -1335,7 +1238,6 @@ fn main() {
     // An unknown code ends a block: the record behind it has no answer.
     r.ask(0, []);
     r.list.extend([SHEET, SHEET].iter().flat_map(|w| w.to_le_bytes()));
-    assert!(r.list.len() <= BLOCK * BLOCKS, "{} bytes do not fit the program's blocks", r.list.len());
     let names = [
         "", "course", "tile", "offset", "id", "core", "credited", "wheels", "start", "drive", "settle", "sheet",
         "reward", "overlap", "braked", "quad", "cells", "weights",
@@ -1347,6 +1249,6 @@ fn main() {
     eprintln!("refused, by cause from 0: start, drive, settle, sheet {:?}", r.tally.refused);
     eprintln!("settles that ended a run: by lap {}, off {}, all {}", r.tally.laps, r.tally.offs, r.tally.all);
     eprintln!("ticks of whole runs: {:?}", r.tally.ticks);
-    std::fs::write(&path, &r.list).expect("the list could not be written");
+    save(&r.list, &path);
     print!("{}", r.lines);
 }

@@ -1,5 +1,5 @@
-//! What course.rs and lay.rs share: the lent columns of a course as document 01 ("Lent", "Refusals by cause") leaves
-//! them, and their lines in the answers.
+//! What the programs of this folder share: hashes, and the lent columns of a course as document 01 ("Lent",
+//! "Refusals by cause") leaves them, with their lines in the answers.
 use oracle::oracle::{probe, Track};
 use reinfors_core::{Rng, SplitMix64};
 
@@ -8,14 +8,14 @@ pub const STATED: [usize; 6] = [2_500, 2_500, 2_500, 2_500, 20_000, 4_490];
 
 /// What stands in each place of a lent column before a call.
 pub const UNTOUCHED: f64 = 1e7;
-const UNTOUCHED_ID: u32 = 4_000_000_000;
+pub const UNTOUCHED_ID: u32 = 4_000_000_000;
 
 fn mix(h: u64, w: u64) -> u64 {
     (h ^ w).wrapping_mul(0x100_0000_01B3) ^ (h >> 29)
 }
 
-pub fn hash(words: impl Iterator<Item = u64>) -> u64 {
-    words.fold(1, mix)
+pub fn hash(words: impl IntoIterator<Item = u64>) -> u64 {
+    words.into_iter().fold(1, mix)
 }
 
 pub fn hash_floats(col: &[f64]) -> u64 {
