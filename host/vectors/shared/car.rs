@@ -3,7 +3,7 @@
 use crate::lent::between;
 use oracle::oracle::TrackPoint;
 use oracle::{Motion, Pose};
-use reinfors_core::{Rng, SplitMix64};
+use reinfors_core::SplitMix64;
 
 /// The most tiles of a course, and half the width of the playfield (P of document 01).
 pub const MOST: u32 = 2_500;
