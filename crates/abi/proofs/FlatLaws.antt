@@ -21,7 +21,7 @@ use Rattle.run.specs.declared.drive.DriveAnswer.{DriveAnswer}
 use Rattle.run.specs.declared.settle.SettleAnswer.{SettleAnswer}
 use Rattle.run.specs.declared.sheet.SheetAnswer.{SheetAnswer}
 use Rattle.run.specs.Drive.{driveCauseOf}
-use Rattle.abi.specs.Flat.{flatLaid, flatCurbs, runOf, flatBegun, flatStarted, flatDriven, flatSettle, flatSettled, flatSheet, flatReplayed}
+use Rattle.abi.specs.Flat.{flatLaid, flatCurbs, runOf, flatBegun, flatStarted, flatDriven, flatSettle, flatSettled, flatSheet, flatAnswers, flatReplayed, replayColumns, columnsAfter}
 use Rattle.abi.specs.declared.flat.FlatLaid.{FlatLaid}
 use Rattle.abi.specs.declared.flat.FlatCurbs.{FlatCurbs}
 use Rattle.abi.specs.declared.flat.FlatBegun.{FlatBegun}
@@ -85,17 +85,16 @@ settled-whole f a r d e p = ap (λ (g : FlatSettle). settledFrom g r) e ∙ sett
 abbrev replayedFrom : FlatLaid → FlatBegun → FlatSheet → FlatReplayed
 replayedFrom l b s = record { laid = l; «start_cause» = b .cause; «start_count» = b .count; «start_lap» = b .lap; sheet = s }
 
-replayed-flat : (q : Replay) → replayedFrom (flatLaid (q .laid)) (flatBegun (q .start)) (flatSheet (q .sheet)) ≡ flatReplayed q
-unfolding flatReplayed flatBegun
-replayed-flat q = refl
+answers-flat : (l : Laid) (b : StartAnswer) (s : SheetAnswer) → replayedFrom (flatLaid l) (flatBegun b) (flatSheet s) ≡ flatAnswers l b s
+unfolding flatAnswers flatBegun
+answers-flat l b s = refl
 
-pub replayed-whole : (l : FlatLaid) (b : FlatBegun) (s : FlatSheet) (al : Laid) (ab : StartAnswer) (sh : SheetAnswer) (c : Lent) (ws : List ℕ) (ns : List Float) (q : Replay)
-    → l ≡ flatLaid al → b ≡ flatBegun ab → s ≡ flatSheet sh → replay al ab sh c ws ns ≡ q
-    → (replayedFrom l b s ≡ flatReplayed q) × ((c ≡ q .lent) × ((ws ≡ q .words) × (ns ≡ q .numbers)))
-replayed-whole l b s al ab sh c ws ns q el eb es p = (
-  (λ i. replayedFrom (el i) (eb i) (es i)) ∙ replayed-flat (replay al ab sh c ws ns) ∙ ap flatReplayed p,
-  (
-    ap (λ (z : Replay). z .lent) p,
-    (ap (λ (z : Replay). z .words) p, ap (λ (z : Replay). z .numbers) p),
-  ),
-)
+pub answers-whole : (fl : FlatLaid) (fb : FlatBegun) (fs : FlatSheet) (l : Laid) (b : StartAnswer) (s : SheetAnswer)
+    → fl ≡ flatLaid l → fb ≡ flatBegun b → fs ≡ flatSheet s → replayedFrom fl fb fs ≡ flatAnswers l b s
+answers-whole fl fb fs l b s el eb es = (λ i. replayedFrom (el i) (eb i) (es i)) ∙ answers-flat l b s
+
+pub replayed-whole : (f : FlatReplayed) (a : Laid) (b : StartAnswer) (s : SheetAnswer) (l : Lent) (ws : List ℕ) (ns : List Float) (q : Replay)
+    → f ≡ flatAnswers a b s → replay a b s l ws ns ≡ q → (f ≡ flatReplayed q) × (replayColumns l ws ns ≡ columnsAfter q)
+unfolding flatReplayed columnsAfter
+replayed-whole f a b s l ws ns q e p =
+    (e ∙ ap (λ (z : Replay). flatAnswers (z .laid) (z .start) (z .sheet)) p, ap (λ (z : Replay). replayColumns (z .lent) (z .words) (z .numbers)) p)

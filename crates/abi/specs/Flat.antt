@@ -4,7 +4,7 @@ use Prim.Native.Nat.{ℕ}
 use lib.ListN.{getD}
 use lib.Ieee.{Float, nan}
 use Rattle.rng.specs.declared.Draw.{Draw as Drawn}
-use Rattle.course.specs.Lent.{laidCauseOf, laidCountOf, lengthOf, fallbackOf, firstOf}
+use Rattle.course.specs.Lent.{Lent, laidCauseOf, laidCountOf, lengthOf, fallbackOf, firstOf}
 use Rattle.course.specs.Curbs.{curbCauseOf, curbCountOf}
 use Rattle.course.specs.Angle.{angleCauseOf, valueOf}
 use Rattle.course.specs.declared.checkpoints.Checkpoint.{Checkpoint}
@@ -141,13 +141,28 @@ flatSheet a =
       fallback = sheetFiguresOf a .fallback;
     }
 
--- the answers of a whole replay; its columns are lent beside them
-unfoldable pub flatReplayed : Replay → FlatReplayed
-flatReplayed r =
+-- ---- a whole replay: its three answers, and the columns that it is lent
+
+unfoldable pub flatAnswers : Laid → StartAnswer → SheetAnswer → FlatReplayed
+flatAnswers l b s =
     record {
-      laid = flatLaid (r .laid);
-      «start_cause» = startCauseOf (r .start);
-      «start_count» = startCountOf (r .start);
-      «start_lap» = startLapOf (r .start);
-      sheet = flatSheet (r .sheet);
+      laid = flatLaid l;
+      «start_cause» = startCauseOf b;
+      «start_count» = startCountOf b;
+      «start_lap» = startLapOf b;
+      sheet = flatSheet s;
     }
+
+unfoldable pub flatReplayed : Replay → FlatReplayed
+flatReplayed r = flatAnswers (r .laid) (r .start) (r .sheet)
+
+pub record ReplayColumns : Type 0 where
+  pub course : Lent
+  pub words : List ℕ
+  pub numbers : List Float
+
+abbrev pub replayColumns : Lent → List ℕ → List Float → ReplayColumns
+replayColumns l ws ns = record { course = l; words = ws; numbers = ns }
+
+unfoldable pub columnsAfter : Replay → ReplayColumns
+columnsAfter r = replayColumns (r .lent) (r .words) (r .numbers)

@@ -1,7 +1,7 @@
 // What crosses the boundary: each answer as a struct of numbers, 0 and false where a case has none, and structs around
 // the arrays that C cannot pass by value.
 ghost use mathlib.Core.Path.{_≡_};
-ghost use Rattle.abi.specs.Flat.{flatLaid, flatCurbs, flatBegun, flatSettle, flatSheet, flatAngle};
+ghost use Rattle.abi.specs.Flat.{flatLaid, flatCurbs, flatBegun, flatSettle, flatSheet, flatAngle, flatAnswers};
 ghost use Rattle.run.specs.Drive.{driveCauseOf};
 use course::curbs::CurbAnswer;
 use course::points::Laid;
@@ -9,6 +9,7 @@ use course::trig::Angle;
 use run::drive::DriveAnswer;
 use run::dynamics::Force;
 use run::dynamics::Motion;
+use run::replay::Replayed;
 use run::settle::SettleAnswer;
 use run::sheet::SheetAnswer;
 use run::start::StartAnswer;
@@ -93,28 +94,32 @@ pub struct FlatReplayed {
     pub sheet: FlatSheet,
 }
 
+// The poses of the four wheels.
 #[repr(C)]
 pub struct Poses {
     pub wheels: [Pose; 4],
 }
 
+// What the host says of the four wheels.
 #[repr(C)]
 pub struct Motions {
     pub wheels: [Motion; 4],
 }
 
+// A corner of a quad.
 #[repr(C)]
 pub struct Corner {
     pub x: f64,
     pub y: f64,
 }
 
+// Four corners, in order round the quad.
 #[repr(C)]
 pub struct Quad {
     pub corners: [Corner; 4],
 }
 
-// A checkpoint of an attempt, laid out as C has it.
+// A checkpoint of an attempt. The course's own struct leaves its layout open; this one has C's.
 #[repr(C)]
 pub struct FlatCheckpoint {
     pub angle: f64,
@@ -122,6 +127,7 @@ pub struct FlatCheckpoint {
     pub y: f64,
 }
 
+// The twelve checkpoints of an attempt.
 #[repr(C)]
 pub struct CheckpointList {
     pub checkpoints: [FlatCheckpoint; 12],
@@ -151,6 +157,7 @@ pub(crate) struct FlatSettle {
     pub ended: bool,
 }
 
+// The answer of lay or points.
 pub(crate) fn laid(answer: Laid) -> FlatLaid
     ensures { λ r. ⌜ r ≡ flatLaid answer ⌝ }
 {
@@ -185,6 +192,7 @@ pub(crate) fn laid(answer: Laid) -> FlatLaid
     }
 }
 
+// The answer of curbs.
 pub(crate) fn curbs(answer: CurbAnswer) -> FlatCurbs
     ensures { λ r. ⌜ r ≡ flatCurbs answer ⌝ }
 {
@@ -194,6 +202,7 @@ pub(crate) fn curbs(answer: CurbAnswer) -> FlatCurbs
     }
 }
 
+// The answer of start.
 pub(crate) fn begun(answer: StartAnswer) -> FlatBegun
     ensures { λ r. ⌜ r ≡ flatBegun answer ⌝ }
 {
@@ -211,6 +220,7 @@ pub(crate) fn begun(answer: StartAnswer) -> FlatBegun
     }
 }
 
+// The cause that drive answered, 0 where it gave forces.
 pub(crate) fn drive_cause(answer: DriveAnswer) -> u32
     ensures { λ r. ⌜ r ≡ driveCauseOf answer ⌝ }
 {
@@ -220,6 +230,7 @@ pub(crate) fn drive_cause(answer: DriveAnswer) -> u32
     }
 }
 
+// The answer of settle.
 pub(crate) fn settle(answer: SettleAnswer) -> FlatSettle
     ensures { λ r. ⌜ r ≡ flatSettle answer ⌝ }
 {
@@ -243,6 +254,7 @@ pub(crate) fn settle(answer: SettleAnswer) -> FlatSettle
     }
 }
 
+// The answer of sheet.
 pub(crate) fn sheet(answer: SheetAnswer) -> FlatSheet
     ensures { λ r. ⌜ r ≡ flatSheet answer ⌝ }
 {
@@ -270,11 +282,29 @@ pub(crate) fn sheet(answer: SheetAnswer) -> FlatSheet
     }
 }
 
+// The answer of sine, cosine or atan2.
 pub(crate) fn angle(answer: Angle) -> FlatAngle
     ensures { λ r. ⌜ r ≡ flatAngle answer ⌝ }
 {
     match answer {
         Angle::Value(value) => FlatAngle { cause: 0, value },
         Angle::Refused(cause) => FlatAngle { cause, value: 0.0 },
+    }
+}
+
+// The answers of a replay.
+pub(crate) fn replayed(r: Replayed) -> FlatReplayed
+    ensures { λ s. ⌜ s ≡ flatAnswers (r .laid) (r .start) (r .sheet) ⌝ }
+{
+    let course = r.laid;
+    let start = r.start;
+    let last = r.sheet;
+    let f = begun(start);
+    FlatReplayed {
+        laid: laid(course),
+        start_cause: f.cause,
+        start_count: f.count,
+        start_lap: f.lap,
+        sheet: sheet(last),
     }
 }

@@ -33,6 +33,7 @@ pub extern "C" fn grader_lay_attempts(
     flat::laid(lay::lay_attempts(attempts, seed, alpha, beta, x, y, tiles, offsets, list))
 }
 
+// A checkpoint as the course has it.
 fn spot(c: FlatCheckpoint) -> Checkpoint
     ensures { λ r. ⌜ r ≡ spotFrom c ⌝ }
 {
@@ -43,6 +44,7 @@ fn spot(c: FlatCheckpoint) -> Checkpoint
     }
 }
 
+// The twelve, each as the course has it.
 fn spots(l: [FlatCheckpoint; 12]) -> [Checkpoint; 12]
     ensures { λ r. ⌜ r ≡ checkpointsFrom l ⌝ }
 {
@@ -82,6 +84,7 @@ pub extern "C" fn grader_lay_checkpoints(
     flat::laid(lay::lay_checkpoints(given, alpha, beta, x, y, tiles, offsets, list))
 }
 
+// A quad as the contact has it: four pairs.
 fn corners(q: [Corner; 4]) -> [[f64; 2]; 4]
     ensures { λ r. ⌜ r ≡ cornersFrom q ⌝ }
 {

@@ -13,6 +13,10 @@ use course::root;
 use course::trig;
 use rng::SplitMix64;
 
+// What a draw adds to the state.
+const GAMMA: u64 = 0x9E37_79B9_7F4A_7C15;
+
+// The sine of a, |a| at most 16.
 #[no_mangle]
 pub extern "C" fn grader_sine(a: f64) -> FlatAngle
     ensures { λ r. ⌜ r ≡ flatAngle (sineCall a) ⌝ }
@@ -20,6 +24,7 @@ pub extern "C" fn grader_sine(a: f64) -> FlatAngle
     flat::angle(trig::sine(a))
 }
 
+// The cosine of a, |a| at most 16.
 #[no_mangle]
 pub extern "C" fn grader_cosine(a: f64) -> FlatAngle
     ensures { λ r. ⌜ r ≡ flatAngle (cosineCall a) ⌝ }
@@ -27,6 +32,7 @@ pub extern "C" fn grader_cosine(a: f64) -> FlatAngle
     flat::angle(trig::cosine(a))
 }
 
+// The angle of (x, y), each at most 1,000,000 in size.
 #[no_mangle]
 pub extern "C" fn grader_atan2(y: f64, x: f64) -> FlatAngle
     ensures { λ r. ⌜ r ≡ flatAngle (atan2Call y x) ⌝ }
@@ -34,6 +40,7 @@ pub extern "C" fn grader_atan2(y: f64, x: f64) -> FlatAngle
     flat::angle(trig::atan2(y, x))
 }
 
+// The square root, as IEEE 754 has it.
 #[no_mangle]
 pub extern "C" fn grader_sqrt(x: f64) -> f64
     ensures { λ r. ⌜ r ≡ sqrtOf x ⌝ }
@@ -49,7 +56,8 @@ pub extern "C" fn grader_cell(v: f64) -> u32
     cell::cell_of(v) as u32
 }
 
-// The draw of the generator at a state, and the state to go on with.
+// The draw of the generator at a state, and the state to go on with. The generator keeps its state to itself, so the next
+// one is worked out here; the contract says that it is the generator's.
 #[no_mangle]
 pub extern "C" fn grader_draw(state: u64) -> Draw
     ensures { λ r. ⌜ r ≡ flatDraw (drawOf (atState state)) ⌝ }
@@ -59,6 +67,6 @@ pub extern "C" fn grader_draw(state: u64) -> Draw
     let value = d.value;
     Draw {
         value,
-        state: std::num::wrapping_add_u64(state, 0x9E37_79B9_7F4A_7C15),
+        state: std::num::wrapping_add_u64(state, GAMMA),
     }
 }

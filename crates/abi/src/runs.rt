@@ -9,7 +9,7 @@ ghost use Rattle.run.specs.Settle.{settleOf};
 ghost use Rattle.run.specs.Sheet.{sheetOf};
 ghost use Rattle.run.specs.Reward.{rewardOf};
 ghost use Rattle.run.specs.Batch.{replayOf};
-ghost use Rattle.abi.specs.Flat.{flatStarted, flatDriven, flatSettled, flatSheet, flatReplayed};
+ghost use Rattle.abi.specs.Flat.{flatStarted, flatDriven, flatSettled, flatSheet, flatReplayed, replayColumns, columnsAfter};
 use crate::flat;
 use crate::flat::FlatDriven;
 use crate::flat::FlatReplayed;
@@ -27,6 +27,7 @@ use run::sheet;
 use run::start;
 use run::state::Run;
 
+// The figures of a run, ended or not.
 #[no_mangle]
 pub extern "C" fn grader_sheet(run: Run) -> FlatSheet
     ensures { λ r. ⌜ r ≡ flatSheet (sheetOf mostTiles run) ⌝ }
@@ -34,6 +35,7 @@ pub extern "C" fn grader_sheet(run: Run) -> FlatSheet
     flat::sheet(sheet::sheet(run))
 }
 
+// tile * new_tiles / max(n, 1) + step, or the off value alone.
 #[no_mangle]
 pub extern "C" fn grader_reward(weights: Weights, new_tiles: u32, n: u32, off: bool) -> f64
     ensures { λ r. ⌜ r ≡ rewardOf weights «new_tiles» n off ⌝ }
@@ -135,9 +137,7 @@ pub extern "C" fn grader_replay(
     numbers: &mut [f64],
 ) -> FlatReplayed
     ensures { λ r. ⌜ r ≡ flatReplayed (replayOf seed (lent (now (alpha .entry)) (now (beta .entry)) (now (x .entry)) (now (y .entry)) (now (tiles .entry)) (now (offsets .entry)) (now (list .entry))) (record { share = share; limit = limit; poses = poses .wheels }) many (now (calls .entry)) (now (given .entry)) (now (words .entry)) (now (numbers .entry))) ⌝ }
-    ensures { λ _. ⌜ lent (now (alpha .exit)) (now (beta .exit)) (now (x .exit)) (now (y .exit)) (now (tiles .exit)) (now (offsets .exit)) (now (list .exit)) ≡ replayOf seed (lent (now (alpha .entry)) (now (beta .entry)) (now (x .entry)) (now (y .entry)) (now (tiles .entry)) (now (offsets .entry)) (now (list .entry))) (record { share = share; limit = limit; poses = poses .wheels }) many (now (calls .entry)) (now (given .entry)) (now (words .entry)) (now (numbers .entry)) .lent ⌝ }
-    ensures { λ _. ⌜ now (words .exit) ≡ replayOf seed (lent (now (alpha .entry)) (now (beta .entry)) (now (x .entry)) (now (y .entry)) (now (tiles .entry)) (now (offsets .entry)) (now (list .entry))) (record { share = share; limit = limit; poses = poses .wheels }) many (now (calls .entry)) (now (given .entry)) (now (words .entry)) (now (numbers .entry)) .words ⌝ }
-    ensures { λ _. ⌜ now (numbers .exit) ≡ replayOf seed (lent (now (alpha .entry)) (now (beta .entry)) (now (x .entry)) (now (y .entry)) (now (tiles .entry)) (now (offsets .entry)) (now (list .entry))) (record { share = share; limit = limit; poses = poses .wheels }) many (now (calls .entry)) (now (given .entry)) (now (words .entry)) (now (numbers .entry)) .numbers ⌝ }
+    ensures { λ _. ⌜ replayColumns (lent (now (alpha .exit)) (now (beta .exit)) (now (x .exit)) (now (y .exit)) (now (tiles .exit)) (now (offsets .exit)) (now (list .exit))) (now (words .exit)) (now (numbers .exit)) ≡ columnsAfter (replayOf seed (lent (now (alpha .entry)) (now (beta .entry)) (now (x .entry)) (now (y .entry)) (now (tiles .entry)) (now (offsets .entry)) (now (list .entry))) (record { share = share; limit = limit; poses = poses .wheels }) many (now (calls .entry)) (now (given .entry)) (now (words .entry)) (now (numbers .entry))) ⌝ }
 {
     let wheels = poses.wheels;
     let r = replay::replay(
@@ -158,17 +158,5 @@ pub extern "C" fn grader_replay(
         words,
         numbers,
     );
-    let course = r.laid;
-    let start = r.start;
-    let last = r.sheet;
-    let laid = flat::laid(course);
-    let f = flat::begun(start);
-    let sheet = flat::sheet(last);
-    FlatReplayed {
-        laid,
-        start_cause: f.cause,
-        start_count: f.count,
-        start_lap: f.lap,
-        sheet,
-    }
+    flat::replayed(r)
 }

@@ -5,22 +5,14 @@ use Rattle.abi.proofs.runs.grader_replay.Statement.{statement}
 use Rattle.abi.proofs.runs.grader_replay.Tie as tie
 use Rattle.abi.proofs.runs.grader_replay.Reads as reads
 use Rattle.abi.proofs.runs.grader_replay.Lts as lts
-use Rattle.abi.proofs.flat.begun.Reads as begun-reads
-use Rattle.abi.proofs.flat.laid.Reads as laid-reads
-use Rattle.abi.proofs.flat.sheet.Reads as sheet-reads
+use Rattle.abi.proofs.flat.replayed.Reads as replayed-reads
 use Rattle.run.proofs.replay.replay.Reads as replay-reads
 
 replay-requires : tie.Need-replay-requires
 replay-requires c κs = search needs
 
-laid-requires : tie.Need-laid-requires
-laid-requires c κs = search needs
-
-begun-requires : tie.Need-begun-requires
-begun-requires c κs = search needs
-
-sheet-requires : tie.Need-sheet-requires
-sheet-requires c κs = search needs
+replayed-requires : tie.Need-replayed-requires
+replayed-requires c κs = search needs
 
 same-length : tie.Need-same-length
 same-length c = search needs
@@ -50,16 +42,14 @@ same-length-9 : tie.Need-same-length-9
 same-length-9 c = search needs
 
 returns : tie.Need-returns
-returns c = replayed-whole _ _ _ _ _ _ _ _ _ _ (c .before .before .laid .ensures) (c .before .begun .ensures) (c .sheet .ensures) (c .before .before .before .before .before .before .before .before .before .before .before .before .before .before .before .before .before .before .before .before .before .replay .ensures)
+returns c = replayed-whole _ _ _ _ _ _ _ _ (c .replayed .ensures) (c .before .before .before .before .before .before .before .before .before .before .before .before .before .before .before .before .before .before .before .replay .ensures)
 
 pub grader-replay-spec : {M : Type 1} → statement M
 grader-replay-spec =
     tie.close
     (tie.spec
     replay-requires
-    laid-requires
-    begun-requires
-    sheet-requires
+    replayed-requires
     same-length
     same-length-2
     same-length-3
