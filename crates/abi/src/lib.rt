@@ -1,0 +1,10 @@
+// The C boundary: the calls of the grader for a host in C or Rust. An enum does not cross, so each answer is a struct of
+// numbers; a slice is a pointer and a length.
+//
+// Every function here is proved, and the crate assumes nothing of its own. No function has a `requires`. The definitions
+// that the contracts cite stand in specs/.
+pub mod courses;
+pub mod flat;
+pub mod inner;
+pub mod numbers;
+pub mod runs;
