@@ -60,7 +60,7 @@ fn laid(t: &mut Tally, g: &mut SplitMix64, unit: Unit, what: &'static str, track
     let need = probe::raw_ref(track).1.len();
     let mut whole = LONG;
     whole[6] = whole[6].max(need + 7);
-    let long = lengths(g, need, &whole);
+    let long = if need > 1_000_000 { whole } else { lengths(g, need, &whole) };
     let mut lent = Lent::untouched(&whole);
     let answer = call(&mut lent, &long);
     let (rust, left) = expected(track, &long, &whole);
@@ -107,9 +107,11 @@ pub fn checkpoints(t: &mut Tally, g: &mut SplitMix64, unit: Unit) {
     laid(t, g, unit, "lay, given checkpoints", &track, format!("{cs:?}"), |lent, long| port::lay_checkpoints(&cs, lent, long));
 }
 
-/// Given points: a walk, one place, or corner to corner with cells beyond the field; sometimes one is refused.
+/// Given points: a walk, one place, or corner to corner with cells beyond the field. Number 7 is the most points between
+/// two corners: the longest index list of all, 11,222,500 entries.
 pub fn made_up(g: &mut SplitMix64, number: u64) -> Vec<TrackPoint> {
     let n = match number % 8 {
+        _ if number == 7 => 2_500,
         0 => 1,
         1 => 2,
         2 => 3,
@@ -118,7 +120,7 @@ pub fn made_up(g: &mut SplitMix64, number: u64) -> Vec<TrackPoint> {
     };
     let (mut beta, mut x, mut y) = (between(g, -6.0, 6.0), between(g, -300.0, 300.0), between(g, -300.0, 300.0));
     let far = [0.0, 2.0, 5.0, 60.0][number as usize / 8 % 4];
-    let corners = number % 16 == 12 && n < 60;
+    let corners = number == 7 || (number % 16 == 12 && n < 60);
     (0..n)
         .map(|i| {
             beta = (beta + between(g, -0.3, 0.3)).clamp(-16.0, 16.0);
@@ -154,14 +156,15 @@ fn given_cause(points: &[TrackPoint], count: u32, given: usize, room: bool) -> u
 /// A course of given points, a few of them refused, and its curbs.
 pub fn points(t: &mut Tally, g: &mut SplitMix64, unit: Unit) {
     let mut points = made_up(g, unit.number);
-    if g.next_u64() % 8 == 0 {
+    let largest = unit.number == 7;
+    if !largest && g.next_u64() % 8 == 0 {
         let at = g.next_u64() as usize % points.len();
         points[at].x = [f64::NAN, 1000.0000000000001, -1000.0000000000001, f64::INFINITY][g.next_u64() as usize % 4];
     }
     let count = match g.next_u64() % 16 {
-        0 => 0,
-        1 => 2_501,
-        2 => points.len() as u32 + 1,
+        0 if !largest => 0,
+        1 if !largest => 2_501,
+        2 if !largest => points.len() as u32 + 1,
         _ => points.len() as u32,
     };
     let [b, x, y] = columns(&points);

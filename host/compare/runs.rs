@@ -190,7 +190,7 @@ fn begin(g: &mut SplitMix64, n: u32, lent: [usize; 3], bad: bool) -> Begin {
 /// The points of a unit's course: a seed's or given ones.
 fn points_of(g: &mut SplitMix64, unit: Unit) -> Vec<TrackPoint> {
     if unit.number % 3 == 0 {
-        made_up(g, g.clone().next_u64())
+        made_up(g, 8 + g.clone().next_u64() % 1_000)
     } else {
         Track::generate(g.next_u64() as u32).points
     }
@@ -225,7 +225,7 @@ pub fn run(t: &mut Tally, g: &mut SplitMix64, unit: Unit, most: u64) {
         if wild_unit && g.next_u64() % 3 == 0 {
             poses = poses.map(|p| if g.next_u64() % 2 == 0 { edge_pose(g) } else { p });
         }
-        if tick == 0 || (b.model.state.ended && g.next_u64() % 3 == 0) {
+        if tick == 0 || ((b.model.state.ended || b.model.state.n == 0) && g.next_u64() % 4 > 0) {
             let bad = g.next_u64() % 6 == 0;
             let lent = if g.next_u64() % 2 == 0 { exact } else { b.whole() };
             let asked = begin(g, n, lent, bad);
