@@ -85,11 +85,12 @@ pub fn attempts(t: &mut Tally, g: &mut SplitMix64, unit: Unit) {
     });
 }
 
-/// Given checkpoints, drawn wider than a seed draws them, near the middle, or anything at all.
+/// Given checkpoints, drawn wider than a seed draws them, near the middle, all at one low angle (a third pass), or anything at all.
 pub fn checkpoints(t: &mut Tally, g: &mut SplitMix64, unit: Unit) {
     let tau = std::f64::consts::TAU;
     let wild = [f64::NAN, f64::INFINITY, -f64::INFINITY, 1e300, -7.0, 0.0, -0.0];
-    let cs: [(f64, f64, f64); 12] = std::array::from_fn(|c| match unit.number % 4 {
+    let low = between(g, -9.0, -3.0);
+    let cs: [(f64, f64, f64); 12] = std::array::from_fn(|c| match unit.number % 5 {
         0 => (between(g, -8.0, 8.0), between(g, -300.0, 300.0), between(g, -300.0, 300.0)),
         1 => {
             let angle = tau / 12.0 * between(g, c as f64, c as f64 + 1.0);
@@ -97,6 +98,7 @@ pub fn checkpoints(t: &mut Tally, g: &mut SplitMix64, unit: Unit) {
             (angle, r * libm::cos(angle), r * libm::sin(angle))
         }
         2 => (between(g, -6.3, 7.0), between(g, -30.0, 30.0), between(g, -30.0, 30.0)),
+        3 => (low, between(g, -200.0, 200.0), between(g, -200.0, 200.0)),
         _ => {
             let any = |g: &mut SplitMix64| wild[g.next_u64() as usize % wild.len()];
             let angle = tau / 12.0 * c as f64 - if g.next_u64() % 3 == 0 { tau } else { 0.0 };
