@@ -1,0 +1,356 @@
+//! The C boundary, as host/c/grader.h has it: structs that pass by value, the functions, and a safe call for each over
+//! slices. The only file with `unsafe`.
+//!
+//! Why each `unsafe` below is sound: the grader asks of a lent column that its pointer is aligned, not null and good for
+//! the length beside it, and that a column lent for writing overlaps no other argument. Slices have the first, `&mut`
+//! has the second. It keeps no pointer, and has no other precondition. Every struct and bool that it returns is
+//! made by it whole.
+
+#[repr(C)]
+#[derive(Clone, Copy, Debug, Default, PartialEq)]
+pub struct Pose {
+    pub x: f64,
+    pub y: f64,
+    pub cos: f64,
+    pub sin: f64,
+}
+
+#[repr(C)]
+#[derive(Clone, Copy, Debug, Default, PartialEq)]
+pub struct Motion {
+    pub joint_angle: f64,
+    pub sin: f64,
+    pub cos: f64,
+    pub vx: f64,
+    pub vy: f64,
+}
+
+#[repr(C)]
+#[derive(Clone, Copy, Debug, Default, PartialEq)]
+pub struct Force {
+    pub motor: f64,
+    pub fx: f64,
+    pub fy: f64,
+}
+
+#[repr(C)]
+#[derive(Clone, Copy, Debug, Default, PartialEq)]
+pub struct Wheel {
+    pub gas: f64,
+    pub brake: f64,
+    pub steer: f64,
+    pub omega: f64,
+    pub phase: f64,
+}
+
+#[repr(C)]
+#[derive(Clone, Copy, Debug, PartialEq)]
+pub struct Weights {
+    pub tile: f64,
+    pub step: f64,
+    pub off_playfield: f64,
+}
+
+#[repr(C)]
+#[derive(Clone, Copy, Debug, PartialEq)]
+pub struct Core {
+    pub n: u32,
+    pub visited_count: u32,
+    pub tick: u32,
+    pub tick_limit: u32,
+    pub lap_share: f64,
+    pub lap: bool,
+    pub ended: bool,
+    pub fallback: bool,
+    pub driven: bool,
+    pub ctl: [Wheel; 4],
+    pub fuel_spent: f64,
+}
+
+#[repr(C)]
+#[derive(Clone, Copy, Debug, PartialEq)]
+pub struct State {
+    pub core: Core,
+    pub credited: [u64; 40],
+    pub wheels: [u64; 160],
+}
+
+#[repr(C)]
+#[derive(Clone, Copy)]
+pub struct Laid {
+    pub cause: u32,
+    pub n: u32,
+    pub entries: u32,
+    pub fallback: bool,
+    pub beta: f64,
+    pub x: f64,
+    pub y: f64,
+}
+
+#[repr(C)]
+pub struct CurbsFound {
+    pub cause: u32,
+    pub count: u32,
+}
+
+#[repr(C)]
+pub struct Started {
+    pub cause: u32,
+    pub count: u32,
+    pub lap: bool,
+    pub run: State,
+}
+
+#[repr(C)]
+pub struct Driven {
+    pub cause: u32,
+    pub forces: [Force; 4],
+    pub run: State,
+}
+
+#[repr(C)]
+pub struct Settled {
+    pub cause: u32,
+    pub new_tiles: u32,
+    pub n: u32,
+    pub off: bool,
+    pub lap: bool,
+    pub ended: bool,
+    pub run: State,
+}
+
+#[repr(C)]
+pub struct Figures {
+    pub cause: u32,
+    pub tick: u32,
+    pub credited: u32,
+    pub n: u32,
+    pub share: u32,
+    pub lap: bool,
+    pub ended: bool,
+    pub fallback: bool,
+}
+
+#[repr(C)]
+pub struct Replayed {
+    pub laid: Laid,
+    pub start_cause: u32,
+    pub start_count: u32,
+    pub start_lap: bool,
+    pub sheet: Figures,
+}
+
+#[repr(C)]
+pub struct Angle {
+    pub cause: u32,
+    pub value: f64,
+}
+
+#[repr(C)]
+pub struct Drawn {
+    pub value: u64,
+    pub state: u64,
+}
+
+// C passes no array by value, so each stands in a struct.
+#[repr(C)]
+struct Poses {
+    wheels: [Pose; 4],
+}
+
+#[repr(C)]
+struct Motions {
+    wheels: [Motion; 4],
+}
+
+type F = *const f64;
+type Fm = *mut f64;
+type I = *const u32;
+type Im = *mut u32;
+type N = usize;
+
+#[rustfmt::skip]
+extern "C" {
+    fn grader_lay(seed: u32, a: Fm, al: N, b: Fm, bl: N, x: Fm, xl: N, y: Fm, yl: N, t: Fm, tl: N, o: Im, ol: N, l: Im, ll: N) -> Laid;
+    fn grader_points(gb: F, gbl: N, gx: F, gxl: N, gy: F, gyl: N, count: u32, a: Fm, al: N, b: Fm, bl: N, x: Fm, xl: N, y: Fm, yl: N, t: Fm, tl: N, o: Im, ol: N, l: Im, ll: N) -> Laid;
+    fn grader_curbs(gb: F, gbl: N, gx: F, gxl: N, gy: F, gyl: N, count: u32, q: Fm, ql: N, w: *mut u8, wl: N) -> CurbsFound;
+    fn grader_start(t: F, tl: N, o: I, ol: N, l: I, ll: N, n: u32, fallback: bool, share: f64, limit: u32, poses: Poses) -> Started;
+    fn grader_drive(run: State, action: u32, motions: Motions) -> Driven;
+    fn grader_settle(run: State, t: F, tl: N, o: I, ol: N, l: I, ll: N, x: f64, y: f64, poses: Poses) -> Settled;
+    fn grader_sheet(run: State) -> Figures;
+    fn grader_reward(weights: Weights, new_tiles: u32, n: u32, off: bool) -> f64;
+    fn grader_replay(seed: u32, a: Fm, al: N, b: Fm, bl: N, x: Fm, xl: N, y: Fm, yl: N, t: Fm, tl: N, o: Im, ol: N, l: Im, ll: N, share: f64, limit: u32, poses: Poses, many: u32, c: I, cl: N, g: F, gl: N, w: Im, wl: N, n: Fm, nl: N) -> Replayed;
+    fn grader_sine(a: f64) -> Angle;
+    fn grader_cosine(a: f64) -> Angle;
+    fn grader_atan2(y: f64, x: f64) -> Angle;
+    fn grader_sqrt(x: f64) -> f64;
+    fn grader_cell(v: f64) -> u32;
+    fn grader_draw(state: u64) -> Drawn;
+}
+
+/// The columns that a course is written to.
+pub struct Lent<'a> {
+    pub alpha: &'a mut [f64],
+    pub beta: &'a mut [f64],
+    pub x: &'a mut [f64],
+    pub y: &'a mut [f64],
+    pub tiles: &'a mut [f64],
+    pub offsets: &'a mut [u32],
+    pub list: &'a mut [u32],
+}
+
+/// The part of a course that a start or settle reads.
+#[derive(Clone, Copy)]
+pub struct Columns<'a> {
+    pub tiles: &'a [f64],
+    pub offsets: &'a [u32],
+    pub list: &'a [u32],
+}
+
+/// A start's arguments beside the course.
+#[derive(Clone, Copy)]
+pub struct Opening {
+    pub lap_share: f64,
+    pub tick_limit: u32,
+    pub poses: [Pose; 4],
+}
+
+#[rustfmt::skip]
+pub fn lay(seed: u32, c: Lent) -> Laid {
+    unsafe {
+        grader_lay(seed, c.alpha.as_mut_ptr(), c.alpha.len(), c.beta.as_mut_ptr(), c.beta.len(), c.x.as_mut_ptr(), c.x.len(),
+            c.y.as_mut_ptr(), c.y.len(), c.tiles.as_mut_ptr(), c.tiles.len(), c.offsets.as_mut_ptr(), c.offsets.len(),
+            c.list.as_mut_ptr(), c.list.len())
+    }
+}
+
+#[rustfmt::skip]
+pub fn points(beta: &[f64], x: &[f64], y: &[f64], count: u32, c: Lent) -> Laid {
+    unsafe {
+        grader_points(beta.as_ptr(), beta.len(), x.as_ptr(), x.len(), y.as_ptr(), y.len(), count,
+            c.alpha.as_mut_ptr(), c.alpha.len(), c.beta.as_mut_ptr(), c.beta.len(), c.x.as_mut_ptr(), c.x.len(),
+            c.y.as_mut_ptr(), c.y.len(), c.tiles.as_mut_ptr(), c.tiles.len(), c.offsets.as_mut_ptr(), c.offsets.len(),
+            c.list.as_mut_ptr(), c.list.len())
+    }
+}
+
+#[rustfmt::skip]
+pub fn curbs(beta: &[f64], x: &[f64], y: &[f64], count: u32, quads: &mut [f64], white: &mut [u8]) -> CurbsFound {
+    unsafe {
+        grader_curbs(beta.as_ptr(), beta.len(), x.as_ptr(), x.len(), y.as_ptr(), y.len(), count,
+            quads.as_mut_ptr(), quads.len(), white.as_mut_ptr(), white.len())
+    }
+}
+
+#[rustfmt::skip]
+pub fn start(c: Columns, n: u32, fallback: bool, opening: Opening) -> Started {
+    unsafe {
+        grader_start(c.tiles.as_ptr(), c.tiles.len(), c.offsets.as_ptr(), c.offsets.len(), c.list.as_ptr(), c.list.len(), n, fallback,
+            opening.lap_share, opening.tick_limit, Poses { wheels: opening.poses })
+    }
+}
+
+pub fn drive(run: State, action: u32, motions: [Motion; 4]) -> Driven {
+    unsafe { grader_drive(run, action, Motions { wheels: motions }) }
+}
+
+#[rustfmt::skip]
+pub fn settle(run: State, c: Columns, x: f64, y: f64, poses: [Pose; 4]) -> Settled {
+    unsafe {
+        grader_settle(run, c.tiles.as_ptr(), c.tiles.len(), c.offsets.as_ptr(), c.offsets.len(), c.list.as_ptr(), c.list.len(),
+            x, y, Poses { wheels: poses })
+    }
+}
+
+pub fn sheet(run: State) -> Figures {
+    unsafe { grader_sheet(run) }
+}
+
+pub fn reward(weights: Weights, new_tiles: u32, n: u32, off: bool) -> f64 {
+    unsafe { grader_reward(weights, new_tiles, n, off) }
+}
+
+/// A whole run's calls and, after it, their answers: four words and twenty numbers to a call, four words and twelve
+/// numbers to an answer.
+pub struct Batch<'a> {
+    pub many: u32,
+    pub calls: &'a [u32],
+    pub given: &'a [f64],
+    pub words: &'a mut [u32],
+    pub numbers: &'a mut [f64],
+}
+
+#[rustfmt::skip]
+pub fn replay(seed: u32, c: Lent, opening: Opening, b: Batch) -> Replayed {
+    unsafe {
+        grader_replay(seed, c.alpha.as_mut_ptr(), c.alpha.len(), c.beta.as_mut_ptr(), c.beta.len(), c.x.as_mut_ptr(), c.x.len(),
+            c.y.as_mut_ptr(), c.y.len(), c.tiles.as_mut_ptr(), c.tiles.len(), c.offsets.as_mut_ptr(), c.offsets.len(),
+            c.list.as_mut_ptr(), c.list.len(), opening.lap_share, opening.tick_limit, Poses { wheels: opening.poses },
+            b.many, b.calls.as_ptr(), b.calls.len(), b.given.as_ptr(), b.given.len(), b.words.as_mut_ptr(), b.words.len(),
+            b.numbers.as_mut_ptr(), b.numbers.len())
+    }
+}
+
+pub fn sine(a: f64) -> Angle {
+    unsafe { grader_sine(a) }
+}
+
+pub fn cosine(a: f64) -> Angle {
+    unsafe { grader_cosine(a) }
+}
+
+pub fn atan2(y: f64, x: f64) -> Angle {
+    unsafe { grader_atan2(y, x) }
+}
+
+pub fn sqrt(x: f64) -> f64 {
+    unsafe { grader_sqrt(x) }
+}
+
+pub fn cell(v: f64) -> u32 {
+    unsafe { grader_cell(v) }
+}
+
+pub fn draw(state: u64) -> Drawn {
+    unsafe { grader_draw(state) }
+}
+
+#[cfg(test)]
+mod tests {
+    use super::*;
+    use std::mem::{offset_of, size_of};
+
+    #[test]
+    fn sizes_are_those_of_the_header() {
+        assert_eq!([size_of::<Pose>(), size_of::<Motion>(), size_of::<Force>(), size_of::<Wheel>()], [32, 40, 24, 40]);
+        assert_eq!([size_of::<Weights>(), size_of::<Poses>(), size_of::<Motions>()], [24, 128, 160]);
+        assert_eq!([size_of::<Core>(), size_of::<State>()], [200, 1800]);
+        assert_eq!([size_of::<Laid>(), size_of::<CurbsFound>(), size_of::<Figures>(), size_of::<Replayed>()], [40, 8, 24, 80]);
+        assert_eq!([size_of::<Started>(), size_of::<Driven>(), size_of::<Settled>()], [1816, 1904, 1816]);
+        assert_eq!([size_of::<Angle>(), size_of::<Drawn>()], [16, 16]);
+    }
+
+    macro_rules! places {
+        ($t:ty: $($field:ident $at:expr),*) => { $(assert_eq!(offset_of!($t, $field), $at, stringify!($t.$field));)* };
+    }
+
+    #[test]
+    fn fields_stand_where_the_header_has_them() {
+        places!(Pose: x 0, y 8, cos 16, sin 24);
+        places!(Motion: joint_angle 0, sin 8, cos 16, vx 24, vy 32);
+        places!(Force: motor 0, fx 8, fy 16);
+        places!(Wheel: gas 0, brake 8, steer 16, omega 24, phase 32);
+        places!(Weights: tile 0, step 8, off_playfield 16);
+        places!(Core: n 0, visited_count 4, tick 8, tick_limit 12, lap_share 16, lap 24, ended 25, fallback 26, driven 27, ctl 32, fuel_spent 192);
+        places!(State: core 0, credited 200, wheels 520);
+        places!(Laid: cause 0, n 4, entries 8, fallback 12, beta 16, x 24, y 32);
+        places!(CurbsFound: cause 0, count 4);
+        places!(Started: cause 0, count 4, lap 8, run 16);
+        places!(Driven: cause 0, forces 8, run 104);
+        places!(Settled: cause 0, new_tiles 4, n 8, off 12, lap 13, ended 14, run 16);
+        places!(Figures: cause 0, tick 4, credited 8, n 12, share 16, lap 20, ended 21, fallback 22);
+        places!(Replayed: laid 0, start_cause 40, start_count 44, start_lap 48, sheet 52);
+        places!(Angle: cause 0, value 8);
+        places!(Drawn: value 0, state 8);
+    }
+}
