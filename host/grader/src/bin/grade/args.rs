@@ -1,0 +1,79 @@
+//! Arguments of a command, and how a command fails.
+use std::io::Write;
+use std::path::{Path, PathBuf};
+
+/// Why a command failed: by its arguments, or by what it found.
+#[derive(Debug)]
+pub enum Failure {
+    Usage(String),
+    Work(String),
+}
+
+impl Failure {
+    pub fn message(&self) -> &str {
+        let (Failure::Usage(m) | Failure::Work(m)) = self;
+        m
+    }
+    pub fn status(&self) -> u8 {
+        match self {
+            Failure::Usage(_) => 2,
+            Failure::Work(_) => 1,
+        }
+    }
+}
+
+pub type Done = Result<(), Failure>;
+
+/// What stands after a command's name.
+#[derive(Debug, Default)]
+pub struct Args {
+    pub words: Vec<String>,
+    pub svg: Option<PathBuf>,
+    pub out: Option<PathBuf>,
+    pub json: bool,
+    pub help: bool,
+}
+
+impl Args {
+    /// Takes the options that `known` names, and at most `most` other words.
+    pub fn read(given: Vec<String>, known: &[&str], most: usize) -> Result<Args, Failure> {
+        let mut args = Args::default();
+        let mut given = given.into_iter();
+        while let Some(word) = given.next() {
+            match word.as_str() {
+                "--help" | "-h" => args.help = true,
+                option if option.starts_with('-') && !known.contains(&option) => return Err(Failure::Usage(format!("no option {option} here; see --help"))),
+                "--json" => args.json = true,
+                "--svg" => args.svg = Some(value(&word, given.next())?),
+                "--out" => args.out = Some(value(&word, given.next())?),
+                _ => args.words.push(word),
+            }
+        }
+        if args.words.len() > most {
+            return Err(Failure::Usage(format!("one word too many: {}", args.words[most])));
+        }
+        Ok(args)
+    }
+}
+
+fn value(option: &str, next: Option<String>) -> Result<PathBuf, Failure> {
+    next.map(PathBuf::from).ok_or_else(|| Failure::Usage(format!("{option} needs a name after it")))
+}
+
+/// A seed: a whole number of 32 bits.
+pub fn seed(word: &str) -> Result<u32, Failure> {
+    word.parse().map_err(|_| Failure::Usage(format!("a seed is a whole number from 0 to {}, not {word}", u32::MAX)))
+}
+
+pub fn save(path: &Path, text: &str) -> Done {
+    std::fs::write(path, text).map_err(|e| Failure::Work(format!("cannot write {}: {e}", path.display())))
+}
+
+/// Prints to the standard output. A reader that has gone (`| head`) is no failure.
+pub fn print(text: &str) -> Done {
+    let mut out = std::io::stdout().lock();
+    match out.write_all(text.as_bytes()).and_then(|()| out.flush()) {
+        Err(e) if e.kind() != std::io::ErrorKind::BrokenPipe => Err(Failure::Work(format!("cannot print: {e}"))),
+        _ => Ok(()),
+    }
+}
