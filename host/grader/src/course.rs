@@ -54,7 +54,8 @@ impl Course {
 
     /// The course of given points. Refused by [`Refusal::PointCount`] and [`Refusal::Number`].
     pub fn from_points(points: &[Point]) -> Result<Course, Refusal> {
-        let [beta, x, y] = [|p: &Point| p.beta, |p: &Point| p.x, |p: &Point| p.y].map(|f| points.iter().map(f).collect::<Vec<f64>>());
+        let [beta, x, y] =
+            [|p: &Point| p.beta, |p: &Point| p.x, |p: &Point| p.y].map(|f| points.iter().map(f).collect::<Vec<f64>>());
         let count = u32::try_from(points.len()).unwrap_or(u32::MAX);
         let mut columns = Owned::new();
         let laid = columns.growing(|lent| ffi::points(&beta, &x, &y, count, lent))?;
@@ -138,7 +139,15 @@ pub(crate) struct Owned {
 impl Owned {
     pub(crate) fn new() -> Owned {
         let floats = || vec![0.0; POINTS];
-        Owned { alpha: floats(), beta: floats(), x: floats(), y: floats(), tiles: vec![0.0; TILES], offsets: vec![0; OFFSETS], list: vec![0; FIRST_LIST] }
+        Owned {
+            alpha: floats(),
+            beta: floats(),
+            x: floats(),
+            y: floats(),
+            tiles: vec![0.0; TILES],
+            offsets: vec![0; OFFSETS],
+            list: vec![0; FIRST_LIST],
+        }
     }
 
     pub(crate) fn lent(&mut self) -> Lent<'_> {

@@ -6,6 +6,7 @@
 //! has the second. It keeps no pointer, and has no other precondition. Every struct and bool that it returns is
 //! made by it whole.
 
+/// Where a wheel is, and the cosine and sine of its heading: it rolls along (-sin, cos).
 #[repr(C)]
 #[derive(Clone, Copy, Debug, Default, PartialEq)]
 pub struct Pose {
@@ -15,6 +16,7 @@ pub struct Pose {
     pub sin: f64,
 }
 
+/// What drive is told of a wheel: its angle to the hull, the sine and cosine of its heading, its velocity.
 #[repr(C)]
 #[derive(Clone, Copy, Debug, Default, PartialEq)]
 pub struct Motion {
@@ -25,6 +27,7 @@ pub struct Motion {
     pub vy: f64,
 }
 
+/// What drive answers for a wheel: the joint's motor speed, and the force to add at the wheel for a step of 1/50 s.
 #[repr(C)]
 #[derive(Clone, Copy, Debug, Default, PartialEq)]
 pub struct Force {
@@ -33,6 +36,7 @@ pub struct Force {
     pub fy: f64,
 }
 
+/// A wheel's controls, kept in the state.
 #[repr(C)]
 #[derive(Clone, Copy, Debug, Default, PartialEq)]
 pub struct Wheel {
@@ -43,6 +47,7 @@ pub struct Wheel {
     pub phase: f64,
 }
 
+/// What a reward is made of; by default those of the reference.
 #[repr(C)]
 #[derive(Clone, Copy, Debug, PartialEq)]
 pub struct Weights {
@@ -51,6 +56,13 @@ pub struct Weights {
     pub off_playfield: f64,
 }
 
+impl Default for Weights {
+    fn default() -> Weights {
+        Weights { tile: 1000.0, step: -0.1, off_playfield: -100.0 }
+    }
+}
+
+/// The state of a run but for its tile sets.
 #[repr(C)]
 #[derive(Clone, Copy, Debug, PartialEq)]
 pub struct Core {
@@ -67,6 +79,8 @@ pub struct Core {
     pub fuel_spent: f64,
 }
 
+/// The state of a run. Tile t is bit t % 64 of word t / 64 of `credited`; a wheel's tiles at the last contact are forty words
+/// of `wheels`, wheel by wheel. Keep it as it is.
 #[repr(C)]
 #[derive(Clone, Copy, Debug, PartialEq)]
 pub struct State {

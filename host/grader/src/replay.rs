@@ -40,8 +40,8 @@ const LENT: [u32; 2] = [20_000, 4_490];
 pub fn replay(seed: u32, lap_share: f64, tick_limit: u32, poses: [Pose; 4], calls: &[Call]) -> Result<Replayed, Refusal> {
     let many = u32::try_from(calls.len()).map_err(|_| Refusal::Short)?;
     let opening = Opening { lap_share, tick_limit, poses };
-    let (words, given): (Vec<_>, Vec<_>) = calls.iter().map(Call::flat).unzip();
-    let (words, given) = (words.concat(), given.concat());
+    let words: Vec<u32> = calls.iter().flat_map(|c| c.flat().0).collect();
+    let given: Vec<f64> = calls.iter().flat_map(|c| c.flat().1).collect();
     let mut answers = (vec![0; ANSWER.0 * calls.len()], vec![0.0; ANSWER.1 * calls.len()]);
     let mut columns = Owned::new();
     loop {
@@ -85,7 +85,13 @@ impl Answer {
     fn of(w: &[u32], v: &[f64]) -> Answer {
         match w[0] {
             0 => Answer::Forces([0, 3, 6, 9].map(|i| Force { motor: v[i], fx: v[i + 1], fy: v[i + 2] })),
-            1 => Answer::Settled(Settled { new_tiles: w[1], n: w[2], off: w[3] & 1 != 0, lap: w[3] & 2 != 0, ended: w[3] & 4 != 0 }),
+            1 => Answer::Settled(Settled {
+                new_tiles: w[1],
+                n: w[2],
+                off: w[3] & 1 != 0,
+                lap: w[3] & 2 != 0,
+                ended: w[3] & 4 != 0,
+            }),
             _ => Answer::Refused(Refusal::check(w[1], 0).expect_err("a refusal has a cause")),
         }
     }

@@ -101,6 +101,7 @@ fn a_refused_call_changes_nothing() {
     assert_eq!(run, before);
     run.settle(&course, 0.0, 0.0, poses).unwrap();
     assert_eq!(run.drive(3, still()), Err(Refusal::TickLimit));
+    assert!(!run.sheet().unwrap().ended);
 }
 
 #[test]
@@ -110,7 +111,7 @@ fn off_the_field_ends_the_run() {
     run.drive(0, still()).unwrap();
     let settled = run.settle(&course, 334.0, 0.0, wheels(&course, 0)).unwrap();
     assert!(settled.off && settled.ended && !settled.lap);
-    assert_eq!(settled.reward(Weights { tile: 1000.0, step: -0.1, off_playfield: -100.0 }), -100.0);
+    assert_eq!(settled.reward(Weights::default()), -100.0);
     assert_eq!(run.drive(0, still()), Err(Refusal::NoRun));
     assert!(run.sheet().unwrap().ended);
 }
@@ -171,6 +172,21 @@ fn a_replay_answers_like_the_calls_one_by_one() {
         assert_eq!(replayed.answers, answers);
         assert_eq!(replayed.sheet, run.sheet());
     }
+}
+
+#[test]
+fn runs_on_one_course_go_on_at_once() {
+    let course = Course::lay(0);
+    let graded = |k: usize| {
+        let mut run = begun(&course, 1000);
+        let answers: Vec<Answer> = calls(&course).iter().skip(2 * k).map(|c| answer(&mut run, &course, c)).collect();
+        (answers, run)
+    };
+    let (graded, alone) = (&graded, [0, 1, 2, 3].map(graded));
+    std::thread::scope(|s| {
+        let at_once = [0, 1, 2, 3].map(|k| s.spawn(move || graded(k)));
+        assert_eq!(at_once.map(|t| t.join().unwrap()), alone);
+    });
 }
 
 #[test]

@@ -33,7 +33,12 @@ fn lay_draws_every_tile() {
     assert!(grade(&["lay", "0", "--svg", file.to_str().unwrap()]).status.success());
     let svg = std::fs::read_to_string(file).unwrap();
     assert_eq!(svg.matches("<polygon class=\"tile\"").count(), 292);
-    assert!(svg.contains("class=\"red\"") && svg.contains("class=\"white\"") && svg.contains(">280</text>") && svg.contains(">start</text>"));
+    assert!(
+        svg.contains("class=\"red\"")
+            && svg.contains("class=\"white\"")
+            && svg.contains(">280</text>")
+            && svg.contains(">start</text>")
+    );
 }
 
 #[test]
@@ -54,7 +59,11 @@ fn a_demo_replays_to_its_sheet() {
 fn replay_says_refusals_in_words() {
     let log = folder("refused").join("log.txt");
     let (poses, still) = ("220 -50 1 0 ".repeat(4), "0 0 1 0 0 ".repeat(4));
-    std::fs::write(&log, format!("seed 0\nstart 0.95 9 {poses}\nsettle 220 -50 {poses}\ndrive 5 {still}\ndrive 3 {still}\nsettle nan 0 {poses}\n")).unwrap();
+    std::fs::write(
+        &log,
+        format!("seed 0\nstart 0.95 9 {poses}\nsettle 220 -50 {poses}\ndrive 5 {still}\ndrive 3 {still}\nsettle nan 0 {poses}\n"),
+    )
+    .unwrap();
     let out = grade(&["replay", log.to_str().unwrap()]);
     assert!(out.status.success());
     let lines: Vec<String> = said(&out).0.lines().map(String::from).collect();
@@ -73,7 +82,16 @@ fn failures_have_a_status_and_say_where() {
     let out = grade(&["replay", log.to_str().unwrap()]);
     assert_eq!(out.status.code(), Some(1));
     assert!(said(&out).1.contains("log.txt:3: expected the tick limit, a whole number of 32 bits, found `nine`"));
-    for words in [&["fly"][..], &[], &["lay"], &["lay", "x"], &["lay", "0", "1"], &["lay", "0", "--out", "a"], &["lay", "0", "--svg"], &["replay"]] {
+    for words in [
+        &["fly"][..],
+        &[],
+        &["lay"],
+        &["lay", "x"],
+        &["lay", "0", "1"],
+        &["lay", "0", "--out", "a"],
+        &["lay", "0", "--svg"],
+        &["replay"],
+    ] {
         assert_eq!(grade(words).status.code(), Some(2), "{words:?}");
     }
     assert_eq!(grade(&["replay", "no-such-log"]).status.code(), Some(1));

@@ -42,7 +42,9 @@ impl Args {
         while let Some(word) = given.next() {
             match word.as_str() {
                 "--help" | "-h" => args.help = true,
-                option if option.starts_with('-') && !known.contains(&option) => return Err(Failure::Usage(format!("no option {option} here; see --help"))),
+                option if option.starts_with('-') && !known.contains(&option) => {
+                    return Err(Failure::Usage(format!("no option {option} here; see --help")))
+                }
                 "--json" => args.json = true,
                 "--svg" => args.svg = Some(value(&word, given.next())?),
                 "--out" => args.out = Some(value(&word, given.next())?),

@@ -37,14 +37,33 @@ pub fn run(given: Vec<String>) -> Done {
     let (log, sheet) = driven(seed).map_err(|r| Failure::Work(format!("the demo's call is {}", text::refusal(&r))))?;
     write(&dir, &log, sheet)?;
     if args.json {
-        print(&format!("{{\"seed\":{seed},\"out\":{},\"sheet\":{}}}\n", json::quoted(&dir.display().to_string()), json::sheet(&Ok(sheet))))?;
+        print(&format!(
+            "{{\"seed\":{seed},\"out\":{},\"sheet\":{}}}\n",
+            json::quoted(&dir.display().to_string()),
+            json::sheet(&Ok(sheet))
+        ))?;
     } else {
-        print(&format!("{}\nlog.txt, sheet.txt and lap.svg are in {}\n", text::sheet(&Ok(sheet)), dir.display()))?;
+        print(&format!(
+            "{}\n{}\nlog.txt, sheet.txt and lap.svg are in {}\n",
+            text::sheet(&Ok(sheet)),
+            end(&sheet),
+            dir.display()
+        ))?;
     }
     if sheet.lap || sheet.credited == sheet.n {
         Ok(())
     } else {
         Err(Failure::Work(format!("the run of seed {seed} ends without a lap and with tiles left")))
+    }
+}
+
+/// Why the run is over. Who misses no tile ends just before tile 0 comes again, so that no lap is flagged.
+fn end(s: &Sheet) -> &'static str {
+    match () {
+        () if s.lap => "The run ended at a lap: tile 0 came again with enough tiles credited.",
+        () if s.credited == s.n => "The run ended as every tile was credited, which comes just before a lap.",
+        () if s.ended => "The run ended off the playfield.",
+        () => "The tick limit was reached.",
     }
 }
 

@@ -21,13 +21,13 @@ pub struct Start {
 pub const FORM: &str = "\
 The log: one line a call, words parted by spaces; what follows # is a comment, and empty lines are passed over.
 
-  seed N                              first
-  start SHARE LIMIT  x y cos sin ..   second: lap share, tick limit, the poses of four wheels (16 numbers)
-  drive ACTION  angle sin cos vx vy .. the motions of four wheels (20 numbers): joint angle, sin, cos, velocity
-  settle X Y  x y cos sin ..          the hull, and the poses of four wheels (16 numbers)
+  seed N                                first
+  start SHARE LIMIT  x y cos sin ..     second: lap share, tick limit, the poses of four wheels (16 numbers)
+  drive ACTION  angle sin cos vx vy ..  the motions of four wheels (20 numbers): joint angle, sin, cos, velocity
+  settle X Y  x y cos sin ..            the hull, and the poses of four wheels (16 numbers)
 
 Wheels: front left, front right, rear left, rear right. Actions: 0 nothing, 1 right, 2 left, 3 gas, 4 brake. Numbers are
-decimal, and inf, -inf and nan are read too, so that a log can hold every call that a host can make.
+decimal, and inf, -inf and nan are read too, so that a log can hold calls that are refused.
 ";
 
 impl Log {
@@ -42,7 +42,12 @@ impl Log {
         first.over()?;
         let mut second = lines.next().ok_or_else(|| late(end(), "start SHARE LIMIT and the poses of four wheels"))?;
         second.named("start")?;
-        let start = Start { line: second.line, lap_share: second.number("the lap share")?, tick_limit: second.whole("the tick limit")?, poses: second.poses()? };
+        let start = Start {
+            line: second.line,
+            lap_share: second.number("the lap share")?,
+            tick_limit: second.whole("the tick limit")?,
+            poses: second.poses()?,
+        };
         second.over()?;
         let calls = lines.map(|mut words| Ok((words.line, words.call()?))).collect::<Result<_, _>>()?;
         Ok(Log { seed, start, calls })
@@ -55,7 +60,9 @@ impl Log {
         let _ = writeln!(out, "start {} {}{}", s.lap_share, s.tick_limit, poses(&s.poses));
         for (_, call) in &self.calls {
             let _ = match call {
-                Call::Drive { action, motions } => writeln!(out, "drive {action}{}", all(motions.iter().flat_map(|m| [m.joint_angle, m.sin, m.cos, m.vx, m.vy]))),
+                Call::Drive { action, motions } => {
+                    writeln!(out, "drive {action}{}", all(motions.iter().flat_map(|m| [m.joint_angle, m.sin, m.cos, m.vx, m.vy])))
+                }
                 Call::Settle { x, y, poses: p } => writeln!(out, "settle {x} {y}{}", poses(p)),
             };
         }
@@ -126,7 +133,9 @@ impl<'a> Words<'a> {
     fn call(&mut self) -> Found<Call> {
         let call = match self.rest.pop() {
             Some("drive") => Call::Drive { action: self.whole("the action")?, motions: self.motions()? },
-            Some("settle") => Call::Settle { x: self.number("the hull's x")?, y: self.number("the hull's y")?, poses: self.poses()? },
+            Some("settle") => {
+                Call::Settle { x: self.number("the hull's x")?, y: self.number("the hull's y")?, poses: self.poses()? }
+            }
             other => return self.wrong(format!("expected `drive ..` or `settle ..`, found `{}`", other.unwrap_or(""))),
         };
         self.over().map(|()| call)
@@ -147,7 +156,10 @@ mod tests {
 
     #[test]
     fn a_log_reads_back() {
-        let text = format!("# why\n\nseed 7\nstart 0.95 1000 {POSES} # poses\ndrive 3 {} {POSES}\nsettle -0.1 1e300 {POSES}\n", "0.30000000000000004 -0 0 0");
+        let text = format!(
+            "# why\n\nseed 7\nstart 0.95 1000 {POSES} # poses\ndrive 3 {} {POSES}\nsettle -0.1 1e300 {POSES}\n",
+            "0.30000000000000004 -0 0 0"
+        );
         let log = Log::read(&text).unwrap();
         assert_eq!((log.seed, log.start.line, log.calls[0].0, log.calls[1].0), (7, 4, 5, 6));
         let again = Log::read(&log.text()).unwrap();
@@ -168,6 +180,9 @@ mod tests {
         assert_eq!(wrong("seed 1"), "2: expected start SHARE LIMIT and the poses of four wheels, and the log ends here");
         assert_eq!(wrong("seed 1\nstart 0.9 9 1 2"), "2: expected cos of the front left wheel, a number, but the line ends");
         assert_eq!(wrong(&format!("seed 1\nstart 0.9 9 {POSES}\nturn 1")), "3: expected `drive ..` or `settle ..`, found `turn`");
-        assert_eq!(wrong(&format!("seed 1\nstart 0.9 9 {POSES}\nsettle 0 y {POSES}")), "3: expected the hull's y, a number, found `y`");
+        assert_eq!(
+            wrong(&format!("seed 1\nstart 0.9 9 {POSES}\nsettle 0 y {POSES}")),
+            "3: expected the hull's y, a number, found `y`"
+        );
     }
 }

@@ -9,7 +9,8 @@ use std::fmt::Write;
 const HELP: &str = "\
 grade replay LOG [--svg FILE] [--json]: the answers to a log of calls
 
-Prints what the grader answers to each line of the log, refusals in words, and the run sheet at the end.
+Prints what the grader answers to each line of the log, refusals in words, and the run sheet at the end. A drive's answer is
+the motor speed and, in brackets, the force of the four wheels, rounded; --json has every digit.
 
   --svg FILE   draws the course with the credited tiles coloured, and the hull's path
   --json       one JSON object in place of the text
@@ -36,7 +37,8 @@ pub fn run(given: Vec<String>) -> Done {
 pub fn answers(log: &Log) -> Result<Replayed, Failure> {
     let calls: Vec<Call> = log.calls.iter().map(|c| c.1).collect();
     let s = &log.start;
-    grader::replay(log.seed, s.lap_share, s.tick_limit, s.poses, &calls).map_err(|r| Failure::Work(format!("the log is {}", text::refusal(&r))))
+    grader::replay(log.seed, s.lap_share, s.tick_limit, s.poses, &calls)
+        .map_err(|r| Failure::Work(format!("the log is {}", text::refusal(&r))))
 }
 
 fn kind(call: &Call) -> String {
@@ -64,9 +66,16 @@ fn as_json(log: &Log, r: &Replayed) -> String {
         Err(e) => json::refusal(e),
     };
     let answers: Vec<String> = (log.calls.iter().zip(&r.answers))
-        .map(|((line, call), a)| format!("{{\"line\":{line},\"call\":{},\"answer\":{}}}", json::quoted(&kind(call)), json::answer(a)))
+        .map(|((line, call), a)| {
+            format!("{{\"line\":{line},\"call\":{},\"answer\":{}}}", json::quoted(&kind(call)), json::answer(a))
+        })
         .collect();
-    format!("{{\"seed\":{},\"started\":{started},\"answers\":[{}],\"sheet\":{}}}\n", log.seed, answers.join(","), json::sheet(&r.sheet))
+    format!(
+        "{{\"seed\":{},\"started\":{started},\"answers\":[{}],\"sheet\":{}}}\n",
+        log.seed,
+        answers.join(","),
+        json::sheet(&r.sheet)
+    )
 }
 
 /// The course with credited tiles and the hull's path. The replay does not say which tiles were credited, so the log

@@ -17,7 +17,7 @@ pub fn answer(a: &Answer) -> String {
     match a {
         Answer::Forces(f) => {
             let wheels = f.map(|w| format!("{:.3} ({:.2}, {:.2})", w.motor, w.fx, w.fy));
-            format!("motor (force) {}", wheels.join("  "))
+            format!("motor (force)  {}", wheels.join("  "))
         }
         Answer::Settled(s) => settled(s),
         Answer::Refused(r) => refusal(r),
