@@ -1,6 +1,8 @@
 //! grade: courses and runs from the command line. Every figure that it prints is the grader's.
 mod args;
+mod bench;
 mod car;
+mod compare;
 mod demo;
 mod json;
 mod lay;
@@ -19,6 +21,8 @@ grade: courses and graded runs
   grade lay SEED [--svg FILE] [--json]      the course of a seed
   grade replay LOG [--svg FILE] [--json]    the answers to a log of calls, and the run sheet
   grade demo [SEED] [--out DIR] [--json]    a built-in car drives a lap and writes log, sheet and picture
+  grade bench [SEED] [--json]               how long the grader's calls take on this machine
+  grade compare [..]                        port and Rust side by side (host/compare/run)
 
 `grade COMMAND --help` says more. Status: 0 done, 1 failed, 2 wrong arguments.
 ";
@@ -31,6 +35,8 @@ fn main() -> ExitCode {
         Some("lay") => lay::run(rest),
         Some("replay") => replay::run(rest),
         Some("demo") => demo::run(rest),
+        Some("bench") => bench::run(rest),
+        Some("compare") => compare::run(rest),
         Some("--help" | "-h" | "help") => args::print(HELP),
         Some(other) => Err(Failure::Usage(format!("no command {other}; `grade --help` lists them"))),
         None => Err(Failure::Usage(format!("a command is missing\n\n{HELP}"))),
