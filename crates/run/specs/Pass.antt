@@ -14,7 +14,7 @@ use Rattle.run.specs.declared.dynamics.Motion.{Motion}
 use Rattle.run.specs.declared.dynamics.Force.{Force}
 use Rattle.run.specs.declared.drive.Passed.{Passed}
 
--- ---- the action rule of `step`: 1 steers left, 2 right, 3 gives gas, 4 brakes
+-- ---- the action rule of `step`: 1 steers to −0.6 (clockwise, to the right), 2 to 0.6, 3 gives gas, 4 brakes
 
 -- `f64::from` of a bool
 unfoldable pub indicator : Bool → Float
