@@ -1,5 +1,5 @@
 /* Lays seed 0, starts a run with the car on its first point, and drives one tick. */
-#include "grader.h"
+#include "../grader.h"
 #include <stdio.h>
 
 static double alpha[GRADER_POINTS], beta[GRADER_POINTS], x[GRADER_POINTS], y[GRADER_POINTS], tiles[GRADER_TILES];

@@ -1,5 +1,5 @@
 /* The layout of what crosses the boundary, the same numbers as host/grader/src/ffi.rs has in its tests. It compiles or it does not. */
-#include "grader.h"
+#include "../grader.h"
 
 #define SIZE(T, n) _Static_assert(sizeof(T) == (n), #T)
 #define AT(T, f, n) _Static_assert(offsetof(T, f) == (n), #T "." #f)

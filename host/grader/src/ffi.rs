@@ -1,4 +1,4 @@
-//! The C boundary, as host/c/grader.h has it: structs that pass by value, the functions, and a safe call for each over
+//! The C boundary, as host/grader.h has it: structs that pass by value, the functions, and a safe call for each over
 //! slices. The only file with `unsafe`.
 //!
 //! Why each `unsafe` below is sound: the grader asks of a lent column that its pointer is aligned, not null and good for
