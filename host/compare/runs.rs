@@ -7,15 +7,15 @@ use crate::courses::made_up;
 use crate::edges::{edge, edge_motion, edge_pose, wild};
 use crate::lent::between;
 use crate::model::{Begin, Model, State, STATED};
-use crate::port::{self, Core, Course, WheelCtl};
+use crate::port::{self, Columns, Core, Wheel};
 use crate::tally::{Tally, Unit};
 use oracle::oracle::{overlap, probe, reward, Track, TrackPoint};
 use oracle::{Motion, Pose};
 use reinfors_core::SplitMix64;
 
 /// A state as the port has it.
-fn ported(s: &State) -> port::Run {
-    let ctl = s.ctl.map(|[gas, brake, steer, omega, phase]| WheelCtl { gas, brake, steer, omega, phase });
+fn ported(s: &State) -> port::State {
+    let ctl = s.ctl.map(|[gas, brake, steer, omega, phase]| Wheel { gas, brake, steer, omega, phase });
     let core = Core {
         n: s.n,
         visited_count: s.count,
@@ -29,13 +29,13 @@ fn ported(s: &State) -> port::Run {
         ctl,
         fuel_spent: s.fuel,
     };
-    port::Run { core, credited: s.credited, wheels: s.wheels }
+    port::State { core, credited: s.credited, wheels: s.wheels }
 }
 
 /// The port's state is this one, all NaNs alike.
-fn same_state(r: &port::Run, s: &State) -> bool {
+fn same_state(r: &port::State, s: &State) -> bool {
     let c = &r.core;
-    let floats = |c: &WheelCtl| [c.gas, c.brake, c.steer, c.omega, c.phase].map(bits);
+    let floats = |c: &Wheel| [c.gas, c.brake, c.steer, c.omega, c.phase].map(bits);
     (c.n, c.visited_count, c.tick, c.tick_limit) == (s.n, s.count, s.tick, s.limit)
         && [c.lap, c.ended, c.fallback, c.driven] == [s.lap, s.ended, s.fallback, s.driven]
         && [bits(c.lap_share), bits(c.fuel_spent)] == [bits(s.share), bits(s.fuel)]
@@ -53,13 +53,13 @@ struct Both<'a> {
     t: &'a mut Tally,
     unit: Unit,
     model: Model,
-    run: port::Run,
+    run: port::State,
     calls: usize,
 }
 
 impl Both<'_> {
-    fn course(&self, lent: [usize; 3]) -> Course<'_> {
-        Course { tiles: &self.model.tiles[..lent[0]], offsets: &self.model.offsets[..lent[1]], list: &self.model.ids[..lent[2]] }
+    fn course(&self, lent: [usize; 3]) -> Columns<'_> {
+        Columns { tiles: &self.model.tiles[..lent[0]], offsets: &self.model.offsets[..lent[1]], list: &self.model.ids[..lent[2]] }
     }
     fn whole(&self) -> [usize; 3] {
         [self.model.tiles.len(), self.model.offsets.len(), self.model.ids.len()]
@@ -104,8 +104,8 @@ impl Both<'_> {
     /// The sheet of the state, which refuses no ended run.
     fn sheet(&mut self) {
         let s = &self.model.state;
-        let none = port::Sheet { cause: 4, tick: 0, credited: 0, n: 0, share: 0, lap: false, ended: false, fallback: false };
-        let figures = |s: &State| port::Sheet {
+        let none = port::Figures { cause: 4, tick: 0, credited: 0, n: 0, share: 0, lap: false, ended: false, fallback: false };
+        let figures = |s: &State| port::Figures {
             cause: 0,
             tick: s.tick,
             credited: s.count,

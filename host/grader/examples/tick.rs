@@ -12,7 +12,12 @@ fn main() -> Result<(), Refusal> {
     let sheet = run.sheet()?;
     println!(
         "{} tiles, {} at the start, force {:.3}, {} new, tick {}, share {}",
-        course.n(), started.count, forces[2].fy, settled.new_tiles, sheet.tick, sheet.share
+        course.n(),
+        started.count,
+        forces[2].fy,
+        settled.new_tiles,
+        sheet.tick,
+        sheet.share
     );
     Ok(())
 }

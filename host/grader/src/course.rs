@@ -170,3 +170,21 @@ impl Owned {
         Refusal::check(laid.cause, laid.entries).map(|()| laid)
     }
 }
+
+#[cfg(test)]
+mod tests {
+    use super::*;
+
+    /// The longest index of all: 2,500 points from corner to corner of the field and back, so that every tile's rectangle holds every
+    /// cell. Each of the 67 * 67 cells then lists the tiles 0 to 2,499.
+    #[test]
+    fn the_longest_index_lists_every_tile_in_every_cell() {
+        let corner = |i: usize| if i % 2 == 0 { 1000.0 } else { -1000.0 };
+        let points: Vec<Point> = (0..POINTS).map(|i| Point { beta: 0.0, x: corner(i), y: corner(i) }).collect();
+        let course = Course::from_points(&points).expect("2,500 points within 1,000 are taken");
+        assert_eq!((course.n(), course.entries()), (2_500, 11_222_500));
+        let columns = course.columns();
+        assert!(columns.offsets.iter().enumerate().all(|(cell, &at)| at as usize == POINTS * cell));
+        assert!(columns.list.chunks_exact(POINTS).all(|cell| cell.iter().copied().eq(0..2_500)));
+    }
+}

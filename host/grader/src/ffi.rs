@@ -90,7 +90,7 @@ pub struct State {
 }
 
 #[repr(C)]
-#[derive(Clone, Copy)]
+#[derive(Clone, Copy, Debug, Default)]
 pub struct Laid {
     pub cause: u32,
     pub n: u32,
@@ -102,6 +102,7 @@ pub struct Laid {
 }
 
 #[repr(C)]
+#[derive(Debug)]
 pub struct CurbsFound {
     pub cause: u32,
     pub count: u32,
@@ -134,6 +135,7 @@ pub struct Settled {
 }
 
 #[repr(C)]
+#[derive(Debug, PartialEq)]
 pub struct Figures {
     pub cause: u32,
     pub tick: u32,

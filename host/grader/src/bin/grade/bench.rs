@@ -52,7 +52,7 @@ fn times(seed: u32) -> Result<Vec<(&'static str, u128)>, grader::Refusal> {
     let drive = median(drives.len(), || drives.iter().for_each(|(run, call)| once(&course, run, call)));
     let settle = median(settles.len(), || settles.iter().for_each(|(run, call)| once(&course, run, call)));
     let whole = median(calls.len(), || {
-        black_box(replay(seed, log.start.lap_share, log.start.tick_limit, log.start.poses, &calls));
+        let _ = black_box(replay(seed, log.start.lap_share, log.start.tick_limit, log.start.poses, &calls));
     });
     Ok(vec![("lay", lay), ("start", begin), ("drive", drive), ("settle", settle), ("replay", whole)])
 }
@@ -72,8 +72,12 @@ fn states(course: &Course, calls: &[Call], mut run: Run) -> Result<(Waiting, Wai
 
 fn answer(course: &Course, run: &mut Run, call: &Call) -> Result<(), grader::Refusal> {
     match *call {
-        Call::Drive { action, motions } => run.drive(action, motions).map(|forces| drop(black_box(forces))),
-        Call::Settle { x, y, poses } => run.settle(course, x, y, poses).map(|settled| drop(black_box(settled))),
+        Call::Drive { action, motions } => run.drive(action, motions).map(|forces| {
+            black_box(forces);
+        }),
+        Call::Settle { x, y, poses } => run.settle(course, x, y, poses).map(|settled| {
+            black_box(settled);
+        }),
     }
 }
 

@@ -1,0 +1,229 @@
+//! The rows that have a counterpart in the Rust. Each side's answers are summed, and the sums compared.
+use crate::clock::{each, head, versus, Rounds};
+use crate::inputs::{columns, motions, numbers as roots, port_motions, port_poses, quads, Ground, HULL};
+use crate::lent::{stated, Lent};
+use crate::port;
+use oracle::oracle::{overlap, probe, Track};
+use std::cell::Cell;
+use std::hint::black_box;
+
+const BESIDE: [&str; 4] = ["what", "Rust", "port", "port / Rust"];
+
+fn same<T: PartialEq + std::fmt::Debug>(what: &str, rust: T, port: T) {
+    assert_eq!(rust, port, "{what}: the Rust's answer and the port's differ");
+}
+
+#[inline(never)]
+fn root(x: f64) -> f64 {
+    x.sqrt()
+}
+
+pub fn numbers(rounds: Rounds) {
+    head("Numbers", &BESIDE);
+    let xs = roots();
+    let sum = |f: fn(f64) -> f64| xs.iter().map(|&x| f(black_box(x))).sum::<f64>();
+    let chain = |f: fn(f64) -> f64| xs.iter().fold(0.0, |s, &x| f(s + x));
+    same("sqrt", (sum(root).to_bits(), chain(root).to_bits()), (sum(port::sqrt).to_bits(), chain(port::sqrt).to_bits()));
+    let ten = |f: &dyn Fn() -> f64| each(10 * xs.len(), || (0..10).for_each(|_| drop(black_box(f()))));
+    versus("square root, independent", rounds, || ten(&|| sum(root)), || ten(&|| sum(port::sqrt)));
+    versus("square root, each of the one before", rounds, || ten(&|| chain(root)), || ten(&|| chain(port::sqrt)));
+    let track = Track::generate(0);
+    let (quads, n) = (quads(&track), track.tiles.len());
+    let near = |f: &dyn Fn(&[[f64; 2]; 4], &[[f64; 2]; 4]) -> bool| {
+        let pairs = quads.iter().enumerate().flat_map(|(i, q)| (0..6).map(move |d| (q, (i + n - 3 + d) % n)));
+        pairs.filter(|(q, k)| f(black_box(q), &track.tiles[*k].quad)).count()
+    };
+    let (rust, here) = (|a: &_, b: &_| overlap(a, b), |a: &_, b: &_| port::overlap(*a, *b));
+    same("overlap", near(&rust), near(&here));
+    let pairs = 6 * quads.len();
+    versus("`quad_overlap`, overlap: near pairs", rounds, || each(pairs, || drop(black_box(near(&rust)))), || each(pairs, || drop(black_box(near(&here)))));
+}
+
+/// Lay, and the curbs of what is laid.
+fn laid(seed: u32, lent: &mut Lent, long: &[usize; 7], quads: &mut [f64], white: &mut [u8]) -> u32 {
+    let laid = port::lay(seed, lent, long);
+    let given = [&lent.floats[1][..], &lent.floats[2], &lent.floats[3]];
+    laid.entries + port::curbs(given, laid.n, quads, white).count
+}
+
+pub fn courses(rounds: Rounds) {
+    head("Courses, with their curbs on both sides", &BESIDE);
+    let long = stated(60_000);
+    let (mut quads, mut white) = (vec![0.0; 20_000], vec![0u8; 2_500]);
+    let attempts = |k: u32| (0..u32::MAX).find(|&s| probe::attempts(s).0 == k).unwrap();
+    let mut rows: Vec<(String, Vec<u32>)> = vec![("`Track::generate`, lay: the seeds 0 to 63".into(), (0..64).collect())];
+    rows.extend((1..=3).map(|k| (format!("the same, seed {} (attempts: {k})", attempts(k)), vec![attempts(k)])));
+    for (name, seeds) in rows {
+        let mut lent = Lent::untouched(&long);
+        let rust = |s: &u32| {
+            let t = Track::generate(black_box(*s));
+            (probe::raw_ref(&t).1.len() + t.borders.len()) as u32
+        };
+        let sum: u32 = seeds.iter().map(rust).sum();
+        same(&name, sum, seeds.iter().map(|&s| laid(s, &mut lent, &long, &mut quads, &mut white)).sum());
+        versus(
+            &name,
+            rounds,
+            || each(seeds.len(), || drop(black_box(seeds.iter().map(rust).sum::<u32>()))),
+            || each(seeds.len(), || drop(black_box(seeds.iter().map(|&s| laid(black_box(s), &mut lent, &long, &mut quads, &mut white)).sum::<u32>()))),
+        );
+    }
+    let tracks: Vec<Track> = (0..32).map(Track::generate).collect();
+    let given: Vec<_> = tracks.iter().map(|t| columns(&t.points)).collect();
+    let mut lent = Lent::untouched(&long);
+    versus(
+        "`from_points`, points: of the seeds 0 to 31",
+        rounds,
+        || each(32, || tracks.iter().for_each(|t| drop(black_box(probe::given(t.points.clone(), false))))),
+        || {
+            each(32, || {
+                for [b, x, y] in &given {
+                    let laid = port::points([b, x, y], b.len() as u32, &mut lent, &long);
+                    black_box(port::curbs([b, x, y], laid.n, &mut quads, &mut white));
+                }
+            })
+        },
+    );
+}
+
+pub fn runs(rounds: Rounds) {
+    head("Runs, through the C boundary with the copies of the state", &BESIDE);
+    let grounds: Vec<Ground> = (0..10).map(Ground::laid).collect();
+    for (name, most, gas, omega, action) in [("no wheel slips", 2.0, 0.0, 1.0, 0), ("all wheels slip", 20.0, 0.2, 20.0, 3)] {
+        drive(&format!("tyre pass, drive: {name}"), rounds, &grounds[0], most, [gas, omega], action);
+    }
+    settle(rounds, &grounds);
+    tick(rounds, &grounds);
+}
+
+/// The Rust's tyre pass with the action rule before it, and the port's drive; the state goes on in both, and `driven` is put back.
+fn drive(name: &str, rounds: Rounds, ground: &Ground, most: f64, [gas, omega]: [f64; 2], action: u32) {
+    let ms = motions(512, most);
+    let here: Vec<_> = ms.iter().map(port_motions).collect();
+    let spun = [Cell::new(0.0), Cell::new(0.0)];
+    let wish = if action == 3 { 0.2 } else { 0.0f64 };
+    let rust = || {
+        let mut r = ground.begin(0.95);
+        (0..4).for_each(|i| r.put_ctl(i, [gas, 0.0, 0.0, omega, 0.0]));
+        let t = each(ms.len(), || {
+            for m in &ms {
+                r.put_motion(m);
+                for i in 0..4 {
+                    let mut d = r.ctl(i);
+                    d[1] = 0.0;
+                    if i < 2 { d[2] = 0.0 } else { d[0] += (wish - d[0]).min(0.1) }
+                    r.put_ctl(i, d);
+                }
+                r.tyres_alone();
+            }
+        });
+        spun[0].set(r.ctl(0)[3]);
+        t
+    };
+    let port = || {
+        let mut run = ground.start(0.95);
+        run.core.ctl.iter_mut().for_each(|c| (c.gas, c.omega) = (gas, omega));
+        let t = each(here.len(), || {
+            for m in &here {
+                run = port::drive(run, action, *m).run;
+                run.core.driven = false;
+            }
+        });
+        spun[1].set(run.core.ctl[0].omega);
+        t
+    };
+    versus(name, rounds, rust, port);
+    same(name, spun[0].get(), spun[1].get());
+}
+
+/// The contact pass alone, and the whole settle, a car on each point of ten courses in turn.
+fn settle(rounds: Rounds, grounds: &[Ground]) {
+    let name = "`contact_pass`, settle";
+    let total: usize = grounds.iter().map(|g| g.cars.len() - 1).sum();
+    let counts = [Cell::new(0), Cell::new(0)];
+    let rust = || {
+        let mut rs: Vec<_> = grounds.iter().map(|g| g.begin(1.0)).collect();
+        let mut new = 0;
+        let t = each(total, || {
+            for (r, g) in rs.iter_mut().zip(grounds) {
+                for p in &g.cars[1..] {
+                    r.put_wheels(p);
+                    new += r.contact_alone().0;
+                }
+            }
+        });
+        counts[0].set(new);
+        t
+    };
+    let here: Vec<Vec<_>> = grounds.iter().map(|g| g.cars.iter().map(port_poses).collect()).collect();
+    let port = || {
+        let mut runs: Vec<_> = grounds.iter().map(|g| g.start(1.0)).collect();
+        runs.iter_mut().for_each(|r| r.core.driven = true);
+        let mut new = 0;
+        let t = each(total, || {
+            for ((run, g), cars) in runs.iter_mut().zip(grounds).zip(&here) {
+                for p in &cars[1..] {
+                    let s = port::settle(*run, g.course(), HULL.x, HULL.y, *p);
+                    *run = s.run;
+                    run.core.driven = true;
+                    new += s.new_tiles;
+                }
+            }
+        });
+        counts[1].set(new);
+        t
+    };
+    versus(name, rounds, rust, port);
+    same(name, counts[0].get(), counts[1].get());
+}
+
+/// A drive and a settle, against the whole `step` with the shimmed physics.
+fn tick(rounds: Rounds, grounds: &[Ground]) {
+    let name = "`Game::step`, drive and settle";
+    let ms = motions(512, 10.0);
+    let here: Vec<_> = ms.iter().map(port_motions).collect();
+    let cars: Vec<Vec<_>> = grounds.iter().map(|g| g.cars.iter().map(port_poses).collect()).collect();
+    let total: usize = grounds.iter().map(|g| g.cars.len() - 1).sum();
+    let counts = [Cell::new((0, 0)), Cell::new((0, 0))];
+    let rust = || {
+        let mut rs: Vec<_> = grounds.iter().map(|g| g.begin(1.0)).collect();
+        let (mut new, mut ticks) = (0, 0);
+        let t = each(total, || {
+            for (r, g) in rs.iter_mut().zip(grounds) {
+                for (j, p) in g.cars.iter().enumerate().skip(1) {
+                    let e = r.step(j % 5, &ms[j % ms.len()], HULL, *p);
+                    new += e.new_tiles;
+                    ticks += 1;
+                    if e.ended {
+                        break;
+                    }
+                }
+            }
+        });
+        counts[0].set((new, ticks));
+        t
+    };
+    let port = || {
+        let mut runs: Vec<_> = grounds.iter().map(|g| g.start(1.0)).collect();
+        let (mut new, mut ticks) = (0, 0);
+        let t = each(total, || {
+            for ((run, g), cars) in runs.iter_mut().zip(grounds).zip(&cars) {
+                for (j, p) in cars.iter().enumerate().skip(1) {
+                    let d = port::drive(*run, (j % 5) as u32, here[j % here.len()]);
+                    black_box(&d.forces);
+                    let s = port::settle(d.run, g.course(), HULL.x, HULL.y, *p);
+                    *run = s.run;
+                    new += s.new_tiles;
+                    ticks += 1;
+                    if s.ended {
+                        break;
+                    }
+                }
+            }
+        });
+        counts[1].set((new, ticks));
+        t
+    };
+    versus(name, rounds, rust, port);
+    same(name, counts[0].get(), counts[1].get());
+}

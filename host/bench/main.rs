@@ -1,0 +1,49 @@
+//! The port beside the Rust: medians of many rounds, by turns in one run, and the median of the rounds' ratios. The port is called through
+//! its C functions, as a host calls it, so a run's state is copied in and out of every call; the Rust is called in place, but for its own
+//! `step`, which clones. Buffers and states are warm: each round meets what the round before left in the cache.
+//! Run by host/bench/run, which builds the oracle and the port's static library first.
+mod beside;
+mod clock;
+mod growth;
+mod inputs;
+#[path = "../vectors/shared/lent.rs"]
+mod lent;
+#[path = "../compare/port.rs"]
+mod port;
+
+use clock::Rounds;
+
+const HELP: &str = "usage: host/bench/run [--rounds N] [--only TABLE]
+  --rounds N      rounds of each row (default 41)
+  --only TABLE    one table alone: numbers, course, run, growth
+Exit status 0, or 2 for a wrong argument. A row whose two sides answer differently ends the program.";
+
+fn wrong(text: &str) -> ! {
+    eprintln!("bench: {text}\n{HELP}");
+    std::process::exit(2)
+}
+
+fn main() {
+    let (mut rounds, mut only) = (41, None);
+    let mut args = std::env::args().skip(1);
+    while let Some(flag) = args.next() {
+        let value = args.next().unwrap_or_else(|| wrong(&format!("{flag} needs a value")));
+        match flag.as_str() {
+            "--rounds" => rounds = value.parse().ok().filter(|&n| n > 0).unwrap_or_else(|| wrong("--rounds wants a whole number above 0")),
+            "--only" => only = Some(value),
+            _ => wrong(&format!("no flag {flag:?}")),
+        }
+    }
+    let tables: [(&str, fn(Rounds)); 4] =
+        [("numbers", beside::numbers), ("course", beside::courses), ("run", beside::runs), ("growth", growth::tables)];
+    if let Some(name) = &only {
+        if tables.iter().all(|t| t.0 != name) {
+            wrong(&format!("no table {name:?}"));
+        }
+    }
+    for (name, table) in tables {
+        if only.as_deref().is_none_or(|o| o == name) {
+            table(Rounds(rounds));
+        }
+    }
+}
