@@ -33,3 +33,5 @@ pub mod Attempts
 pub mod CourseSizes
 pub mod Generating
 pub mod LayLaws
+pub mod FloatOrder
+pub mod Intervals
