@@ -159,9 +159,37 @@ ordered-trans p n d q k e r l f E h g =
     let c : p * f * e + l * d * e ≤ r * d * e + n * f * e = omega (arith, a, b, mul-right-comm p e f, mul-right-comm k d f, mul-right-comm q d f, mul-right-comm n e f, mul-right-comm l e d, mul-right-comm r e d) in
     le-of-mul-le-mul-right (le-trans (le-of-eq (add-mul (p * f) (l * d) e)) (le-trans c (le-of-eq (sym (add-mul (r * d) (n * f) e))))) E
 
-pub le-chain : (x y z : Float) → T (finite x) → T (finite y) → T (finite z) → T (le x y) → T (le y z) → T (le x z)
-le-chain x y z p q r h g =
+fin-chain : (x y z : Float) → T (finite x) → T (finite y) → T (finite z) → T (le x y) → T (le y z) → T (le x z)
+fin-chain x y z p q r h g =
     le-of-under x z p r (ordered-trans (above x) (under x) (over x) (above y) (under y) (over y) (above z) (under z) (over z) (over-pos y) (under-of-le x y p q h) (under-of-le y z q r g))
+
+no-le-nan : (x : Float) → T (le x nan) → ⊥
+unfolding le
+no-le-nan nan h = h
+no-le-nan (inf s) h = h
+no-le-nan (fin s m e) h = h
+
+pub le-chain : (x y z : Float) → T (le x y) → T (le y z) → T (le x z)
+unfolding le
+le-chain nan y z h i = absurd h
+le-chain (inf true) y nan h i = absurd (no-le-nan y i)
+le-chain (inf true) y (inf true) h i = tt
+le-chain (inf true) y (inf false) h i = tt
+le-chain (inf true) y (fin u k g) h i = tt
+le-chain (inf false) nan z h i = absurd h
+le-chain (inf false) (inf true) z h i = absurd h
+le-chain (inf false) (inf false) z h i = i
+le-chain (inf false) (fin t n d) z h i = absurd h
+le-chain (fin s m e) nan z h i = absurd h
+le-chain (fin s m e) (inf true) z h i = absurd h
+le-chain (fin s m e) (inf false) nan h i = absurd i
+le-chain (fin s m e) (inf false) (inf true) h i = absurd i
+le-chain (fin s m e) (inf false) (inf false) h i = tt
+le-chain (fin s m e) (inf false) (fin u k g) h i = absurd i
+le-chain (fin s m e) (fin t n d) nan h i = absurd i
+le-chain (fin s m e) (fin t n d) (inf true) h i = absurd i
+le-chain (fin s m e) (fin t n d) (inf false) h i = tt
+le-chain (fin s m e) (fin t n d) (fin u k g) h i = fin-chain (fin s m e) (fin t n d) (fin u k g) tt tt tt h i
 
 -- what stands between two finite numbers is finite
 pub finite-between : (l x h : Float) → T (finite l) → T (finite h) → T (le l x) → T (le x h) → T (finite x)

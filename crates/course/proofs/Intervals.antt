@@ -1,90 +1,157 @@
--- A float's place between two bounds that are floats themselves: `In lo hi x` is lo ≤ x ≤ hi. Rounding keeps the order of fractions, so each operation on
--- bounds bounds the operation's result. Assumes nothing.
-use mathlib.Core.Path.{_≡_, refl, sym, ap, ap₂, _∙_, subst}
-use mathlib.Core.Logic.{_⊎_, inl, inr}
-use Prim.Native.Nat.{ℕ, _+_, _-_, _*_, _≤_, _<_, _^_, zero-le}
-use native.Mathlib.Nat.{le-trans, le-of-eq, mul-one, mul-comm, mul-right-comm, mul-mul-mul-comm, mul-le-mul-right, le-of-mul-le-mul-right, mul-pos, add-mul, zero-mul, eq-zero-or-pos}
+-- A float between two bounds that are floats themselves. What an operation gives on the bounds bounds what it gives on the floats between them. Each law takes one test on
+-- the bounds alone, which is computed. Assumes nothing.
+use mathlib.Core.Path.{_≡_, refl, sym, ap, _∙_, subst}
+use Prim.Native.Nat.{ℕ, _+_, _*_, _≤_, _<_, zero-le}
+use native.Mathlib.Nat.{le-trans, le-of-eq, mul-comm, mul-mul-mul-comm, mul-le-mul, mul-pos}
 use native.Mathlib.Omega.{arith}
-use mathlib.Core.Bool.{Bool, true, false, not, cond, _&&_, _||_, Bool·beq}
-use lib.Dec.{T, ltb, eqb, ltb→lt, lt→ltb, nltb→le, eqb→eq, lit≤}
-use lib.Ieee.{Float, nan, inf, fin, binary64, up, down, below, level, neg, lt, eq, le, round, sum, add, sub}
-use lib.Ieee.Fits.{down-pos, and-l, and-r, and-i, eq→eqb}
-use lib.Ieee.Order.{round-mono}
+use mathlib.Core.Bool.{Bool, true, false, not, cond, _&&_}
+use lib.Dec.{T, eqb, ltb, eqb→eq, ltb→lt}
+use lib.Ieee.{Float, nan, inf, fin, binary64, up, down, unlike, neg, lt, le, round, sub, mul, div}
+use lib.Ieee.Fits.{up-pos, down-pos, and-l, and-r}
+use lib.Ieee.Positive.{positive, positive-finite, first-pos, num, den}
 use lib.Ieee.Scale.{finite}
-use Rattle.course.specs.Arithmetic.{_⊕_, _⊖_}
-use Rattle.course.specs.Steps.{Bounded}
-use Rattle.course.proofs.Bounds.{plain, plain-round, neg-round, round-bounded}
-use Rattle.course.proofs.FloatOrder.{says, above, under, over, over-pos, Ordered, Under, part, part′, scaled, is-so, under-of-le, le-of-under}
+use Rattle.course.specs.Arithmetic.{_⊕_, _⊖_, _⊗_, _⊘_}
+use Rattle.course.proofs.Bounds.{neg-round}
+use Rattle.course.proofs.FloatOrder.{under-of-le, le-chain, finite-between}
+use Rattle.course.proofs.RoundOrder.{neg-le, round-le, add-le}
 
--- ---- rounding keeps the order, for both signs
-pub neg-le : (x y : Float) → T (le x y) → T (le (neg y) (neg x))
-unfolding le neg
-neg-le nan y h = absurd h
-neg-le (inf s) nan h = absurd h
-neg-le (inf true) (inf true) h = tt
-neg-le (inf true) (inf false) h = tt
-neg-le (inf false) (inf true) h = absurd h
-neg-le (inf false) (inf false) h = tt
-neg-le (inf true) (fin t n d) h = tt
-neg-le (inf false) (fin t n d) h = absurd h
-neg-le (fin s m e) nan h = absurd h
-neg-le (fin s m e) (inf true) h = absurd h
-neg-le (fin s m e) (inf false) h = tt
-neg-le (fin s m e) (fin t n d) h = is-so (not t) (n * up d * down e) (not s) (m * up e * down d) (turned s t (says s (m * up e * down d) t (n * up d * down e) h))
+-- lo ≤ x ≤ hi
+pub record In (lo hi x : Float) : Type 0 where
+  pub low : T (le lo x)
+  pub high : T (le x hi)
+
+-- |x| ≤ m
+abbrev pub Near : Float → Float → Type 0
+Near m x = In (neg m) m x
+
+pub in-finite : (lo hi x : Float) → T (finite lo) → T (finite hi) → In lo hi x → T (finite x)
+in-finite lo hi x p q i = finite-between lo x hi p q (i .low) (i .high)
+
+pub wider : {lo hi lo′ hi′ x : Float} → T (le lo′ lo && le hi hi′) → In lo hi x → In lo′ hi′ x
+wider {lo} {hi} {lo′} {hi′} {x} t i = record {
+  low = le-chain lo′ lo x (and-l (le lo′ lo) (le hi hi′) t) (i .low);
+  high = le-chain x hi hi′ (i .high) (and-r (le lo′ lo) (le hi hi′) t);
+}
+
+-- ---- sums and differences
+abbrev finites : Float → Float → Float → Float → Bool
+finites a b c d = (finite a && finite b) && (finite c && finite d)
+
+pub add-in : {a b c d lo hi x y : Float} → T (finites a b c d && (le lo (a ⊕ c) && le (b ⊕ d) hi)) → In a b x → In c d y → In lo hi (x ⊕ y)
+add-in {a} {b} {c} {d} {lo} {hi} {x} {y} t i j =
+    let f = and-l (finites a b c d) (le lo (a ⊕ c) && le (b ⊕ d) hi) t in
+    let f0 = and-l (finite a && finite b) (finite c && finite d) f in
+    let f1 = and-r (finite a && finite b) (finite c && finite d) f in
+    let fa = and-l (finite a) (finite b) f0 in
+    let fb = and-r (finite a) (finite b) f0 in
+    let fc = and-l (finite c) (finite d) f1 in
+    let fd = and-r (finite c) (finite d) f1 in
+    let fx = in-finite a b x fa fb i in
+    let fy = in-finite c d y fc fd j in
+    wider (and-r (finites a b c d) (le lo (a ⊕ c) && le (b ⊕ d) hi) t)
+    (record { low = add-le a c x y fa fc fx fy (i .low) (j .low); high = add-le x y b d fx fy fb fd (i .high) (j .high) })
+
+neg-in : {a b x : Float} → In a b x → In (neg b) (neg a) (neg x)
+neg-in {a} {b} {x} i = record { low = neg-le x b (i .high); high = neg-le a x (i .low) }
+
+pub sub-in : {a b c d lo hi x y : Float} → T (finites a b (neg d) (neg c) && (le lo (a ⊖ d) && le (b ⊖ c) hi)) → In a b x → In c d y → In lo hi (x ⊖ y)
+unfolding sub
+sub-in t i j = add-in t i (neg-in j)
+
+-- ---- products and quotients, by size
+abbrev pub solid : Float → Bool
+solid nan = false
+solid (inf s) = false
+solid (fin s m e) = not s
+
+near-size : (m x : Float) → T (solid m) → Near m x → T (finite x) × (num x * den m ≤ num m * den x)
+near-size nan x p i = absurd p
+near-size (inf s) x p i = absurd p
+near-size (fin true k g) x p i = absurd p
+near-size (fin false k g) nan p i = absurd (unfold le in (i .high))
+near-size (fin false k g) (inf true) p i = absurd (unfold le neg in (i .low))
+near-size (fin false k g) (inf false) p i = absurd (unfold le in (i .high))
+near-size (fin false k g) (fin false n d) p i = (tt, let h = under-of-le (fin false n d) (fin false k g) tt tt (i .high) in omega arith)
+near-size (fin false k g) (fin true n d) p i = (tt, let h = under-of-le (fin true k g) (fin true n d) tt tt (unfold neg in (i .low)) in omega arith)
+
+round-near : (s : Bool) (a d b e : ℕ) → 0 < d → 0 < e → a * e ≤ b * d → Near (round binary64 false b e) (round binary64 s a d)
+round-near false a d b e D E h = record { low = rw (← neg-round binary64 b e) (round-le true b e false a d E D (omega arith)); high = round-le false a d false b e D E (omega arith) }
+round-near true a d b e D E h = record { low = rw (← neg-round binary64 b e) (round-le true b e true a d E D (omega arith)); high = round-le true a d false b e D E (omega arith) }
+
+swap4 : (x d m e y g k h : ℕ) → x * e ≤ m * d → y * h ≤ k * g → x * y * (e * h) ≤ m * k * (d * g)
+swap4 x d m e y g k h p q = le-trans (le-of-eq (mul-mul-mul-comm x y e h)) (le-trans (mul-le-mul p q) (le-of-eq (mul-mul-mul-comm m d k g)))
+
+mul-size : (m k x y : Float) → T (solid m) → T (solid k) → T (finite x) → T (finite y) → num x * den m ≤ num m * den x → num y * den k ≤ num k * den y → Near (m ⊗ k) (x ⊗ y)
+unfolding mul
+mul-size nan k x y p q f g h i = absurd p
+mul-size (inf s) k x y p q f g h i = absurd p
+mul-size (fin true a b) k x y p q f g h i = absurd p
+mul-size (fin false a b) nan x y p q f g h i = absurd q
+mul-size (fin false a b) (inf s) x y p q f g h i = absurd q
+mul-size (fin false a b) (fin true c d) x y p q f g h i = absurd q
+mul-size (fin false a b) (fin false c d) nan y p q f g h i = absurd f
+mul-size (fin false a b) (fin false c d) (inf s) y p q f g h i = absurd f
+mul-size (fin false a b) (fin false c d) (fin s n e) nan p q f g h i = absurd g
+mul-size (fin false a b) (fin false c d) (fin s n e) (inf t) p q f g h i = absurd g
+mul-size (fin false a b) (fin false c d) (fin s n e) (fin t r l) p q f g h i =
+    round-near (unlike s t) (n * up e * (r * up l)) (down e * down l) (a * up b * (c * up d)) (down b * down d) (mul-pos (down-pos e) (down-pos l)) (mul-pos (down-pos b) (down-pos d))
+    (swap4 (n * up e) (down e) (a * up b) (down b) (r * up l) (down l) (c * up d) (down d) h i)
+
+pub mul-near : {m k hi x y : Float} → T ((solid m && solid k) && (le (neg hi) (neg (m ⊗ k)) && le (m ⊗ k) hi)) → Near m x → Near k y → Near hi (x ⊗ y)
+mul-near {m} {k} {hi} {x} {y} t i j =
+    let s = and-l (solid m && solid k) (le (neg hi) (neg (m ⊗ k)) && le (m ⊗ k) hi) t in
+    let p = and-l (solid m) (solid k) s in
+    let q = and-r (solid m) (solid k) s in
+    let a = near-size m x p i in
+    let b = near-size k y q j in
+    wider (and-r (solid m && solid k) (le (neg hi) (neg (m ⊗ k)) && le (m ⊗ k) hi) t) (mul-size m k x y p q (a .0) (b .0) (a .1) (b .1))
+
+-- x / y, for a y from k on, k above zero
+nonzero : (n : ℕ) (u v : Float) → 0 < n → cond (eqb n 0) u v ≡ v
+nonzero n u v h = go (eqb n 0) (eqb→eq n 0)
   where
-    turned : (s t : Bool) → cond s 0 (m * up e * down d) + cond t (n * up d * down e) 0 ≤ cond t 0 (n * up d * down e) + cond s (m * up e * down d) 0
-        → cond (not t) 0 (n * up d * down e) + cond (not s) (m * up e * down d) 0 ≤ cond (not s) 0 (m * up e * down d) + cond (not t) (n * up d * down e) 0
-    turned false false h = omega arith
-    turned false true h = omega arith
-    turned true false h = omega arith
-    turned true true h = omega arith
+    go : (b : Bool) → (T b → n ≡ 0) → cond b u v ≡ v
+    go false f = refl
+    go true f = let z : n ≡ 0 = f tt in absurd (omega arith)
 
--- a float with no plus sign is at most one with no minus sign
-minus-plus : (x y : Float) → T (plain x) → T (plain y) → T (le (neg x) y)
-unfolding le neg
-minus-plus nan y p q = absurd p
-minus-plus (inf true) y p q = absurd p
-minus-plus (inf false) nan p q = absurd q
-minus-plus (inf false) (inf true) p q = absurd q
-minus-plus (inf false) (inf false) p q = tt
-minus-plus (inf false) (fin t n d) p q = tt
-minus-plus (fin true m e) y p q = absurd p
-minus-plus (fin false m e) nan p q = absurd q
-minus-plus (fin false m e) (inf true) p q = absurd q
-minus-plus (fin false m e) (inf false) p q = tt
-minus-plus (fin false m e) (fin true n d) p q = absurd q
-minus-plus (fin false m e) (fin false n d) p q = is-so true (m * up e * down d) false (n * up d * down e) zero-le
+across : (x d m e y g k h : ℕ) → x * e ≤ m * d → k * g ≤ y * h → x * g * (k * e) ≤ m * h * (y * d)
+across x d m e y g k h p q =
+    le-trans (le-of-eq (mul-mul-mul-comm x g k e ∙ ap (λ (z : ℕ). x * k * z) (mul-comm g e) ∙ mul-mul-mul-comm x k e g))
+    (le-trans (mul-le-mul p q) (le-of-eq (mul-mul-mul-comm m d y h ∙ ap (λ (z : ℕ). m * y * z) (mul-comm d h) ∙ mul-mul-mul-comm m y h d)))
 
--- two zeros, of any signs
-zeros : (x y : Float) → Bounded x 0 → Bounded y 0 → T (le x y)
-unfolding le
-zeros nan y p q = absurd p
-zeros (inf s) y p q = absurd p
-zeros (fin s m e) nan p q = absurd q
-zeros (fin s m e) (inf t) p q = absurd q
-zeros (fin s m e) (fin t n d) p q = is-so s (m * up e * down d) t (n * up d * down e) (both s t (none (m * up e) (down e) (down d) p) (none (n * up d) (down d) (down e) q))
-  where
-    none : (a d e : ℕ) → a ≤ 0 * d → a * e ≡ 0
-    none a d e h = let z : a ≡ 0 = omega arith in ap (λ (k : ℕ). k * e) z ∙ zero-mul e
+div-size : (m k x y : Float) → T (solid m) → T (positive k) → T (finite x) → T (finite y) → num x * den m ≤ num m * den x → T (le k y) → Near (m ⊘ k) (x ⊘ y)
+unfolding div
+div-size nan k x y p q f g h i = absurd p
+div-size (inf s) k x y p q f g h i = absurd p
+div-size (fin true a b) k x y p q f g h i = absurd p
+div-size (fin false a b) nan x y p q f g h i = absurd q
+div-size (fin false a b) (inf s) x y p q f g h i = absurd q
+div-size (fin false a b) (fin true c d) x y p q f g h i = absurd q
+div-size (fin false a b) (fin false c d) nan y p q f g h i = absurd f
+div-size (fin false a b) (fin false c d) (inf s) y p q f g h i = absurd f
+div-size (fin false a b) (fin false c d) (fin s n e) nan p q f g h i = absurd g
+div-size (fin false a b) (fin false c d) (fin s n e) (inf t) p q f g h i = absurd g
+div-size (fin false a b) (fin false c d) (fin s n e) (fin true r l) p q f g h i =
+    let k = under-of-le (fin false c d) (fin true r l) tt tt i in
+    let z : 0 < c * up d * down l = mul-pos (mul-pos (ltb→lt 0 c q) (up-pos d)) (down-pos l) in
+    absurd (omega arith)
+div-size (fin false a b) (fin false c d) (fin s n e) (fin false r l) p q f g h i =
+    let k = under-of-le (fin false c d) (fin false r l) tt tt i in
+    let C : 0 < c = ltb→lt 0 c q in
+    let z : 0 < c * up d * down l = mul-pos (mul-pos C (up-pos d)) (down-pos l) in
+    let R′ : 0 < r * up l * down d = omega arith in
+    let R : 0 < r = first-pos r (up l) (first-pos (r * up l) (down d) R′) in
+    rw (nonzero c (cond (eqb a 0) nan (inf false)) (round binary64 false (a * up b * down d) (c * up d * down b)) C,
+      nonzero r (cond (eqb n 0) nan (inf (unlike s false))) (round binary64 (unlike s false) (n * up e * down l) (r * up l * down e)) R)
+    (round-near (unlike s false) (n * up e * down l) (r * up l * down e) (a * up b * down d) (c * up d * down b) (mul-pos (mul-pos R (up-pos l)) (down-pos e)) (mul-pos (mul-pos C (up-pos d)) (down-pos b))
+    (across (n * up e) (down e) (a * up b) (down b) (r * up l) (down l) (c * up d) (down d) h (omega arith)))
 
-    both : (s t : Bool) {a b : ℕ} → a ≡ 0 → b ≡ 0 → cond s 0 a + cond t b 0 ≤ cond t 0 b + cond s a 0
-    both false false p q = omega arith
-    both false true p q = omega arith
-    both true false p q = omega arith
-    both true true p q = omega arith
-
-no-product : (a d : ℕ) → 0 < d → a * d ≡ 0 → a ≡ 0
-no-product a d D h = elim (eq-zero-or-pos a) [ inl z ↦ z | inr p ↦ let g : 0 < a * d = mul-pos p D in absurd (omega arith) ]
-
-rounded-zero : (s : Bool) (a d e : ℕ) → 0 < d → 0 < e → a * e ≡ 0 → Bounded (round binary64 s a d) 0
-rounded-zero s a d e D E h = round-bounded s a d 0 D zero-le (let z : a ≡ 0 = no-product a e E h in omega arith)
-
-pub round-le : (s : Bool) (a d : ℕ) (t : Bool) (b e : ℕ) → 0 < d → 0 < e → Ordered (cond s 0 a) (cond s a 0) d (cond t 0 b) (cond t b 0) e → T (le (round binary64 s a d) (round binary64 t b e))
-round-le false a d false b e D E h = round-mono binary64 a d b e D E (omega arith)
-round-le false a d true b e D E h =
-    let x : a * e ≡ 0 = omega arith in
-    let y : b * d ≡ 0 = omega arith in
-    zeros (round binary64 false a d) (round binary64 true b e) (rounded-zero false a d e D E x) (rounded-zero true b e d E D y)
-round-le true a d false b e D E h = rw (neg-round binary64 a d) (minus-plus (round binary64 false a d) (round binary64 false b e) (plain-round binary64 a d) (plain-round binary64 b e))
-round-le true a d true b e D E h =
-    rw (neg-round binary64 a d, neg-round binary64 b e) (neg-le (round binary64 false b e) (round binary64 false a d) (round-mono binary64 b e a d E D (omega arith)))
+pub div-near : {m k l hi x y : Float} → T ((solid m && (positive k && finite l)) && (le (neg hi) (neg (m ⊘ k)) && le (m ⊘ k) hi)) → Near m x → In k l y → Near hi (x ⊘ y)
+div-near {m} {k} {l} {hi} {x} {y} t i j =
+    let s = and-l (solid m && (positive k && finite l)) (le (neg hi) (neg (m ⊘ k)) && le (m ⊘ k) hi) t in
+    let p = and-l (solid m) (positive k && finite l) s in
+    let qr = and-r (solid m) (positive k && finite l) s in
+    let q = and-l (positive k) (finite l) qr in
+    let a = near-size m x p i in
+    wider (and-r (solid m && (positive k && finite l)) (le (neg hi) (neg (m ⊘ k)) && le (m ⊘ k) hi) t)
+    (div-size m k x y p q (a .0) (in-finite k l y (positive-finite k q) (and-r (positive k) (finite l) qr) j) (a .1) (j .low))

@@ -34,4 +34,5 @@ pub mod CourseSizes
 pub mod Generating
 pub mod LayLaws
 pub mod FloatOrder
+pub mod RoundOrder
 pub mod Intervals
