@@ -6,6 +6,7 @@ use native.Mathlib.Nat.{le-trans, le-of-eq, mul-one, mul-comm, mul-right-comm, m
 use native.Mathlib.Omega.{arith}
 use mathlib.Core.Bool.{Bool, true, false, not, cond, _&&_, _||_, Bool·beq}
 use lib.Dec.{T, ltb, eqb, ltb→lt, lt→ltb, nltb→le, eqb→eq, lit≤}
+use borrow.Author.Tests.{ltb-false}
 use lib.Ieee.{Float, nan, inf, fin, binary64, up, down, below, level, neg, lt, eq, le, round, sum, add, sub}
 use lib.Ieee.Fits.{down-pos, and-l, and-r, and-i, eq→eqb}
 use lib.Ieee.Order.{round-mono}
@@ -141,13 +142,19 @@ not-lt x y p q h = go (lt y x) (λ (t : T (lt y x)). strictly-under y x q p t)
     go true f = let g = f tt in let k = under-of-le x y p q h in absurd (omega arith)
 
 -- and of two numbers one is at most the other
-pub le-or-ge : (x y : Float) → T (finite x) → T (finite y) → T (le x y) ⊎ T (le y x)
-le-or-ge x y p q = go (ltb (above y * over x + under x * over y) (above x * over y + under y * over x)) (ltb→lt _ _) (nltb→le _ _)
-  where
-    go : (b : Bool) → (T b → above y * over x + under x * over y < above x * over y + under y * over x) → (T (not b) → above x * over y + under y * over x ≤ above y * over x + under x * over y)
-        → T (le x y) ⊎ T (le y x)
-    go true f g = let k = f tt in inr (le-of-under y x q p (omega arith))
-    go false f g = inl (le-of-under x y p q (g tt))
+not-strictly : (s : Bool) (a : ℕ) (t : Bool) (b : ℕ) → below t b s a ≡ false → cond s 0 a + cond t b 0 ≤ cond t 0 b + cond s a 0
+not-strictly false a false b h = let l : a ≤ b = ltb-false b a h in omega arith
+not-strictly false a true b h = let l : b + a ≤ 0 = ltb-false 0 (b + a) h in omega arith
+not-strictly true a false b h = omega arith
+not-strictly true a true b h = let l : b ≤ a = ltb-false a b h in omega arith
+
+pub le-of-not-lt : (x y : Float) → T (finite x) → T (finite y) → lt y x ≡ false → T (le x y)
+unfolding lt le
+le-of-not-lt nan y p q h = absurd p
+le-of-not-lt (inf s) y p q h = absurd p
+le-of-not-lt (fin s m e) nan p q h = absurd q
+le-of-not-lt (fin s m e) (inf t) p q h = absurd q
+le-of-not-lt (fin s m e) (fin t n d) p q h = is-so s (m * up e * down d) t (n * up d * down e) (not-strictly s (m * up e * down d) t (n * up d * down e) h)
 
 pub scaled : (a b c d k : ℕ) → a + b ≤ c + d → a * k + b * k ≤ c * k + d * k
 scaled a b c d k h = le-trans (le-of-eq (sym (add-mul a b k))) (le-trans (mul-le-mul-right k h) (le-of-eq (add-mul c d k)))

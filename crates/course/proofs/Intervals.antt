@@ -7,12 +7,13 @@ use native.Mathlib.Omega.{arith}
 use mathlib.Core.Bool.{Bool, true, false, not, cond, _&&_}
 use lib.Dec.{T, eqb, ltb, eqb→eq, ltb→lt}
 use lib.Ieee.{Float, nan, inf, fin, binary64, up, down, unlike, neg, lt, le, round, sub, mul, div}
-use lib.Ieee.Fits.{up-pos, down-pos, and-l, and-r}
+use lib.Ieee.Fits.{up-pos, down-pos, and-i, and-l, and-r}
 use lib.Ieee.Positive.{positive, positive-finite, first-pos, num, den}
 use lib.Ieee.Scale.{finite}
 use Rattle.course.specs.Arithmetic.{_⊕_, _⊖_, _⊗_, _⊘_}
+use Rattle.course.specs.Numeric.{within}
 use Rattle.course.proofs.Bounds.{neg-round}
-use Rattle.course.proofs.FloatOrder.{under-of-le, le-chain, finite-between}
+use Rattle.course.proofs.FloatOrder.{under-of-le, le-of-lt, le-of-not-lt, le-chain, finite-between}
 use Rattle.course.proofs.RoundOrder.{neg-le, round-le, add-le}
 
 -- lo ≤ x ≤ hi
@@ -24,11 +25,19 @@ pub record In (lo hi x : Float) : Type 0 where
 abbrev pub Near : Float → Float → Type 0
 Near m x = In (neg m) m x
 
+pub near-of-within : (m x : Float) → T (within m x) → Near m x
+unfolding within
+near-of-within m x t = record { low = and-l (le (neg m) x) (le x m) t; high = and-r (le (neg m) x) (le x m) t }
+
+pub within-of-near : (m x : Float) → Near m x → T (within m x)
+unfolding within
+within-of-near m x i = and-i (le (neg m) x) (le x m) (i .low) (i .high)
+
 pub in-finite : (lo hi x : Float) → T (finite lo) → T (finite hi) → In lo hi x → T (finite x)
 in-finite lo hi x p q i = finite-between lo x hi p q (i .low) (i .high)
 
-pub wider : {lo hi lo′ hi′ x : Float} → T (le lo′ lo && le hi hi′) → In lo hi x → In lo′ hi′ x
-wider {lo} {hi} {lo′} {hi′} {x} t i = record {
+pub wider : {lo hi lo′ hi′ x : Float} → In lo hi x → T (le lo′ lo && le hi hi′) → In lo′ hi′ x
+wider {lo} {hi} {lo′} {hi′} {x} i t = record {
   low = le-chain lo′ lo x (and-l (le lo′ lo) (le hi hi′) t) (i .low);
   high = le-chain x hi hi′ (i .high) (and-r (le lo′ lo) (le hi hi′) t);
 }
@@ -37,8 +46,8 @@ wider {lo} {hi} {lo′} {hi′} {x} t i = record {
 abbrev finites : Float → Float → Float → Float → Bool
 finites a b c d = (finite a && finite b) && (finite c && finite d)
 
-pub add-in : {a b c d lo hi x y : Float} → T (finites a b c d && (le lo (a ⊕ c) && le (b ⊕ d) hi)) → In a b x → In c d y → In lo hi (x ⊕ y)
-add-in {a} {b} {c} {d} {lo} {hi} {x} {y} t i j =
+pub add-in : {a b c d lo hi x y : Float} → In a b x → In c d y → T (finites a b c d && (le lo (a ⊕ c) && le (b ⊕ d) hi)) → In lo hi (x ⊕ y)
+add-in {a} {b} {c} {d} {lo} {hi} {x} {y} i j t =
     let f = and-l (finites a b c d) (le lo (a ⊕ c) && le (b ⊕ d) hi) t in
     let f0 = and-l (finite a && finite b) (finite c && finite d) f in
     let f1 = and-r (finite a && finite b) (finite c && finite d) f in
@@ -48,15 +57,15 @@ add-in {a} {b} {c} {d} {lo} {hi} {x} {y} t i j =
     let fd = and-r (finite c) (finite d) f1 in
     let fx = in-finite a b x fa fb i in
     let fy = in-finite c d y fc fd j in
-    wider (and-r (finites a b c d) (le lo (a ⊕ c) && le (b ⊕ d) hi) t)
-    (record { low = add-le a c x y fa fc fx fy (i .low) (j .low); high = add-le x y b d fx fy fb fd (i .high) (j .high) })
+    wider (record { low = add-le a c x y fa fc fx fy (i .low) (j .low); high = add-le x y b d fx fy fb fd (i .high) (j .high) })
+    (and-r (finites a b c d) (le lo (a ⊕ c) && le (b ⊕ d) hi) t)
 
 neg-in : {a b x : Float} → In a b x → In (neg b) (neg a) (neg x)
 neg-in {a} {b} {x} i = record { low = neg-le x b (i .high); high = neg-le a x (i .low) }
 
-pub sub-in : {a b c d lo hi x y : Float} → T (finites a b (neg d) (neg c) && (le lo (a ⊖ d) && le (b ⊖ c) hi)) → In a b x → In c d y → In lo hi (x ⊖ y)
+pub sub-in : {a b c d lo hi x y : Float} → In a b x → In c d y → T (finites a b (neg d) (neg c) && (le lo (a ⊖ d) && le (b ⊖ c) hi)) → In lo hi (x ⊖ y)
 unfolding sub
-sub-in t i j = add-in t i (neg-in j)
+sub-in i j t = add-in i (neg-in j) t
 
 -- ---- products and quotients, by size
 abbrev pub solid : Float → Bool
@@ -97,17 +106,17 @@ mul-size (fin false a b) (fin false c d) (fin s n e) (fin t r l) p q f g h i =
     round-near (unlike s t) (n * up e * (r * up l)) (down e * down l) (a * up b * (c * up d)) (down b * down d) (mul-pos (down-pos e) (down-pos l)) (mul-pos (down-pos b) (down-pos d))
     (swap4 (n * up e) (down e) (a * up b) (down b) (r * up l) (down l) (c * up d) (down d) h i)
 
-pub mul-near : {m k hi x y : Float} → T ((solid m && solid k) && (le (neg hi) (neg (m ⊗ k)) && le (m ⊗ k) hi)) → Near m x → Near k y → Near hi (x ⊗ y)
-mul-near {m} {k} {hi} {x} {y} t i j =
+pub mul-near : {m k hi x y : Float} → Near m x → Near k y → T ((solid m && solid k) && (le (neg hi) (neg (m ⊗ k)) && le (m ⊗ k) hi)) → Near hi (x ⊗ y)
+mul-near {m} {k} {hi} {x} {y} i j t =
     let s = and-l (solid m && solid k) (le (neg hi) (neg (m ⊗ k)) && le (m ⊗ k) hi) t in
     let p = and-l (solid m) (solid k) s in
     let q = and-r (solid m) (solid k) s in
     let a = near-size m x p i in
     let b = near-size k y q j in
-    wider (and-r (solid m && solid k) (le (neg hi) (neg (m ⊗ k)) && le (m ⊗ k) hi) t) (mul-size m k x y p q (a .0) (b .0) (a .1) (b .1))
+    wider (mul-size m k x y p q (a .0) (b .0) (a .1) (b .1)) (and-r (solid m && solid k) (le (neg hi) (neg (m ⊗ k)) && le (m ⊗ k) hi) t)
 
 -- x / y, for a y from k on, k above zero
-nonzero : (n : ℕ) (u v : Float) → 0 < n → cond (eqb n 0) u v ≡ v
+pub nonzero : (n : ℕ) (u v : Float) → 0 < n → cond (eqb n 0) u v ≡ v
 nonzero n u v h = go (eqb n 0) (eqb→eq n 0)
   where
     go : (b : Bool) → (T b → n ≡ 0) → cond b u v ≡ v
@@ -146,12 +155,31 @@ div-size (fin false a b) (fin false c d) (fin s n e) (fin false r l) p q f g h i
     (round-near (unlike s false) (n * up e * down l) (r * up l * down e) (a * up b * down d) (c * up d * down b) (mul-pos (mul-pos R (up-pos l)) (down-pos e)) (mul-pos (mul-pos C (up-pos d)) (down-pos b))
     (across (n * up e) (down e) (a * up b) (down b) (r * up l) (down l) (c * up d) (down d) h (omega arith)))
 
-pub div-near : {m k l hi x y : Float} → T ((solid m && (positive k && finite l)) && (le (neg hi) (neg (m ⊘ k)) && le (m ⊘ k) hi)) → Near m x → In k l y → Near hi (x ⊘ y)
-div-near {m} {k} {l} {hi} {x} {y} t i j =
+pub div-near : {m k l hi x y : Float} → Near m x → In k l y → T ((solid m && (positive k && finite l)) && (le (neg hi) (neg (m ⊘ k)) && le (m ⊘ k) hi)) → Near hi (x ⊘ y)
+div-near {m} {k} {l} {hi} {x} {y} i j t =
     let s = and-l (solid m && (positive k && finite l)) (le (neg hi) (neg (m ⊘ k)) && le (m ⊘ k) hi) t in
     let p = and-l (solid m) (positive k && finite l) s in
     let qr = and-r (solid m) (positive k && finite l) s in
     let q = and-l (positive k) (finite l) qr in
     let a = near-size m x p i in
-    wider (and-r (solid m && (positive k && finite l)) (le (neg hi) (neg (m ⊘ k)) && le (m ⊘ k) hi) t)
-    (div-size m k x y p q (a .0) (in-finite k l y (positive-finite k q) (and-r (positive k) (finite l) qr) j) (a .1) (j .low))
+    wider (div-size m k x y p q (a .0) (in-finite k l y (positive-finite k q) (and-r (positive k) (finite l) qr) j) (a .1) (j .low))
+    (and-r (solid m && (positive k && finite l)) (le (neg hi) (neg (m ⊘ k)) && le (m ⊘ k) hi) t)
+
+-- ---- a test against a bound c narrows the interval
+pub above-in : {lo hi c x : Float} → lt c x ≡ true → In lo hi x → In c hi x
+above-in {lo} {hi} {c} {x} t i = record { low = le-of-lt c x (subst T (sym t) tt); high = i .high }
+
+pub below-in : {lo hi c x : Float} → lt x c ≡ true → In lo hi x → In lo c x
+below-in {lo} {hi} {c} {x} t i = record { low = i .low; high = le-of-lt x c (subst T (sym t) tt) }
+
+pub not-above-in : {lo hi c x : Float} → lt c x ≡ false → In lo hi x → T (finite lo && finite hi && finite c) → In lo c x
+not-above-in {lo} {hi} {c} {x} t i f = record {
+  low = i .low;
+  high = le-of-not-lt x c (in-finite lo hi x (and-l (finite lo) (finite hi) (and-l (finite lo && finite hi) (finite c) f)) (and-r (finite lo) (finite hi) (and-l (finite lo && finite hi) (finite c) f)) i) (and-r (finite lo && finite hi) (finite c) f) t;
+}
+
+pub not-below-in : {lo hi c x : Float} → lt x c ≡ false → In lo hi x → T (finite lo && finite hi && finite c) → In c hi x
+not-below-in {lo} {hi} {c} {x} t i f = record {
+  low = le-of-not-lt c x (and-r (finite lo && finite hi) (finite c) f) (in-finite lo hi x (and-l (finite lo) (finite hi) (and-l (finite lo && finite hi) (finite c) f)) (and-r (finite lo) (finite hi) (and-l (finite lo && finite hi) (finite c) f)) i) t;
+  high = i .high;
+}

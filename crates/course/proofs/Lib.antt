@@ -36,3 +36,4 @@ pub mod LayLaws
 pub mod FloatOrder
 pub mod RoundOrder
 pub mod Intervals
+pub mod AngleBound
