@@ -60,7 +60,7 @@ add-in {a} {b} {c} {d} {lo} {hi} {x} {y} i j t =
     wider (record { low = add-le a c x y fa fc fx fy (i .low) (j .low); high = add-le x y b d fx fy fb fd (i .high) (j .high) })
     (and-r (finites a b c d) (le lo (a ⊕ c) && le (b ⊕ d) hi) t)
 
-neg-in : {a b x : Float} → In a b x → In (neg b) (neg a) (neg x)
+pub neg-in : {a b x : Float} → In a b x → In (neg b) (neg a) (neg x)
 neg-in {a} {b} {x} i = record { low = neg-le x b (i .high); high = neg-le a x (i .low) }
 
 pub sub-in : {a b c d lo hi x y : Float} → In a b x → In c d y → T (finites a b (neg d) (neg c) && (le lo (a ⊖ d) && le (b ⊖ c) hi)) → In lo hi (x ⊖ y)
