@@ -77,8 +77,8 @@ unfolding arcOf
 arcOf-near t h = go (lt knee t) refl
   where
     go : (b : Bool) → lt knee t ≡ b → Near (decimal 15 10) (cond b (arc eighth ((t ⊖ natural 1) ⊘ (t ⊕ natural 1))) (arc (natural 0) t))
-    go true e = arc-near eighth ((t ⊖ natural 1) ⊘ (t ⊕ natural 1)) eighth-base (folded t (above-in e h))
-    go false e = arc-near (natural 0) t zero-base (wider (not-above-in e h (unfold natural ofInt decimal round in tt)) (unfold le neg natural ofInt decimal round in tt))
+    go true e = arc-near eighth ((t ⊖ natural 1) ⊘ (t ⊕ natural 1)) eighth-base (folded t (above-in knee h e))
+    go false e = arc-near (natural 0) t zero-base (wider (not-above-in knee h e (unfold natural ofInt decimal round in tt)) (unfold le neg natural ofInt decimal round in tt))
 
 -- ---- the smaller magnitude over the larger is from 0 to 1, or a NaN
 abbrev NanOr : (Float → Type 0) → Float → Type 0

@@ -1,6 +1,7 @@
 -- A float between two bounds that are floats themselves. What an operation gives on the bounds bounds what it gives on the floats between them. Each law takes one test on
 -- the bounds alone, which is computed. Assumes nothing.
 use mathlib.Core.Path.{_≡_, refl, sym, ap, _∙_, subst}
+use mathlib.Core.Logic.{_⊎_, inl, inr}
 use Prim.Native.Nat.{ℕ, _+_, _*_, _≤_, _<_, zero-le}
 use native.Mathlib.Nat.{le-trans, le-of-eq, mul-comm, mul-mul-mul-comm, mul-le-mul, mul-pos}
 use native.Mathlib.Omega.{arith}
@@ -13,7 +14,7 @@ use lib.Ieee.Scale.{finite}
 use Rattle.course.specs.Arithmetic.{_⊕_, _⊖_, _⊗_, _⊘_}
 use Rattle.course.specs.Numeric.{within}
 use Rattle.course.proofs.Bounds.{neg-round}
-use Rattle.course.proofs.FloatOrder.{under-of-le, le-of-lt, le-of-not-lt, le-chain, finite-between}
+use Rattle.course.proofs.FloatOrder.{not-lt, under-of-le, le-of-lt, le-of-not-lt, le-chain, finite-between}
 use Rattle.course.proofs.RoundOrder.{neg-le, round-le, add-le}
 
 -- lo ≤ x ≤ hi
@@ -43,7 +44,7 @@ wider {lo} {hi} {lo′} {hi′} {x} i t = record {
 }
 
 -- ---- sums and differences
-abbrev finites : Float → Float → Float → Float → Bool
+abbrev pub finites : Float → Float → Float → Float → Bool
 finites a b c d = (finite a && finite b) && (finite c && finite d)
 
 pub add-in : {a b c d lo hi x y : Float} → In a b x → In c d y → T (finites a b c d && (le lo (a ⊕ c) && le (b ⊕ d) hi)) → In lo hi (x ⊕ y)
@@ -165,21 +166,54 @@ div-near {m} {k} {l} {hi} {x} {y} i j t =
     wider (div-size m k x y p q (a .0) (in-finite k l y (positive-finite k q) (and-r (positive k) (finite l) qr) j) (a .1) (j .low))
     (and-r (solid m && (positive k && finite l)) (le (neg hi) (neg (m ⊘ k)) && le (m ⊘ k) hi) t)
 
--- ---- a test against a bound c narrows the interval
-pub above-in : {lo hi c x : Float} → lt c x ≡ true → In lo hi x → In c hi x
-above-in {lo} {hi} {c} {x} t i = record { low = le-of-lt c x (subst T (sym t) tt); high = i .high }
+-- ---- a test against c, for an x from lo to hi
+abbrev pub finites3 : Float → Float → Float → Bool
+finites3 a b c = finite a && finite b && finite c
 
-pub below-in : {lo hi c x : Float} → lt x c ≡ true → In lo hi x → In lo c x
-below-in {lo} {hi} {c} {x} t i = record { low = i .low; high = le-of-lt x c (subst T (sym t) tt) }
+module _ (c : Float) {lo hi x : Float} (i : In lo hi x) where
+  both-finite : T (finites3 lo hi c) → T (finite x) × T (finite c)
+  both-finite f =
+      let e = and-l (finite lo && finite hi) (finite c) f in
+      (in-finite lo hi x (and-l (finite lo) (finite hi) e) (and-r (finite lo) (finite hi) e) i, and-r (finite lo && finite hi) (finite c) f)
 
-pub not-above-in : {lo hi c x : Float} → lt c x ≡ false → In lo hi x → T (finite lo && finite hi && finite c) → In lo c x
-not-above-in {lo} {hi} {c} {x} t i f = record {
-  low = i .low;
-  high = le-of-not-lt x c (in-finite lo hi x (and-l (finite lo) (finite hi) (and-l (finite lo && finite hi) (finite c) f)) (and-r (finite lo) (finite hi) (and-l (finite lo && finite hi) (finite c) f)) i) (and-r (finite lo && finite hi) (finite c) f) t;
-}
+  -- its outcome narrows the interval
+  pub above-in : lt c x ≡ true → In c hi x
+  above-in e = record { low = le-of-lt c x (subst T (sym e) tt); high = i .high }
 
-pub not-below-in : {lo hi c x : Float} → lt x c ≡ false → In lo hi x → T (finite lo && finite hi && finite c) → In c hi x
-not-below-in {lo} {hi} {c} {x} t i f = record {
-  low = le-of-not-lt c x (and-r (finite lo && finite hi) (finite c) f) (in-finite lo hi x (and-l (finite lo) (finite hi) (and-l (finite lo && finite hi) (finite c) f)) (and-r (finite lo) (finite hi) (and-l (finite lo && finite hi) (finite c) f)) i) t;
-  high = i .high;
-}
+  pub below-in : lt x c ≡ true → In lo c x
+  below-in e = record { low = i .low; high = le-of-lt x c (subst T (sym e) tt) }
+
+  pub not-above-in : lt c x ≡ false → T (finites3 lo hi c) → In lo c x
+  not-above-in e t = let f = both-finite t in record { low = i .low; high = le-of-not-lt x c (f .0) (f .1) e }
+
+  pub not-below-in : lt x c ≡ false → T (finites3 lo hi c) → In c hi x
+  not-below-in e t = let f = both-finite t in record { low = le-of-not-lt c x (f .1) (f .0) e; high = i .high }
+
+  pub split-in : T (finites3 lo hi c) → In lo c x ⊎ In c hi x
+  split-in t = go (lt c x) refl
+    where
+      go : (b : Bool) → lt c x ≡ b → In lo c x ⊎ In c hi x
+      go true e = inr (above-in e)
+      go false e = inl (not-above-in e t)
+
+  -- an interval on one side of c decides it
+  pub not-above : T (finites3 lo hi c && le hi c) → lt c x ≡ false
+  not-above t = let f = both-finite (and-l (finites3 lo hi c) (le hi c) t) in not-lt x c (f .0) (f .1) (le-chain x hi c (i .high) (and-r (finites3 lo hi c) (le hi c) t))
+
+  pub not-below : T (finites3 lo hi c && le c lo) → lt x c ≡ false
+  not-below t = let f = both-finite (and-l (finites3 lo hi c) (le c lo) t) in not-lt c x (f .1) (f .0) (le-chain c lo x (and-r (finites3 lo hi c) (le c lo) t) (i .low))
+
+  -- and beyond c it is decided the other way
+  pub not-beyond : lt c x ≡ false → T (finites3 lo hi c && lt c lo) → ⊥
+  not-beyond e t =
+      let f = and-l (finites3 lo hi c) (lt c lo) t in
+      let l = and-l (finite lo) (finite hi) (and-l (finite lo && finite hi) (finite c) f) in
+      let k : lt c lo ≡ false = not-lt lo c l (both-finite f .1) (le-chain lo x c (i .low) (not-above-in e f .high)) in
+      subst T k (and-r (finites3 lo hi c) (lt c lo) t)
+
+  pub not-short : lt x c ≡ false → T (finites3 lo hi c && lt hi c) → ⊥
+  not-short e t =
+      let f = and-l (finites3 lo hi c) (lt hi c) t in
+      let h = and-r (finite lo) (finite hi) (and-l (finite lo && finite hi) (finite c) f) in
+      let k : lt hi c ≡ false = not-lt c hi (both-finite f .1) h (le-chain c x hi (not-below-in e f .low) (i .high)) in
+      subst T k (and-r (finites3 lo hi c) (lt hi c) t)

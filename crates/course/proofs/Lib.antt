@@ -37,3 +37,4 @@ pub mod FloatOrder
 pub mod RoundOrder
 pub mod Intervals
 pub mod AngleBound
+pub mod TurnLimits
