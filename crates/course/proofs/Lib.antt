@@ -38,3 +38,5 @@ pub mod RoundOrder
 pub mod Intervals
 pub mod AngleBound
 pub mod TurnLimits
+pub mod SightBound
+pub mod LimitsNeverMet

@@ -20,7 +20,7 @@ tenths n = decimal n 10
 abbrev minus : ℕ → Float
 minus n = neg (decimal n 10)
 
-tau-in : In (decimal 628 100) (decimal 629 100) tau
+pub tau-in : In (decimal 628 100) (decimal 629 100) tau
 unfolding tau pi natural ofInt decimal round mul le
 tau-in = record { low = tt; high = tt }
 
