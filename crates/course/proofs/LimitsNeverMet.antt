@@ -5,7 +5,7 @@ use mathlib.Core.Logic.{_⊎_, inl, inr}
 use Prim.Native.Nat.{ℕ, zero, suc, _*_, _≤_, zero-le}
 use native.Mathlib.Omega.{arith}
 use mathlib.Core.Bool.{Bool, true, false, cond, true≢false, false≢true}
-use mathlib.Core.List.{List}
+use mathlib.Core.List.{List, []}
 use lib.IntN.{pos}
 use lib.Dec.{T, ltb}
 use lib.Ieee.{Float, nan, inf, fin, up, down, isNan, neg, lt, le, round, ofInt, ofBits, add, sub}
@@ -93,3 +93,40 @@ step-accepted cs w hb = moved w (sightOf w) (destOf cs (w .dest) (sightOf w .alp
 -- ---- so a step from a beta within ±16 is refused by the third pass alone
 pub step-refused-by-pass : (cs : List Checkpoint) (w : Walk) → T (within (natural 16) (w .beta)) → stepOf cs w ≡ Refused → ThirdPass cs w
 step-refused-by-pass cs w hb e = elim (step-accepted cs w hb) [ inl d ↦ d | inr a ↦ absurd (subst Accepted e a) ]
+
+-- ---- and every walk that is reached has its beta within ±16
+pass-refuses : (cs : List Checkpoint) (w : Walk) → ThirdPass cs w → stepOf cs w ≡ Refused
+unfolding stepOf thenMoved
+pass-refuses cs w d = ap (thenMoved w (sightOf w)) d
+
+abbrev Went : Stepped → Type 0
+Went Refused = ⊥
+Went (On p v) = Unit
+
+step-within : (cs : List Checkpoint) (w v : Walk) (p : TrackStep) → T (within (natural 16) (w .beta)) → stepOf cs w ≡ On p v → T (within (natural 16) (v .beta))
+step-within cs w v p hb e = elim (step-accepted cs w hb) [ inl d ↦ absurd (subst Went (sym e ∙ pass-refuses cs w d) tt) | inr a ↦ subst Accepted e a ]
+
+pub reached-within : (cs : List Checkpoint) (w : Walk) → Reached cs w → T (within (natural 16) (w .beta))
+reached-within cs w start = unfold walkStart within natural ofInt ofBits neg le in tt
+reached-within cs u (next w v p r e) = step-within cs w v p (reached-within cs w r) e
+
+pub reached-refused-by-pass : (cs : List Checkpoint) (w : Walk) → Reached cs w → stepOf cs w ≡ Refused → ThirdPass cs w
+reached-refused-by-pass cs w r e = step-refused-by-pass cs w (reached-within cs w r) e
+
+-- ---- No walk is ever refused by the fifth turn or by beta beyond ±16.
+walk-from : (cs : List Checkpoint) (n : ℕ) (w : Walk) → Reached cs w → walkFrom n cs w .ok ≡ false → RefusedByPass cs
+unfolding walkFrom onward follow
+walk-from cs zero w r e = absurd (true≢false e)
+walk-from cs (suc n) w r e = go (stepOf cs w) refl e (λ (v : Walk). walk-from cs n v)
+  where
+    go : (s : Stepped) → stepOf cs w ≡ s → onward s (λ (v : Walk). walkFrom n cs v) .ok ≡ false → ((v : Walk) → Reached cs v → walkFrom n cs v .ok ≡ false → RefusedByPass cs) → RefusedByPass cs
+    go Refused i e rest = record { walk = w; reached = r; third-pass = reached-refused-by-pass cs w r i }
+    go (On p v) i e rest = ended (ltb 4 (v .laps)) e
+      where
+        ended : (b : Bool) → cond b (record { ok = true; steps = [] }) (walkFrom n cs v) .ok ≡ false → RefusedByPass cs
+        ended true e = absurd (true≢false e)
+        ended false e = rest v (next w v p r i) e
+
+pub walk-refused-by-pass : (cs : List Checkpoint) → walkOf cs .ok ≡ false → RefusedByPass cs
+unfolding walkOf
+walk-refused-by-pass cs e = walk-from cs mostPoints walkStart start e
