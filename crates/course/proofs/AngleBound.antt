@@ -1,13 +1,13 @@
 -- atan2 is a NaN or within ±6.25, for any x and y. Assumes nothing.
-use mathlib.Core.Path.{_≡_, refl, sym, ap, _∙_, subst}
+use mathlib.Core.Path.{_≡_, refl, ap, _∙_, subst}
 use mathlib.Core.Logic.{_⊎_, inl, inr}
 use Prim.Native.Nat.{ℕ, _*_, _≤_, _<_, _^_}
-use native.Mathlib.Nat.{le-of-lt, mul-one, one-mul, zero-mul, mul-pos, eq-zero-or-pos}
+use native.Mathlib.Nat.{le-of-lt, zero-mul, mul-pos, eq-zero-or-pos}
 use native.Mathlib.Omega.{arith}
 use mathlib.Core.Bool.{Bool, true, false, not, cond, _&&_}
 use mathlib.Core.List.{List, [], _∷_}
 use lib.IntN.{ℤ, pos}
-use lib.Dec.{T, ltb, eqb, eqb→eq, ltb→lt, nltb→le, lit≤}
+use lib.Dec.{T, ltb, eqb, ltb→lt, nltb→le, lit≤}
 use borrow.Author.Tests.{eq-eqb}
 use lib.Ieee.{Float, nan, inf, fin, binary64, up, down, neg, lt, le, eq, round, ofInt, add, sub, mul, div}
 use lib.Ieee.Fits.{up-pos, down-pos, and-l, and-r}
@@ -16,7 +16,7 @@ use Rattle.course.specs.Arithmetic.{_⊕_, _⊖_, _⊗_, _⊘_, natural,
 use Rattle.course.specs.Constants.{halfPi}
 use Rattle.course.specs.Numeric.{absOf, within}
 use Rattle.course.specs.Trig.{plus, minus, horner, atanTerms, atanPoly, arc, arcOf, ratioOf, steepOf, leftward, downward, directionOf, atan2Of}
-use Rattle.course.proofs.Intervals.{In, Near, neg-in, near-of-within, wider, add-in, sub-in, mul-near, div-near, above-in, not-above-in, nonzero}
+use Rattle.course.proofs.Intervals.{In, Near, either, neg-in, near-of-within, wider, add-in, sub-in, mul-near, div-near, above-in, not-above-in, nonzero}
 
 -- ---- the polynomial: for |z| ≤ 0.18 and coefficients within ±1 it stays within ±1.5
 small : List Float → Bool
@@ -127,10 +127,6 @@ ratio-unit (fin s m e) (fin t n d) = go (ltb (n * up d * down e) (m * up e * dow
     go false f g = quotient-unit m e n d (g tt)
 
 -- ---- the four quadrants
-either : (P : Float → Type 0) (b : Bool) (u v : Float) → P u → P v → P (cond b u v)
-either P true u v p q = p
-either P false u v p q = q
-
 less-nan : (x : Float) → x ⊖ nan ≡ nan
 unfolding sub
 less-nan nan = refl

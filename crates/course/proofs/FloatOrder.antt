@@ -1,19 +1,15 @@
 -- Finite floats in order. A finite float is (above − under) / over in whole numbers, and the order of floats is that of these fractions; rounding keeps it. Assumes nothing.
-use mathlib.Core.Path.{_≡_, refl, sym, ap, ap₂, _∙_, subst}
+use mathlib.Core.Path.{_≡_, refl, sym}
 use mathlib.Core.Logic.{_⊎_, inl, inr}
-use Prim.Native.Nat.{ℕ, _+_, _-_, _*_, _≤_, _<_, zero-le}
-use native.Mathlib.Nat.{le-trans, le-of-eq, mul-one, mul-comm, mul-right-comm, mul-mul-mul-comm, mul-le-mul-right, le-of-mul-le-mul-right, mul-pos, add-mul, zero-mul, eq-zero-or-pos}
+use Prim.Native.Nat.{ℕ, _+_, _*_, _≤_, _<_, zero-le}
+use native.Mathlib.Nat.{le-trans, le-of-eq, mul-right-comm, mul-le-mul-right, le-of-mul-le-mul-right, add-mul, zero-mul}
 use native.Mathlib.Omega.{arith}
-use mathlib.Core.Bool.{Bool, true, false, not, cond, _&&_, _||_, Bool·beq}
-use lib.Dec.{T, ltb, eqb, ltb→lt, lt→ltb, nltb→le, eqb→eq, lit≤}
+use mathlib.Core.Bool.{Bool, true, false, not, cond, _&&_, _||_}
+use lib.Dec.{T, ltb, eqb, ltb→lt, nltb→le, eqb→eq, lit≤}
 use borrow.Author.Tests.{ltb-false}
-use lib.Ieee.{Float, nan, inf, fin, binary64, up, down, below, level, neg, lt, eq, le, round, sum, add, sub}
+use lib.Ieee.{Float, nan, inf, fin, up, down, below, level, lt, eq, le}
 use lib.Ieee.Fits.{down-pos, and-l, and-r, and-i, eq→eqb}
-use lib.Ieee.Order.{round-mono}
 use lib.Ieee.Scale.{finite}
-use Rattle.course.specs.Arithmetic.{_⊕_, _⊖_}
-use Rattle.course.specs.Steps.{Bounded}
-use Rattle.course.proofs.Bounds.{plain, plain-round, neg-round, round-bounded}
 
 -- ---- ±a / c in two parts, one of them 0
 abbrev pub above : Float → ℕ
@@ -40,7 +36,7 @@ over-pos (fin s m e) = down-pos e
 abbrev pub Ordered : (p n d q k e : ℕ) → Type 0
 Ordered p n d q k e = p * e + k * d ≤ q * d + n * e
 
-abbrev pub Under : Float → Float → Type 0
+abbrev Under : Float → Float → Type 0
 Under x y = Ordered (above x) (under x) (over x) (above y) (under y) (over y)
 
 -- ---- the tests on ±a and ±b
@@ -48,11 +44,11 @@ or-split : (p q : Bool) → T (p || q) → T p ⊎ T q
 or-split true q t = inl tt
 or-split false q t = inr t
 
-pub or-l : (p q : Bool) → T p → T (p || q)
+or-l : (p q : Bool) → T p → T (p || q)
 or-l true q t = tt
 or-l false q t = absurd t
 
-pub or-r : (p q : Bool) → T q → T (p || q)
+or-r : (p q : Bool) → T q → T (p || q)
 or-r true q t = tt
 or-r false q t = t
 
@@ -109,7 +105,7 @@ under-of-le (fin s m e) (inf t) p q h = absurd q
 under-of-le (fin s m e) (fin t n d) p q h =
     rw (← part s (m * up e) (down d), ← part′ t (n * up d) (down e), ← part t (n * up d) (down e), ← part′ s (m * up e) (down d)) (says s (m * up e * down d) t (n * up d * down e) h)
 
-pub le-of-under : (x y : Float) → T (finite x) → T (finite y) → Under x y → T (le x y)
+le-of-under : (x y : Float) → T (finite x) → T (finite y) → Under x y → T (le x y)
 unfolding le
 le-of-under nan y p q h = absurd p
 le-of-under (inf s) y p q h = absurd p
@@ -117,7 +113,6 @@ le-of-under (fin s m e) nan p q h = absurd q
 le-of-under (fin s m e) (inf t) p q h = absurd q
 le-of-under (fin s m e) (fin t n d) p q h =
     is-so s (m * up e * down d) t (n * up d * down e) (rw (part s (m * up e) (down d), part′ t (n * up d) (down e), part t (n * up d) (down e), part′ s (m * up e) (down d)) h)
-
 
 strictly-under : (x y : Float) → T (finite x) → T (finite y) → T (lt x y) → above x * over y + under y * over x < above y * over x + under x * over y
 unfolding lt

@@ -2,11 +2,11 @@
 -- the bounds alone, which is computed. Assumes nothing.
 use mathlib.Core.Path.{_≡_, refl, sym, ap, _∙_, subst}
 use mathlib.Core.Logic.{_⊎_, inl, inr}
-use Prim.Native.Nat.{ℕ, _+_, _*_, _≤_, _<_, zero-le}
+use Prim.Native.Nat.{ℕ, _*_, _≤_, _<_}
 use native.Mathlib.Nat.{le-trans, le-of-eq, mul-comm, mul-mul-mul-comm, mul-le-mul, mul-pos}
 use native.Mathlib.Omega.{arith}
 use mathlib.Core.Bool.{Bool, true, false, not, cond, _&&_}
-use lib.Dec.{T, eqb, ltb, eqb→eq, ltb→lt}
+use lib.Dec.{T, eqb, eqb→eq, ltb→lt}
 use lib.Ieee.{Float, nan, inf, fin, binary64, up, down, unlike, neg, lt, le, round, sub, mul, div}
 use lib.Ieee.Fits.{up-pos, down-pos, and-i, and-l, and-r}
 use lib.Ieee.Positive.{positive, positive-finite, first-pos, num, den}
@@ -34,8 +34,13 @@ pub within-of-near : (m x : Float) → Near m x → T (within m x)
 unfolding within
 within-of-near m x i = and-i (le (neg m) x) (le x m) (i .low) (i .high)
 
-pub in-finite : (lo hi x : Float) → T (finite lo) → T (finite hi) → In lo hi x → T (finite x)
+in-finite : (lo hi x : Float) → T (finite lo) → T (finite hi) → In lo hi x → T (finite x)
 in-finite lo hi x p q i = finite-between lo x hi p q (i .low) (i .high)
+
+-- both outcomes of a test
+pub either : (P : Float → Type 0) (b : Bool) (u v : Float) → P u → P v → P (cond b u v)
+either P true u v p q = p
+either P false u v p q = q
 
 pub wider : {lo hi lo′ hi′ x : Float} → In lo hi x → T (le lo′ lo && le hi hi′) → In lo′ hi′ x
 wider {lo} {hi} {lo′} {hi′} {x} i t = record {
@@ -69,7 +74,8 @@ unfolding sub
 sub-in i j t = add-in i (neg-in j) t
 
 -- ---- products and quotients, by size
-abbrev pub solid : Float → Bool
+-- finite, with no minus sign
+abbrev solid : Float → Bool
 solid nan = false
 solid (inf s) = false
 solid (fin s m e) = not s
@@ -151,8 +157,10 @@ div-size (fin false a b) (fin false c d) (fin s n e) (fin false r l) p q f g h i
     let z : 0 < c * up d * down l = mul-pos (mul-pos C (up-pos d)) (down-pos l) in
     let R′ : 0 < r * up l * down d = omega arith in
     let R : 0 < r = first-pos r (up l) (first-pos (r * up l) (down d) R′) in
-    rw (nonzero c (cond (eqb a 0) nan (inf false)) (round binary64 false (a * up b * down d) (c * up d * down b)) C,
-      nonzero r (cond (eqb n 0) nan (inf (unlike s false))) (round binary64 (unlike s false) (n * up e * down l) (r * up l * down e)) R)
+    rw (
+      nonzero c (cond (eqb a 0) nan (inf false)) (round binary64 false (a * up b * down d) (c * up d * down b)) C,
+      nonzero r (cond (eqb n 0) nan (inf (unlike s false))) (round binary64 (unlike s false) (n * up e * down l) (r * up l * down e)) R,
+    )
     (round-near (unlike s false) (n * up e * down l) (r * up l * down e) (a * up b * down d) (c * up d * down b) (mul-pos (mul-pos R (up-pos l)) (down-pos e)) (mul-pos (mul-pos C (up-pos d)) (down-pos b))
     (across (n * up e) (down e) (a * up b) (down b) (r * up l) (down l) (c * up d) (down d) h (omega arith)))
 

@@ -2,20 +2,19 @@
 -- checkpoints and any place of the walk, NaN and infinities too. Assumes nothing.
 use mathlib.Core.Path.{_≡_, refl, sym, ap, _∙_, subst}
 use mathlib.Core.Logic.{_⊎_, inl, inr}
-use Prim.Native.Nat.{ℕ, zero, suc, _*_, _≤_, zero-le}
+use Prim.Native.Nat.{ℕ, zero, suc, _*_}
 use native.Mathlib.Omega.{arith}
 use mathlib.Core.Bool.{Bool, true, false, cond, true≢false, false≢true}
 use mathlib.Core.List.{List, []}
-use lib.IntN.{pos}
 use lib.Dec.{T, ltb}
 use lib.Ieee.{Float, nan, inf, fin, up, down, isNan, neg, lt, le, round, ofInt, ofBits, add, sub}
-use Rattle.course.specs.Arithmetic.{_⊕_, _⊖_, _⊗_, natural, decimal, nought}
+use Rattle.course.specs.Arithmetic.{_⊕_, _⊖_, _⊗_, natural, decimal}
 use Rattle.course.specs.Constants.{trackTurnRate}
 use Rattle.course.specs.Numeric.{absOf, minOf, within}
 use Rattle.course.specs.Trig.{sinCosOf}
 use Rattle.course.specs.Finder.{destOf}
 use Rattle.course.specs.Step.{sightOf, turnOf, projOf, steered, landedOf, thenLanded, movedOf, thenMoved, stepOf}
-use Rattle.course.specs.Walk.{Trail, follow, onward, walkFrom, walkStart, walkOf}
+use Rattle.course.specs.Walk.{follow, onward, walkFrom, walkStart, walkOf}
 use Rattle.course.specs.Lengths.{mostPoints}
 use Rattle.course.specs.Refusals.{Reached, start, next, ThirdPass, RefusedByPass}
 use Rattle.course.specs.declared.trig.SinCos.{SinCos}
@@ -30,7 +29,7 @@ use Rattle.course.specs.declared.step.Turned.the-variants.{To, Refused a
 use Rattle.course.specs.declared.step.Stepped.{Stepped}
 use Rattle.course.specs.declared.step.Stepped.the-variants.{On, Refused}
 use Rattle.course.proofs.FloatOrder.{le-of-lt, is-so}
-use Rattle.course.proofs.Intervals.{In, Near, near-of-within, within-of-near, wider, add-in, sub-in}
+use Rattle.course.proofs.Intervals.{In, Near, either, near-of-within, within-of-near, wider, add-in, sub-in}
 use Rattle.course.proofs.TurnLimits.{Fine, turn-fine}
 use Rattle.course.proofs.SightBound.{Aimed, sight-seen, dest-aimed}
 
@@ -49,17 +48,13 @@ rate-in x = go (lt (absOf x) (decimal 31 100)) refl
     go true e = record { low = abs-plus x (decimal 31 100) e; high = le-of-lt (absOf x) (decimal 31 100) (subst T (sym e) tt) }
     go false e = record { low = unfold natural ofInt decimal round isNan le in tt; high = unfold decimal round isNan le in tt }
 
-either : (b : Bool) (u v : Float) → Near (natural 16) u → Near (natural 16) v → Near (natural 16) (cond b u v)
-either true u v p q = p
-either false u v p q = q
-
 steered-near : (b proj : Float) → Near (natural 12) b → Near (natural 16) (steered b proj)
 unfolding steered
 steered-near b proj hb =
     let m = minOf trackTurnRate (absOf (decimal 1 1000 ⊗ proj)) in
     let r = rate-in (decimal 1 1000 ⊗ proj) in
-    either (lt (decimal 3 10) proj) (b ⊖ m) (cond (lt proj (neg (decimal 3 10))) (b ⊕ m) b) (sub-in hb r (unfold natural ofInt decimal round neg sub le in tt))
-    (either (lt proj (neg (decimal 3 10))) (b ⊕ m) b (add-in hb r (unfold natural ofInt decimal round neg add le in tt)) (wider hb (unfold natural ofInt neg le in tt)))
+    either (Near (natural 16)) (lt (decimal 3 10) proj) (b ⊖ m) (cond (lt proj (neg (decimal 3 10))) (b ⊕ m) b) (sub-in hb r (unfold natural ofInt decimal round neg sub le in tt))
+    (either (Near (natural 16)) (lt proj (neg (decimal 3 10))) (b ⊕ m) b (add-in hb r (unfold natural ofInt decimal round neg add le in tt)) (wider hb (unfold natural ofInt neg le in tt)))
 
 -- ---- a step with a checkpoint to go to is accepted
 abbrev Accepted : Stepped → Type 0

@@ -1,19 +1,18 @@
 -- Rounding keeps the order of fractions, of either sign; so a sum of floats grows with each part. Assumes nothing.
-use mathlib.Core.Path.{_≡_, refl, sym, ap, ap₂, _∙_, subst}
-use mathlib.Core.Logic.{_⊎_, inl, inr}
-use Prim.Native.Nat.{ℕ, _+_, _-_, _*_, _≤_, _<_, _^_, zero-le}
-use native.Mathlib.Nat.{le-trans, le-of-eq, mul-one, mul-comm, mul-right-comm, mul-mul-mul-comm, mul-le-mul-right, le-of-mul-le-mul-right, mul-pos, add-mul, zero-mul, eq-zero-or-pos}
+use mathlib.Core.Path.{_≡_, refl, sym, ap, ap₂, _∙_}
+use mathlib.Core.Logic.{inl, inr}
+use Prim.Native.Nat.{ℕ, _+_, _-_, _*_, _≤_, _<_, zero-le}
+use native.Mathlib.Nat.{mul-comm, mul-mul-mul-comm, mul-pos, add-mul, zero-mul, eq-zero-or-pos}
 use native.Mathlib.Omega.{arith}
-use mathlib.Core.Bool.{Bool, true, false, not, cond, _&&_, _||_, Bool·beq}
-use lib.Dec.{T, ltb, eqb, ltb→lt, lt→ltb, nltb→le, eqb→eq, lit≤}
-use lib.Ieee.{Float, nan, inf, fin, binary64, up, down, below, level, neg, lt, eq, le, round, sum, add, sub}
-use lib.Ieee.Fits.{down-pos, and-l, and-r, and-i, eq→eqb}
+use mathlib.Core.Bool.{Bool, true, false, not, cond}
+use lib.Dec.{T, ltb, ltb→lt, nltb→le}
+use lib.Ieee.{Float, nan, inf, fin, binary64, up, down, neg, le, round, sum, add}
 use lib.Ieee.Order.{round-mono}
 use lib.Ieee.Scale.{finite}
-use Rattle.course.specs.Arithmetic.{_⊕_, _⊖_}
+use Rattle.course.specs.Arithmetic.{_⊕_}
 use Rattle.course.specs.Steps.{Bounded}
 use Rattle.course.proofs.Bounds.{plain, plain-round, neg-round, round-bounded}
-use Rattle.course.proofs.FloatOrder.{says, above, under, over, over-pos, Ordered, Under, part, part′, scaled, is-so, under-of-le, le-of-under}
+use Rattle.course.proofs.FloatOrder.{says, above, under, over, over-pos, Ordered, part, part′, scaled, is-so, under-of-le}
 
 -- ---- rounding keeps the order, for both signs
 pub neg-le : (x y : Float) → T (le x y) → T (le (neg y) (neg x))
@@ -89,11 +88,11 @@ round-le true a d true b e D E h =
     rw (neg-round binary64 a d, neg-round binary64 b e) (neg-le (round binary64 false b e) (round binary64 false a d) (round-mono binary64 b e a d E D (omega arith)))
 
 -- ---- sums: a rounded fraction, (p − n) / d
-pub record Rounded (x : Float) (p n d : ℕ) : Type 0 where
-  pub sign : Bool
-  pub size : ℕ
-  pub is : x ≡ round binary64 sign size d
-  pub value : cond sign 0 size + n ≡ p + cond sign size 0
+record Rounded (x : Float) (p n d : ℕ) : Type 0 where
+  sign : Bool
+  size : ℕ
+  is : x ≡ round binary64 sign size d
+  value : cond sign 0 size + n ≡ p + cond sign size 0
 
 -- the two parts of ±a / d, where that is (p − n) / d, times e
 parted : (a b n p e : ℕ) → a + n ≡ p + b → a * e + n * e ≡ p * e + b * e

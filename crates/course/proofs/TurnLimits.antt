@@ -1,12 +1,11 @@
 -- The turns of beta, for a beta within ±16 and an alpha within ±6.3: at most three are made, and beta is then within ±12. Assumes nothing.
-use mathlib.Core.Path.{_≡_, refl, sym, ap, _∙_, subst}
+use mathlib.Core.Path.{_≡_, refl, sym, _∙_, subst}
 use mathlib.Core.Logic.{_⊎_, inl, inr}
 use Prim.Native.Nat.{ℕ, zero, suc}
-use mathlib.Core.Bool.{Bool, true, false, cond, _&&_, true≢false, false≢true}
+use mathlib.Core.Bool.{Bool, true, false, _&&_, true≢false}
 use lib.Dec.{T}
 use lib.Ieee.{Float, neg, lt, le, round, ofInt, add, sub, mul}
-use lib.Ieee.Scale.{finite}
-use Rattle.course.specs.Arithmetic.{_⊕_, _⊖_, _⊗_, natural, decimal}
+use Rattle.course.specs.Arithmetic.{_⊕_, _⊖_, natural, decimal}
 use Rattle.course.specs.Constants.{pi, tau}
 use Rattle.course.specs.Step.{farAbove, farBelow, turnDown, turnUp, thenUp, turnOf}
 use Rattle.course.specs.declared.step.Turned.{Turned}
@@ -71,39 +70,39 @@ Fine (To b n) = Near (natural 12) b
 
 -- beta from lo on has room for a turn up, and is from lo′ on after it
 record Rise (lo lo′ : Float) : Type 0 where
-  within : T (le (neg (natural 16)) lo && le (natural 12) (natural 12))
+  inside : T (le (neg (natural 16)) lo && le (natural 12) (natural 12))
   between : T (finites3 lo (natural 12) (natural 2))
   turned : T (finites lo (natural 2) (decimal 628 100) (decimal 629 100) && (le lo′ (lo ⊕ decimal 628 100) && le (natural 2 ⊕ decimal 629 100) (natural 12)))
 
 -- beta up to hi has room for a turn down, and is up to hi′ after it
 record Fall (hi hi′ : Float) : Type 0 where
-  within : T (le (neg (natural 16)) (neg (natural 16)) && le hi (natural 16))
+  inside : T (le (neg (natural 16)) (neg (natural 16)) && le hi (natural 16))
   between : T (finites3 (neg (natural 16)) hi (neg (natural 2)))
   turned : T (finites (neg (natural 2)) hi (neg (decimal 629 100)) (neg (decimal 628 100)) && (le (neg (natural 16)) (neg (natural 2) ⊖ decimal 629 100) && le (hi ⊖ decimal 628 100) hi′))
 
 rise1 : Rise (neg (natural 16)) (minus 98)
 unfolding natural ofInt decimal round neg add le
-rise1 = record { within = tt; between = tt; turned = tt }
+rise1 = record { inside = tt; between = tt; turned = tt }
 
 rise2 : Rise (minus 98) (minus 36)
 unfolding natural ofInt decimal round neg add le
-rise2 = record { within = tt; between = tt; turned = tt }
+rise2 = record { inside = tt; between = tt; turned = tt }
 
 rise3 : Rise (minus 36) (tenths 26)
 unfolding natural ofInt decimal round neg add le
-rise3 = record { within = tt; between = tt; turned = tt }
+rise3 = record { inside = tt; between = tt; turned = tt }
 
 fall1 : Fall (natural 16) (tenths 98)
 unfolding natural ofInt decimal round neg sub le
-fall1 = record { within = tt; between = tt; turned = tt }
+fall1 = record { inside = tt; between = tt; turned = tt }
 
 fall2 : Fall (tenths 98) (tenths 36)
 unfolding natural ofInt decimal round neg sub le
-fall2 = record { within = tt; between = tt; turned = tt }
+fall2 = record { inside = tt; between = tt; turned = tt }
 
 fall3 : Fall (tenths 36) (minus 26)
 unfolding natural ofInt decimal round neg sub le
-fall3 = record { within = tt; between = tt; turned = tt }
+fall3 = record { inside = tt; between = tt; turned = tt }
 
 module _ (a : Float) (ha : Near (tenths 63) a) where
   not-undone : (b : Float) → Near (natural 16) b → lt farAbove (b ⊖ a) ≡ true → lt (b ⊖ tau ⊖ a) farBelow ≡ false
@@ -165,7 +164,7 @@ module _ (a : Float) (ha : Near (tenths 63) a) where
 
       go : (x : Bool) → lt (b ⊖ a) farBelow ≡ x → Fine (turnUp (suc n) b a)
       go true e = subst Fine (sym (up-turn n b e)) (turn e (split-in (natural 2) hb (r .between)))
-      go false e = up-rest (suc n) b (wider hb (r .within)) e
+      go false e = up-rest (suc n) b (wider hb (r .inside)) e
 
   -- ---- turns down, where beta is not far below alpha
   down-none : (n : ℕ) (b : Float) → lt farAbove (b ⊖ a) ≡ false → turnDown n b a ≡ To b n
@@ -203,8 +202,8 @@ module _ (a : Float) (ha : Near (tenths 63) a) where
   down-more hi hi′ r n rest b hb none = go (lt farAbove (b ⊖ a)) refl
     where
       go : (x : Bool) → lt farAbove (b ⊖ a) ≡ x → Down (suc n) b
-      go true e = subst (λ (t : Turned). Fine (thenUp a t)) (sym (down-turn n b e)) (rest (b ⊖ tau) (turned-down hi hi′ r b hb e) (not-undone b (wider hb (r .within)) e))
-      go false e = down-rest (suc n) b e (none (not-high b (wider hb (r .within)) e))
+      go true e = subst (λ (t : Turned). Fine (thenUp a t)) (sym (down-turn n b e)) (rest (b ⊖ tau) (turned-down hi hi′ r b hb e) (not-undone b (wider hb (r .inside)) e))
+      go false e = down-rest (suc n) b e (none (not-high b (wider hb (r .inside)) e))
 
   down-further : (hi hi′ : Float) → Fall hi hi′ → (n : ℕ) → ((b : Float) → In (neg (natural 16)) hi′ b → lt (b ⊖ a) farBelow ≡ false → Down n b)
       → (b : Float) → In (neg (natural 16)) hi b → lt (b ⊖ a) farBelow ≡ false → Down (suc n) b
