@@ -89,11 +89,12 @@ step-accepted cs w hb = moved w (sightOf w) (destOf cs (w .dest) (sightOf w .alp
 pub step-refused-by-pass : (cs : List Checkpoint) (w : Walk) → T (within (natural 16) (w .beta)) → stepOf cs w ≡ Refused → ThirdPass cs w
 step-refused-by-pass cs w hb e = elim (step-accepted cs w hb) [ inl d ↦ d | inr a ↦ absurd (subst Accepted e a) ]
 
--- ---- and every walk that is reached has its beta within ±16
-pass-refuses : (cs : List Checkpoint) (w : Walk) → ThirdPass cs w → stepOf cs w ≡ Refused
+-- which does refuse it
+pub pass-refuses : (cs : List Checkpoint) (w : Walk) → ThirdPass cs w → stepOf cs w ≡ Refused
 unfolding stepOf thenMoved
 pass-refuses cs w d = ap (thenMoved w (sightOf w)) d
 
+-- ---- and every walk that is reached has its beta within ±16
 abbrev Went : Stepped → Type 0
 Went Refused = ⊥
 Went (On p v) = Unit

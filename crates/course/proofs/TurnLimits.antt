@@ -119,8 +119,8 @@ module _ (a : Float) (ha : Near (tenths 63) a) where
 
   -- ---- beta after the turns
   -- where no turn is wanted, beta is near alpha
-  not-low : (hi b : Float) → In (neg (natural 16)) hi b → lt (b ⊖ a) farBelow ≡ false → T (finites3 (neg (natural 16)) hi (neg (natural 12))) → In (neg (natural 12)) hi b
-  not-low hi b hb e f = elim (split-in (neg (natural 12)) hb f) [
+  not-low : (b : Float) → In (neg (natural 16)) (natural 12) b → lt (b ⊖ a) farBelow ≡ false → Near (natural 12) b
+  not-low b hb e = elim (split-in (neg (natural 12)) hb (unfold natural ofInt neg in tt)) [
     | inl i ↦
         let d : In (minus 300) (minus 56) (b ⊖ a) = sub-in i ha (unfold natural ofInt decimal round neg sub le in tt) in
         absurd (not-short farBelow d e (unfold farBelow pi natural ofInt decimal round neg mul lt in tt))
@@ -142,7 +142,7 @@ module _ (a : Float) (ha : Near (tenths 63) a) where
   up-none (suc n) b e = rw e
 
   up-rest : (n : ℕ) (b : Float) → In (neg (natural 16)) (natural 12) b → lt (b ⊖ a) farBelow ≡ false → Fine (turnUp n b a)
-  up-rest n b hb e = subst Fine (sym (up-none n b e)) (not-low (natural 12) b hb e (unfold natural ofInt neg in tt))
+  up-rest n b hb e = subst Fine (sym (up-none n b e)) (not-low b hb e)
 
   up-turn : (n : ℕ) (b : Float) → lt (b ⊖ a) farBelow ≡ true → turnUp (suc n) b a ≡ turnUp n (b ⊕ tau) a
   unfolding turnUp
