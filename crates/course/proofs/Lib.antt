@@ -33,3 +33,10 @@ pub mod Attempts
 pub mod CourseSizes
 pub mod Generating
 pub mod LayLaws
+pub mod FloatOrder
+pub mod RoundOrder
+pub mod Intervals
+pub mod AngleBound
+pub mod TurnLimits
+pub mod SightBound
+pub mod LimitsNeverMet

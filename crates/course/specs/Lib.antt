@@ -23,6 +23,7 @@ pub mod Checkpoints
 pub mod Finder
 pub mod Step
 pub mod Walk
+pub mod Refusals
 pub mod Track
 pub mod Lay
 pub mod LaySteps
