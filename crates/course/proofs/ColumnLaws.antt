@@ -103,3 +103,20 @@ drop-past p l i m e h =
 -- one write after others
 pub then-set : (l a b : List Float) (i : ℕ) (v : Float) → b ≡ set a i v → a ≡ l → b ≡ set l i v
 then-set l a b i v p q = p ∙ ap (λ (z : List Float). set z i v) q
+
+-- a corner's two numbers, then others
+two-puts : (vs : List Float) (i : ℕ) (l m : List Float) (a b : Float) → m ≡ set (set l i a) (i + 1) b → puts vs (i + 2) m ≡ puts (a ∷ b ∷ vs) i l
+unfolding puts
+two-puts vs i l m a b e =
+    let h : i + 2 ≡ i + 1 + 1 = omega arith in
+    ap (λ (z : List Float). puts vs (i + 2) z) e ∙ ap (λ (k : ℕ). puts vs k (set (set l i a) (i + 1) b)) h
+
+-- four corners, one after the other, are a quad
+pub four-corners : (l l1 l2 l3 l4 : List Float) (i : ℕ) (a b c d e f g h : Float)
+    → l1 ≡ set (set l i a) (i + 1) b → l2 ≡ set (set l1 (i + 2) c) (i + 2 + 1) d
+    → l3 ≡ set (set l2 (i + 2 + 2) e) (i + 2 + 2 + 1) f → l4 ≡ set (set l3 (i + 2 + 2 + 2) g) (i + 2 + 2 + 2 + 1) h
+    → l4 ≡ puts (a ∷ b ∷ c ∷ d ∷ e ∷ f ∷ g ∷ h ∷ []) i l
+unfolding puts
+four-corners l l1 l2 l3 l4 i a b c d e f g h p q r s =
+    two-puts [] (i + 2 + 2 + 2) l3 l4 g h s ∙ two-puts (g ∷ h ∷ []) (i + 2 + 2) l2 l3 e f r
+    ∙ two-puts (e ∷ f ∷ g ∷ h ∷ []) (i + 2) l1 l2 c d q ∙ two-puts (c ∷ d ∷ e ∷ f ∷ g ∷ h ∷ []) i l l1 a b p

@@ -2,7 +2,8 @@
 ghost use mathlib.Core.Path.{_≡_};
 ghost use mathlib.Core.List.{_++_};
 ghost use Prim.Native.Nat.{_+_, _*_, _-_, _<_, _≤_};
-ghost use lib.ListN.{length, take, drop, set};
+ghost use lib.ListN.{length, getD, take, drop, set};
+ghost use lib.Ieee.{nan};
 ghost use Rattle.course.specs.Tiles.{pointAt, pointsOf, tileQuad, beforeOf, eight, tilesTo};
 ghost use Rattle.course.specs.CourseSteps.{puts};
 use crate::constants::TRACK_WIDTH;
@@ -60,26 +61,28 @@ fn put(l: &mut [f64], i: usize, v: f64)
     l[i] = v;
 }
 
+// A corner's two numbers stand from number `at` on.
+fn put_corner(tiles: &mut [f64], at: usize, c: [f64; 2])
+    requires { ⌜ at + 2 ≤ length (now tiles) ⌝ }
+    ensures { λ r. ⌜ now (tiles .exit) ≡ set (set (now (tiles .entry)) at (getD c 0 nan)) (at + 1) (getD c 1 nan) ⌝ }
+{
+    put(tiles, at, c[0]);
+    let b = at + 1;
+    put(tiles, b, c[1]);
+}
+
 // The quad's eight numbers stand from number `at` on.
 pub(crate) fn put_quad(tiles: &mut [f64], at: usize, q: [[f64; 2]; 4])
     requires { ⌜ at + 8 ≤ length (now tiles) ⌝ }
     ensures { λ r. ⌜ now (tiles .exit) ≡ puts (eight q) at (now (tiles .entry)) ⌝ }
 {
-    put(tiles, at, q[0][0]);
-    let b = at + 1;
-    put(tiles, b, q[0][1]);
-    let c = b + 1;
-    put(tiles, c, q[1][0]);
-    let d = c + 1;
-    put(tiles, d, q[1][1]);
-    let e = d + 1;
-    put(tiles, e, q[2][0]);
-    let f = e + 1;
-    put(tiles, f, q[2][1]);
-    let g = f + 1;
-    put(tiles, g, q[3][0]);
-    let h = g + 1;
-    put(tiles, h, q[3][1]);
+    put_corner(tiles, at, q[0]);
+    let b = at + 2;
+    put_corner(tiles, b, q[1]);
+    let c = b + 2;
+    put_corner(tiles, c, q[2]);
+    let d = c + 2;
+    put_corner(tiles, d, q[3]);
 }
 
 // The tiles of the n points that the columns begin with.
