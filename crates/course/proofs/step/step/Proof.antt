@@ -8,15 +8,19 @@ use Rattle.course.proofs.step.step.Statement.{statement}
 use Rattle.course.proofs.step.step.Tie as tie
 use Rattle.course.proofs.step.step.Reads as reads
 use Rattle.course.proofs.step.step.Lts as lts
-use Rattle.course.proofs.finder.find_dest.Reads as find-dest-reads
+use Rattle.course.proofs.finder.dest_from.Reads as dest-from-reads
 use Rattle.course.proofs.step.look.Reads as look-reads
+use Rattle.course.proofs.trig.sin_cos.Reads as sin-cos-reads
 use Rattle.course.proofs.step.moved.Reads as moved-reads
+
+sin-cos-requires : tie.Need-sin-cos-requires
+sin-cos-requires c κs = search needs
 
 look-requires : tie.Need-look-requires
 look-requires c κs = search needs
 
-find-dest-requires : tie.Need-find-dest-requires
-find-dest-requires c κs = search needs
+dest-from-requires : tie.Need-dest-from-requires
+dest-from-requires c κs = search needs
 
 enum-told : tie.Need-enum-told
 enum-told c = search needs
@@ -25,31 +29,32 @@ enum-known-d : tie.Need-enum-known-d
 enum-known-d c = search needs
 
 moved-requires : tie.Need-moved-requires
-moved-requires c κs = search needs
+moved-requires c κs = c .before .before .before .before .before .sin-cos .ensures
 
 returns : tie.Need-returns
 unfolding thenMoved stepOf
 returns c =
     let f = c .before .before in
-    let a = f .before .before .args in
-    ap (thenMoved (a .w) (f .before .look .result)) (sym (c .enum-told .given .1) ∙ f .find-dest .ensures)
+    let a = f .before .before .before .args in
+    ap (thenMoved (a .w) (f .before .look .result)) (sym (c .enum-told .given .1) ∙ f .dest-from .ensures)
     ∙ ap (λ (s : Sight). thenMoved (a .w) s (destOf (a .cs) (a .w .dest) (s .alpha))) (f .before .look .ensures)
 
 returns-2 : tie.Need-returns-2
 unfolding thenMoved stepOf
 returns-2 c =
     let f = c .before .before .before .before in
-    let a = f .before .before .args in
+    let a = f .before .before .before .args in
     c .moved .ensures
-    ∙ ap (thenMoved (a .w) (f .before .look .result)) (sym (c .before .before .d .given .1) ∙ f .find-dest .ensures)
+    ∙ ap (thenMoved (a .w) (f .before .look .result)) (sym (c .before .before .d .given .1) ∙ f .dest-from .ensures)
     ∙ ap (λ (s : Sight). thenMoved (a .w) s (destOf (a .cs) (a .w .dest) (s .alpha))) (f .before .look .ensures)
 
 pub step-spec : {M : Type 1} → statement M
 step-spec =
     tie.close
     (tie.spec
+    sin-cos-requires
     look-requires
-    find-dest-requires
+    dest-from-requires
     enum-told
     enum-known-d
     moved-requires
