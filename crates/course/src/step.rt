@@ -219,7 +219,8 @@ pub(crate) fn step(cs: [Checkpoint; 12], here: Checkpoint, w: Walk) -> Stepped
     requires { ⌜ here ≡ getD cs (w .dest) noCheckpoint ⌝ }
     ensures { λ r. ⌜ r ≡ stepOf cs w ⌝ }
 {
-    let h = trig::sin_cos(w.beta);
+    let t = trig::quarter_turns(w.beta);
+    let h = trig::turned(w.beta, t);
     let s = look(w);
     let d = finder::dest_from(cs, here, w.dest, s.alpha);
     match d {

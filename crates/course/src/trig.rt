@@ -49,7 +49,7 @@ pub enum Angle {
 }
 
 // A whole number as a float, and modulo 4.
-struct Turns {
+pub(crate) struct Turns {
     k: f64,
     quarter: u64,
 }
@@ -162,17 +162,18 @@ fn whole_below(v: f64) -> Turns
 }
 
 // The quarter turns in a.
-fn quarter_turns(a: f64) -> Turns
+pub(crate) fn quarter_turns(a: f64) -> Turns
     ensures { λ r. ⌜ r ≡ turnsAt (turnsOf a) ⌝ }
 {
     whole_below(a / HALF_PI + 0.5)
 }
 
-// Cosine and sine of a.
-pub(crate) fn sin_cos(a: f64) -> SinCos
+// Cosine and sine of a, from the quarter turns in it. It is short enough to be compiled in place, where both results stay in
+// registers.
+pub(crate) fn turned(a: f64, t: Turns) -> SinCos
+    requires { ⌜ t ≡ turnsAt (turnsOf a) ⌝ }
     ensures { λ r. ⌜ r ≡ sinCosOf a ⌝ }
 {
-    let t = quarter_turns(a);
     let r = a - t.k * HALF_PI;
     let s = sine_poly(r);
     let c = cosine_poly(r);
@@ -187,6 +188,13 @@ pub(crate) fn sin_cos(a: f64) -> SinCos
         return SinCos { cos: -c, sin: -s };
     }
     SinCos { cos: s, sin: -c }
+}
+
+// Cosine and sine of a.
+pub(crate) fn sin_cos(a: f64) -> SinCos
+    ensures { λ r. ⌜ r ≡ sinCosOf a ⌝ }
+{
+    turned(a, quarter_turns(a))
 }
 
 // The sine of a, |a| at most 16.
