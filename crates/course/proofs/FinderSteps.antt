@@ -1,10 +1,11 @@
 -- The search for the next checkpoint, a step of the code at a time. Assumes nothing.
-use mathlib.Core.Path.{_≡_, refl, sym, subst}
+use mathlib.Core.Path.{_≡_, refl, sym, ap, _∙_, subst}
 use mathlib.Core.Bool.{Bool, true, false, cond}
 use mathlib.Core.List.{List, [], _∷_, map}
 use Prim.Native.Nat.{ℕ, suc, _≤_, _<_, _+_, _-_}
 use native.Mathlib.Omega.{arith}
 use native.Mathlib.Numerals.{add-one}
+use lib.Dec.{lit≤}
 use lib.ListN.{length, drop, getD, List·getD-map, length-map, length-drop}
 use lib.Seq.{drop-cons}
 use lib.Ieee.{Float, nan, binary64, sub, le}
@@ -89,3 +90,10 @@ dest-at m l Refused h = tt
 pub dest-in : (l : List Checkpoint) (n : ℕ) (x : Float) → In-dest (length l) (destOf l n x)
 unfolding destOf
 dest-in l n x = dest-at (length l) l (nextOf l n x) (next-in l n x)
+
+-- the checkpoint at the place where the search starts, where alpha is not above its angle
+pub dest-here : (l : List Checkpoint) (i : ℕ) (a : Float) (c : Checkpoint) → i < length l → c ≡ getD l i noCheckpoint → le a (c .angle) ≡ true → To i a c ≡ destOf l i a
+unfolding destOf
+dest-here l i a c h e t =
+    let n : nextOf l i a ≡ At i a = next-is l i a ∙ searched-step 0 (map angleOf l) i a (lit≤ tt) ∙ scan-at (map angleOf l) i a nan _ (subst (λ (m : ℕ). i < m) (sym (length-map l angleOf)) h) (ap (le a) (angle-is l i ∙ ap angleOf (sym e)) ∙ t) in
+    ap (λ (x : Checkpoint). To i a x) e ∙ ap (destAt l) (sym n)

@@ -3,6 +3,7 @@ pub mod Signs
 pub mod Bounds
 pub mod Floor
 pub mod FloorOrder
+pub mod Wholes
 pub mod Turned
 pub mod Cells
 pub mod CellOrder

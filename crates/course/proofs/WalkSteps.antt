@@ -1,20 +1,31 @@
 -- The walk, one more step at a time. Assumes nothing.
 use Prim.Native.Nat.{ℕ, suc, _+_, _-_, _<_, _≤_}
 use native.Mathlib.Omega.{arith}
-use mathlib.Core.Path.{_≡_, refl, sym, ap, _∙_}
-use mathlib.Core.Bool.{Bool, true, false}
+use mathlib.Core.Path.{_≡_, refl, sym, ap, _∙_, subst}
+use mathlib.Core.Bool.{Bool, true, false, cond}
 use mathlib.Core.List.{List, [], _∷_, _++_, map, map-append, append-assoc, append-nil}
 use borrow.Author.Tests.{lt-ltb, le-ltb}
 use lib.ListN.{length, drop, set, length-map}
 use lib.Ieee.{Float}
-use Rattle.course.specs.Step.{stepOf}
+use Rattle.course.specs.Arithmetic.{natural}
+use Rattle.course.specs.Numeric.{within}
+use Rattle.course.specs.Finder.{destOf}
+use Rattle.course.specs.Step.{sightOf, turnOf, landedOf, thenLanded, movedOf, thenMoved, stepOf}
 use Rattle.course.specs.Track.{stepAlphas, stepBetas, stepXs, stepYs}
 use Rattle.course.specs.Walk.{Trail, follow, onward, walkFrom, walkStart, walkOf}
 use Rattle.course.specs.LaySteps.{Trod}
 use Rattle.course.specs.declared.checkpoints.Checkpoint.{Checkpoint}
+use Rattle.course.specs.declared.trig.SinCos.{SinCos}
+use Rattle.course.specs.declared.finder.Dest.{Dest}
+use Rattle.course.specs.declared.finder.Dest.the-variants.{To as Going, Refused as NotFound}
+use Rattle.course.specs.declared.step.Sight.{Sight}
+use Rattle.course.specs.declared.step.Turned.{Turned}
+use Rattle.course.specs.declared.step.Turned.the-variants.{To, Refused as TooFar}
+use Rattle.course.specs.declared.step.Stepped.{Stepped}
 use Rattle.course.specs.declared.step.Walk.{Walk}
 use Rattle.course.specs.declared.step.TrackStep.{TrackStep}
 use Rattle.course.specs.declared.step.Stepped.the-variants.{On, Refused}
+use Rattle.course.proofs.FinderSteps.{In-dest, dest-in}
 use Rattle.course.proofs.ColumnLaws.{Grown, grown-none, grown-more}
 use Rattle.course.proofs.Turns.{suc-pred}
 
@@ -71,12 +82,45 @@ pub over : (cs : List Checkpoint) (w : Walk) (n : ℕ) → n ≡ 0 → walkFrom 
 unfolding walkFrom
 over cs w n z = rw z
 
+-- ---- the checkpoint that a step makes for is one of the list's
+abbrev In-step : ℕ → Stepped → Type 0
+In-step m (On p v) = v .dest < m
+In-step m Refused = Unit {0}
+
+pick-in : (m : ℕ) (b : Bool) (r s : Stepped) → In-step m r → In-step m s → In-step m (cond b r s)
+pick-in m true r s h k = h
+pick-in m false r s h k = k
+
+module _ (m : ℕ) (w : Walk) (s : Sight) where
+  landed-in : (h : SinCos) (alpha : Float) (dest : ℕ) (prev beta : Float) → dest < m → In-step m (landedOf w s h alpha dest prev beta)
+  unfolding landedOf
+  landed-in h alpha dest prev beta d = pick-in m (within (natural 16) beta) (On _ _) Refused d tt
+
+  then-landed-in : (alpha : Float) (dest : ℕ) (c : Checkpoint) (t : Turned) → dest < m → In-step m (thenLanded w s alpha dest c t)
+  unfolding thenLanded
+  then-landed-in alpha dest c TooFar d = tt
+  then-landed-in alpha dest c (To b n) d = landed-in _ alpha dest b _ d
+
+  then-moved-in : (t : Dest) → In-dest m t → In-step m (thenMoved w s t)
+  unfolding thenMoved movedOf
+  then-moved-in NotFound d = tt
+  then-moved-in (Going dest alpha c) d = then-landed-in alpha dest c (turnOf (w .beta) alpha) d
+
+step-in : (cs : List Checkpoint) (w : Walk) → In-step (length cs) (stepOf cs w)
+unfolding stepOf
+step-in cs w = then-moved-in (length cs) w (sightOf w) (destOf cs (w .dest) (sightOf w .alpha)) (dest-in cs (w .dest) (sightOf w .alpha))
+
+near-next : (cs : List Checkpoint) (w : Walk) (p : TrackStep) (v : Walk) → length cs ≡ 12 → stepOf cs w ≡ On p v → v .dest < 12
+near-next cs w p v l e = subst (λ (m : ℕ). v .dest < m) l (subst (In-step (length cs)) e (step-in cs w))
+
 -- ---- the loop
 pub record Walking (cs : List Checkpoint) (a₀ b₀ x₀ y₀ a b x y : List Float) (w : Walk) (k : ℕ) : Type 0 where
   pub done : List TrackStep
   pub held : Held done a b x y a₀ b₀ x₀ y₀ k
   pub rest : walkOf cs ≡ follow done (walkFrom (2500 - k) cs w)
   pub slow : w .laps ≤ 4
+  pub twelve : length cs ≡ 12
+  pub near : w .dest < 12
   pub few : k ≤ 2500
   pub long-a : 2500 ≤ length a₀
   pub long-b : 2500 ≤ length b₀
@@ -98,13 +142,15 @@ trod cs a₀ b₀ x₀ y₀ a b x y k ok ps l h e =
     }
 
 module _ (cs : List Checkpoint) (a₀ b₀ x₀ y₀ : List Float) where
-  pub begun : (w : Walk) → w ≡ walkStart → 2500 ≤ length a₀ → 2500 ≤ length b₀ → 2500 ≤ length x₀ → 2500 ≤ length y₀ → Walking cs a₀ b₀ x₀ y₀ a₀ b₀ x₀ y₀ w 0
+  pub begun : (w : Walk) → w ≡ walkStart → length cs ≡ 12 → 2500 ≤ length a₀ → 2500 ≤ length b₀ → 2500 ≤ length x₀ → 2500 ≤ length y₀ → Walking cs a₀ b₀ x₀ y₀ a₀ b₀ x₀ y₀ w 0
   unfolding walkOf walkStart
-  begun w e la lb lx ly = record {
+  begun w e n la lb lx ly = record {
     done = [];
     held = record { alpha = grown-none a₀; beta = grown-none b₀; x = grown-none x₀; y = grown-none y₀ };
     rest = ap (λ (v : Walk). walkFrom 2500 cs v) (sym e) ∙ sym (puts-none (walkFrom 2500 cs w));
     slow = rw e (omega arith);
+    twelve = n;
+    near = rw e (omega arith);
     few = omega arith;
     long-a = la;
     long-b = lb;
@@ -148,6 +194,8 @@ module _ (cs : List Checkpoint) (a₀ b₀ x₀ y₀ : List Float) where
             rest = s .rest ∙ ap (follow (s .done)) (goes-on cs w (2500 - k) p v z e l) ∙ puts-more (s .done) p (walkFrom (2500 - k - 1) cs v)
                 ∙ ap (λ (n : ℕ). follow (s .done ++ (p ∷ [])) (walkFrom n cs v)) m;
             slow = l;
+            twelve = s .twelve;
+            near = near-next cs w p v (s .twelve) e;
             few = omega arith;
             long-a = s .long-a;
             long-b = s .long-b;

@@ -1,15 +1,20 @@
 -- Definitions that only private functions' contracts cite. Assumes nothing.
 use Prim.Native.Nat.{ℕ, _*_, _≤_}
-use lib.IntN.{ℤ}
+use lib.IntN.{ℤ, pos}
 use lib.Ieee.{Float, nan, inf, fin, up, down, binary64, ofInt}
 use Rattle.course.specs.Trig.{quarterOf}
 use Rattle.course.specs.declared.trig.Turns.{Turns}
+use Rattle.course.specs.declared.trig.Whole.{Whole}
 
 -- |x| ≤ n for a whole number n, over whole numbers
 abbrev pub Bounded : Float → ℕ → Type 0
 Bounded nan n = ⊥
 Bounded (inf s) n = ⊥
 Bounded (fin s m e) n = m * up e ≤ n * down e
+
+-- a whole number, and the same as a float
+unfoldable pub wholeAt : ℕ → Whole
+wholeAt n = record { n = n; f = ofInt binary64 (pos n) }
 
 -- a whole number as a float, and modulo 4
 unfoldable pub turnsAt : ℤ → Turns

@@ -1,7 +1,9 @@
 // The search for the next checkpoint (document 01, "Lay": `try_generate`). `find` reads the checkpoints as a lent list of
 // records; `find_in` lends it an array of them.
 ghost use mathlib.Core.Path.{_≡_};
-ghost use Rattle.course.specs.Finder.{nextOf, destOf};
+ghost use Prim.Native.Nat.{_<_};
+ghost use lib.ListN.{getD};
+ghost use Rattle.course.specs.Finder.{nextOf, noCheckpoint, destOf};
 use crate::checkpoints::Checkpoint;
 use crate::constants::TAU;
 
@@ -56,4 +58,17 @@ pub(crate) fn find_dest(cs: [Checkpoint; 12], from: usize, alpha: f64) -> Dest
         Found::At(i, a) => Dest::To(i, a, cs[i]),
         Found::Refused => Dest::Refused,
     }
+}
+
+// The same for a caller that has the checkpoint at place `from`: it stays while alpha is not above its angle, and the list
+// is not searched.
+pub(crate) fn dest_from(cs: [Checkpoint; 12], here: Checkpoint, from: usize, alpha: f64) -> Dest
+    requires { ⌜ from < 12 ⌝ }
+    requires { ⌜ here ≡ getD cs from noCheckpoint ⌝ }
+    ensures { λ r. ⌜ r ≡ destOf cs from alpha ⌝ }
+{
+    if alpha <= here.angle {
+        return Dest::To(from, alpha, here);
+    }
+    find_dest(cs, from, alpha)
 }

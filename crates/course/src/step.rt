@@ -1,6 +1,9 @@
 // One step of the walk round the checkpoints (document 01, "Lay": `try_generate`).
 ghost use mathlib.Core.Path.{_≡_};
-ghost use Prim.Native.Nat.{_≤_};
+ghost use Prim.Native.Nat.{_≤_, _<_};
+ghost use lib.ListN.{getD};
+ghost use Rattle.course.specs.Trig.{sinCosOf};
+ghost use Rattle.course.specs.Finder.{noCheckpoint};
 ghost use Rattle.course.specs.Step.{walkLap, lapsOf, sightOf, turnDown, turnUp, turnOf, steered, projOf, landedOf, movedOf, stepOf};
 use crate::checkpoints::Checkpoint;
 use crate::constants::PI;
@@ -196,29 +199,32 @@ fn landed(w: Walk, s: Sight, h: SinCos, alpha: f64, dest: usize, prev: f64, beta
     Stepped::Refused
 }
 
-// The step once its checkpoint c is found.
-fn moved(w: Walk, s: Sight, alpha: f64, dest: usize, c: Checkpoint) -> Stepped
+// The step once its checkpoint c is found; h is the heading.
+fn moved(w: Walk, h: SinCos, s: Sight, alpha: f64, dest: usize, c: Checkpoint) -> Stepped
+    requires { ⌜ h ≡ sinCosOf (w .beta) ⌝ }
     ensures { λ r. ⌜ r ≡ movedOf w s alpha dest c ⌝ }
 {
     let t = turn(w.beta, alpha);
     match t {
         Turned::Refused => Stepped::Refused,
-        Turned::To(b, _) => {
-            let h = trig::sin_cos(w.beta);
-            landed(w, s, h, alpha, dest, b, steer(b, proj(w, h, c.x, c.y)))
-        }
+        Turned::To(b, _) => landed(w, s, h, alpha, dest, b, steer(b, proj(w, h, c.x, c.y))),
     }
 }
 
-// A step of the walk. It refuses at a third pass over the checkpoints, a fifth turn of beta, and beta beyond ±16 at its end.
-pub(crate) fn step(cs: [Checkpoint; 12], w: Walk) -> Stepped
+// A step of the walk; `here` is the checkpoint that it makes for. It refuses at a third pass over the checkpoints, a fifth
+// turn of beta, and beta beyond ±16 at its end. The heading comes first: the next step waits for it, and not for the angle.
+pub(crate) fn step(cs: [Checkpoint; 12], here: Checkpoint, w: Walk) -> Stepped
     requires { ⌜ w .laps ≤ 4 ⌝ }
+    requires { ⌜ w .dest < 12 ⌝ }
+    requires { ⌜ here ≡ getD cs (w .dest) noCheckpoint ⌝ }
     ensures { λ r. ⌜ r ≡ stepOf cs w ⌝ }
 {
+    let t = trig::quarter_turns(w.beta);
+    let h = trig::turned(w.beta, t);
     let s = look(w);
-    let d = finder::find_dest(cs, w.dest, s.alpha);
+    let d = finder::dest_from(cs, here, w.dest, s.alpha);
     match d {
         Dest::Refused => Stepped::Refused,
-        Dest::To(i, a, c) => moved(w, s, a, i, c),
+        Dest::To(i, a, c) => moved(w, h, s, a, i, c),
     }
 }

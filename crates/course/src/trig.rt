@@ -1,10 +1,14 @@
 // The stand-ins for sine, cosine and atan2 (document 01, "Stand-ins"). The public calls refuse by
 // cause 8; what the course itself uses takes any float and is not public.
 ghost use mathlib.Core.Path.{_≡_};
+ghost use mathlib.Core.Bool.{true, false};
 ghost use Prim.Native.Nat.{_^_};
+ghost use lib.Dec.{T};
+ghost use lib.IntN.{pos};
+ghost use lib.Ieee.{fin, lt, toUnsigned};
 ghost use Rattle.course.specs.Trig.{sinePoly, cosinePoly, atanPoly, floor, wholeBelow, turnsOf, sinCosOf, arc, arcOf, ratioOf, steepOf, leftward, downward, directionOf, atan2Of};
 ghost use Rattle.course.specs.Angle.{sineCall, cosineCall, atan2Call};
-ghost use Rattle.course.specs.Steps.{Bounded, turnsAt};
+ghost use Rattle.course.specs.Steps.{Bounded, wholeAt, turnsAt};
 use crate::constants::HALF_PI;
 use crate::numeric;
 
@@ -45,9 +49,15 @@ pub enum Angle {
 }
 
 // A whole number as a float, and modulo 4.
-struct Turns {
+pub(crate) struct Turns {
     k: f64,
     quarter: u64,
+}
+
+// A whole number, and the same as a float.
+struct Whole {
+    n: u64,
+    f: f64,
 }
 
 pub(crate) struct SinCos {
@@ -86,22 +96,48 @@ fn atan_poly(w: f64) -> f64
     d * z + 1.0
 }
 
+// v cut to a whole number, v above -1 and below 2^64. The small ones are told by comparing: a processor foresees a comparison
+// and need not wait for v.
+fn whole_part(v: f64) -> Whole
+    requires { ⌜ T (lt (fin true 1 (pos 0)) v) × T (lt v (fin false 1 (pos 64))) ⌝ }
+    ensures { λ r. ⌜ r ≡ wholeAt (toUnsigned 64 v) ⌝ }
+{
+    if v >= 5.0 {
+        let n = std::num::truncating_f64_to_u64(v);
+        let f = std::num::nearest_u64_to_f64(n);
+        return Whole { n, f };
+    }
+    if v >= 4.0 {
+        return Whole { n: 4, f: 4.0 };
+    }
+    if v >= 3.0 {
+        return Whole { n: 3, f: 3.0 };
+    }
+    if v >= 2.0 {
+        return Whole { n: 2, f: 2.0 };
+    }
+    if v >= 1.0 {
+        return Whole { n: 1, f: 1.0 };
+    }
+    Whole { n: 0, f: 0.0 }
+}
+
 // The largest whole number not above v, |v| at most 2^52.
 fn near_whole(v: f64) -> Turns
     requires { ⌜ Bounded v (2 ^ 52) ⌝ }
     ensures { λ r. ⌜ r ≡ turnsAt (floor v) ⌝ }
 {
     if v >= 0.0 {
-        let n = std::num::truncating_f64_to_u64(v);
-        let f = std::num::nearest_u64_to_f64(n);
+        let w = whole_part(v);
         return Turns {
-            k: f,
-            quarter: n % 4,
+            k: w.f,
+            quarter: w.n % 4,
         };
     }
     let x = -v;
-    let n = std::num::truncating_f64_to_u64(x);
-    let f = std::num::nearest_u64_to_f64(n);
+    let w = whole_part(x);
+    let n = w.n;
+    let f = w.f;
     if f < x {
         let g = std::num::nearest_u64_to_f64(n + 1);
         return Turns {
@@ -126,17 +162,18 @@ fn whole_below(v: f64) -> Turns
 }
 
 // The quarter turns in a.
-fn quarter_turns(a: f64) -> Turns
+pub(crate) fn quarter_turns(a: f64) -> Turns
     ensures { λ r. ⌜ r ≡ turnsAt (turnsOf a) ⌝ }
 {
     whole_below(a / HALF_PI + 0.5)
 }
 
-// Cosine and sine of a.
-pub(crate) fn sin_cos(a: f64) -> SinCos
+// Cosine and sine of a, from the quarter turns in it. It is short enough to be compiled in place, where both results stay in
+// registers.
+pub(crate) fn turned(a: f64, t: Turns) -> SinCos
+    requires { ⌜ t ≡ turnsAt (turnsOf a) ⌝ }
     ensures { λ r. ⌜ r ≡ sinCosOf a ⌝ }
 {
-    let t = quarter_turns(a);
     let r = a - t.k * HALF_PI;
     let s = sine_poly(r);
     let c = cosine_poly(r);
@@ -151,6 +188,13 @@ pub(crate) fn sin_cos(a: f64) -> SinCos
         return SinCos { cos: -c, sin: -s };
     }
     SinCos { cos: s, sin: -c }
+}
+
+// Cosine and sine of a.
+pub(crate) fn sin_cos(a: f64) -> SinCos
+    ensures { λ r. ⌜ r ≡ sinCosOf a ⌝ }
+{
+    turned(a, quarter_turns(a))
 }
 
 // The sine of a, |a| at most 16.

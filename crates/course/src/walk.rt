@@ -48,7 +48,9 @@ pub(crate) fn walk_round(
     let mut w = start();
     let mut k: usize = 0;
     while k < MOST_POINTS {
-        let s = step::step(cs, w);
+        let at = w.dest;
+        let here = cs[at];
+        let s = step::step(cs, here, w);
         let Stepped::On(p, next) = s else {
             return Walked { n: k, ok: false };
         };

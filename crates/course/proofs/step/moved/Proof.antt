@@ -12,7 +12,6 @@ use Rattle.course.proofs.step.landed.Reads as landed-reads
 use Rattle.course.proofs.step.proj.Reads as proj-reads
 use Rattle.course.proofs.step.steer.Reads as steer-reads
 use Rattle.course.proofs.step.turn.Reads as turn-reads
-use Rattle.course.proofs.trig.sin_cos.Reads as sin-cos-reads
 
 turn-requires : tie.Need-turn-requires
 turn-requires c κs = search needs
@@ -22,9 +21,6 @@ enum-told c = search needs
 
 enum-known-t : tie.Need-enum-known-t
 enum-known-t c = search needs
-
-sin-cos-requires : tie.Need-sin-cos-requires
-sin-cos-requires c κs = search needs
 
 proj-requires : tie.Need-proj-requires
 proj-requires c κs = search needs
@@ -44,13 +40,12 @@ returns c =
 returns-2 : tie.Need-returns-2
 unfolding thenLanded movedOf
 returns-2 c =
-    let k = c .before .before .before .before .before in
+    let k = c .before .before .before .before in
     let a = k .before .before .before .args in
     let b : Float = k .t .given .0 .0 in
-    let h = c .before .before .before .sin-cos in
     c .landed .ensures
-    ∙ ap (λ (z : Float). landedOf (a .w) (a .s) (h .result) (a .alpha) (a .dest) b z) (c .before .steer .ensures ∙ ap (λ (z : Float). steered b z) (c .before .before .proj .ensures))
-    ∙ ap (λ (z : SinCos). landedOf (a .w) (a .s) z (a .alpha) (a .dest) b (steered b (projOf (a .w) z (a .c .x) (a .c .y)))) (h .ensures)
+    ∙ ap (λ (z : Float). landedOf (a .w) (a .s) (a .h) (a .alpha) (a .dest) b z) (c .before .steer .ensures ∙ ap (λ (z : Float). steered b z) (c .before .before .proj .ensures))
+    ∙ ap (λ (z : SinCos). landedOf (a .w) (a .s) z (a .alpha) (a .dest) b (steered b (projOf (a .w) z (a .c .x) (a .c .y)))) (k .before .before .before .pre)
     ∙ ap (thenLanded (a .w) (a .s) (a .alpha) (a .dest) (a .c)) (sym (k .t .given .1) ∙ k .before .before .turn .ensures)
 
 pub moved-spec : {M : Type 1} → statement M
@@ -60,7 +55,6 @@ moved-spec =
     turn-requires
     enum-told
     enum-known-t
-    sin-cos-requires
     proj-requires
     steer-requires
     landed-requires

@@ -8,15 +8,23 @@ use Rattle.course.proofs.step.step.Statement.{statement}
 use Rattle.course.proofs.step.step.Tie as tie
 use Rattle.course.proofs.step.step.Reads as reads
 use Rattle.course.proofs.step.step.Lts as lts
-use Rattle.course.proofs.finder.find_dest.Reads as find-dest-reads
+use Rattle.course.proofs.finder.dest_from.Reads as dest-from-reads
 use Rattle.course.proofs.step.look.Reads as look-reads
+use Rattle.course.proofs.trig.quarter_turns.Reads as quarter-turns-reads
+use Rattle.course.proofs.trig.turned.Reads as turned-reads
 use Rattle.course.proofs.step.moved.Reads as moved-reads
+
+quarter-turns-requires : tie.Need-quarter-turns-requires
+quarter-turns-requires c κs = search needs
+
+turned-requires : tie.Need-turned-requires
+turned-requires c κs = c .quarter-turns .ensures
 
 look-requires : tie.Need-look-requires
 look-requires c κs = search needs
 
-find-dest-requires : tie.Need-find-dest-requires
-find-dest-requires c κs = search needs
+dest-from-requires : tie.Need-dest-from-requires
+dest-from-requires c κs = search needs
 
 enum-told : tie.Need-enum-told
 enum-told c = search needs
@@ -25,31 +33,33 @@ enum-known-d : tie.Need-enum-known-d
 enum-known-d c = search needs
 
 moved-requires : tie.Need-moved-requires
-moved-requires c κs = search needs
+moved-requires c κs = c .before .before .before .before .before .turned .ensures
 
 returns : tie.Need-returns
 unfolding thenMoved stepOf
 returns c =
     let f = c .before .before in
-    let a = f .before .before .args in
-    ap (thenMoved (a .w) (f .before .look .result)) (sym (c .enum-told .given .1) ∙ f .find-dest .ensures)
+    let a = f .before .before .before .before .args in
+    ap (thenMoved (a .w) (f .before .look .result)) (sym (c .enum-told .given .1) ∙ f .dest-from .ensures)
     ∙ ap (λ (s : Sight). thenMoved (a .w) s (destOf (a .cs) (a .w .dest) (s .alpha))) (f .before .look .ensures)
 
 returns-2 : tie.Need-returns-2
 unfolding thenMoved stepOf
 returns-2 c =
     let f = c .before .before .before .before in
-    let a = f .before .before .args in
+    let a = f .before .before .before .before .args in
     c .moved .ensures
-    ∙ ap (thenMoved (a .w) (f .before .look .result)) (sym (c .before .before .d .given .1) ∙ f .find-dest .ensures)
+    ∙ ap (thenMoved (a .w) (f .before .look .result)) (sym (c .before .before .d .given .1) ∙ f .dest-from .ensures)
     ∙ ap (λ (s : Sight). thenMoved (a .w) s (destOf (a .cs) (a .w .dest) (s .alpha))) (f .before .look .ensures)
 
 pub step-spec : {M : Type 1} → statement M
 step-spec =
     tie.close
     (tie.spec
+    quarter-turns-requires
+    turned-requires
     look-requires
-    find-dest-requires
+    dest-from-requires
     enum-told
     enum-known-d
     moved-requires

@@ -1,7 +1,8 @@
 -- `course::walk::walk_round` meets its contract. Assumes nothing.
 use borrow.Author.Needs.{needs}
-use mathlib.Core.Path.{sym, _∙_}
+use mathlib.Core.Path.{refl, sym, _∙_}
 use Prim.Native.Nat.{_-_}
+use native.Mathlib.Omega.{arith}
 use Rattle.course.proofs.WalkSteps.{Walking, begun, walked-full, walked-refused, walked-end, walked-on}
 use Rattle.course.proofs.walk.walk_round.Statement.{statement}
 use Rattle.course.proofs.walk.walk_round.Tie as tie
@@ -11,19 +12,25 @@ use Rattle.course.proofs.step.step.Reads as step-reads
 use Rattle.course.proofs.walk.start.Reads as start-reads
 
 abbrev Inv-loop : tie.InvT-loop
-Inv-loop cs alpha₀ beta₀ x₀ y₀ w₀ k₀ alpha beta x y w k = Walking cs alpha₀ beta₀ x₀ y₀ alpha beta x y w k
+Inv-loop alpha₀ beta₀ x₀ y₀ cs w₀ k₀ alpha beta x y w k = Walking cs alpha₀ beta₀ x₀ y₀ alpha beta x y w k
 
 abbrev μ-loop : tie.MeasureT-loop
-μ-loop cs alpha₀ beta₀ x₀ y₀ w₀ k₀ alpha beta x y w k = 2500 - k
+μ-loop alpha₀ beta₀ x₀ y₀ cs w₀ k₀ alpha beta x y w k = 2500 - k
 
 start-requires : tie.Need-start-requires Inv-loop μ-loop
 start-requires c κs = search needs
 
 loop-holds : tie.Need-loop-holds Inv-loop μ-loop
-loop-holds c = let q = c .before .before .before .before .before .pre in begun _ _ _ _ _ _ (c .start .ensures) (q .0) (q .1 .0) (q .1 .1 .0) (q .1 .1 .1)
+loop-holds c = let s = c .before .before .before .before .before in let q = s .pre in begun _ _ _ _ _ _ (c .start .ensures) (s .good .0 .1 .0 .1) (q .0) (q .1 .0) (q .1 .1 .0) (q .1 .1 .1)
+
+mul-here : tie.Need-mul-here Inv-loop μ-loop
+mul-here c = let h = c .before .loop .inv .near in omega arith
+
+array-copy-out-here : tie.Need-array-copy-out-here Inv-loop μ-loop
+array-copy-out-here c = c .before .loop .inv .near
 
 step-requires : tie.Need-step-requires Inv-loop μ-loop
-step-requires c κs = c .before .loop .inv .slow
+step-requires c κs = let s = c .before .before .loop .inv in (s .slow, (s .near, refl))
 
 enum-known-s : tie.Need-enum-known-s Inv-loop μ-loop
 enum-known-s c = search needs
@@ -46,7 +53,7 @@ same-length-4 c = search needs
 returns : tie.Need-returns Inv-loop μ-loop
 returns c =
     let s = c .before .before in
-    walked-refused _ _ _ _ _ _ _ _ _ _ _ (s .before .before .loop .inv) (s .before .loop-test .taken) (sym (s .step .ensures) ∙ c .enum-told .given .1)
+    walked-refused _ _ _ _ _ _ _ _ _ _ _ (s .before .before .before .loop .inv) (s .before .before .loop-test .taken) (sym (s .step .ensures) ∙ c .enum-told .given .1)
 
 mul-alpha : tie.Need-mul-alpha Inv-loop μ-loop
 mul-alpha c = search needs
@@ -91,7 +98,7 @@ returns-2 : tie.Need-returns-2 Inv-loop μ-loop
 returns-2 c =
     let u = c .before .before .before in
     let s = u .before .before in
-    walked-end _ _ _ _ _ _ _ _ _ _ _ (s .before .before .loop .inv) _ _ (s .before .loop-test .taken) (sym (s .step .ensures) ∙ u .s .given .1) (c .if1 .taken)
+    walked-end _ _ _ _ _ _ _ _ _ _ _ (s .before .before .before .loop .inv) _ _ (s .before .before .loop-test .taken) (sym (s .step .ensures) ∙ u .s .given .1) (c .if1 .taken)
 
 loop-less : tie.Need-loop-less Inv-loop μ-loop
 loop-less c = search needs
@@ -100,7 +107,7 @@ loop-again : tie.Need-loop-again Inv-loop μ-loop
 loop-again c =
     let u = c .before .before .before in
     let s = u .before .before in
-    walked-on _ _ _ _ _ _ _ _ _ _ _ (s .before .before .loop .inv) _ _ (s .before .loop-test .taken) (sym (s .step .ensures) ∙ u .s .given .1) (c .if1 .left)
+    walked-on _ _ _ _ _ _ _ _ _ _ _ (s .before .before .before .loop .inv) _ _ (s .before .before .loop-test .taken) (sym (s .step .ensures) ∙ u .s .given .1) (c .if1 .left)
 
 same-length-9 : tie.Need-same-length-9 Inv-loop μ-loop
 same-length-9 c = search needs
@@ -125,6 +132,8 @@ walk-round-spec =
     μ-loop
     start-requires
     loop-holds
+    mul-here
+    array-copy-out-here
     step-requires
     enum-known-s
     enum-told
