@@ -118,11 +118,29 @@ pub extern "C" fn grader_settle(
 ) -> FlatSettled
     ensures { λ r. ⌜ r ≡ flatSettled (settleOf fullWords mostTiles (view run) (columns (now (tiles .entry)) (now (offsets .entry)) (now (list .entry))) x y (poses .wheels)) ⌝ }
 {
-    let wheels = poses.wheels;
-    let s = settle::settle(run, tiles, offsets, list, x, y, wheels);
-    let answer = s.answer;
-    let after = s.run;
+    let given = poses.wheels;
+    let mut credited = run.credited;
+    let mut wheels = run.wheels;
+    let core = run.core;
+    let c = settle::settle_in_place(
+        core,
+        &mut credited,
+        &mut wheels,
+        tiles,
+        offsets,
+        list,
+        x,
+        y,
+        given,
+    );
+    let answer = c.answer;
     let f = flat::settle(answer);
+    let next = settle::settle_changed(core, c);
+    let after = Run {
+        core: next,
+        credited,
+        wheels,
+    };
     FlatSettled {
         cause: f.cause,
         new_tiles: f.new_tiles,

@@ -3,6 +3,7 @@ pub mod CreditLaws
 pub mod TouchLaws
 pub mod ContactLaws
 pub mod CallLaws
+pub mod InPlaceLaws
 pub mod Literals
 pub mod SmallForces
 pub mod PassLaws
