@@ -31,7 +31,12 @@ settle-changed-requires : tie.Need-settle-changed-requires
 settle-changed-requires c κs = search needs
 
 returns : tie.Need-returns
-returns c = ?
+unfolding view
+returns c =
+    let s = c .before .before .before .before .before .before .before .before .before .before .before .before .before .before in
+    let cl : length (s .args .run .credited) ≡ fullWords = search needs in
+    let wl : length (s .args .run .wheels) ≡ 4 * fullWords = search needs in
+    settled-whole _ _ _ _ (c .before .settle .ensures) (settled-from _ _ _ _ _ _ _ _ _ _ _ cl wl (c .before .before .before .before .settle-in-place .ensures) (c .settle-changed .ensures))
 
 pub grader-settle-spec : {M : Type 1} → statement M
 grader-settle-spec =
