@@ -10,6 +10,7 @@ pub mod PassLaws
 pub mod Tests
 pub mod AnyLaws
 pub mod DriveLaws
+pub mod RoadLaws
 pub mod Examples
 pub mod SheetLaws
 pub mod BelowLaws

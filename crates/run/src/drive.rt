@@ -17,7 +17,6 @@ use crate::state::Run;
 use crate::state::WheelCtl;
 use crate::widths::FULL_WORDS;
 use crate::widths::MOST_TILES;
-use crate::words;
 use course::numeric;
 
 // How a drive is answered: with forces, or refused by a cause's number.
@@ -212,13 +211,20 @@ pub(crate) fn core_drive(
     }
 }
 
-// Whether wheel w touched a tile at the last contact, by sets of `words` words to a wheel.
+// Whether wheel w touched a tile at the last contact, by sets of `words` words to a wheel. It reads every word: a loop of
+// known length the compiler unrolls, reading several words at a time and from where the caller's state stands.
 fn on_road(wheels: &[u64], words: usize, w: usize) -> bool
     requires { do ⌜ w * words + words ≤ (← ⟦wheels.len()⟧) ⌝ }
     ensures { λ r. ⌜ r ≡ onRoad words (now (wheels .entry)) w ⌝ }
 {
     let from = w * words;
-    words::any(&wheels[from..from + words])
+    let mut any = false;
+    let mut i: usize = 0;
+    while i < words {
+        any = any | (wheels[from + i] != 0);
+        i += 1;
+    }
+    any
 }
 
 // Which wheels touched a tile at the last contact.
