@@ -19,6 +19,7 @@ use crate::flat::FlatStarted;
 use crate::flat::Motions;
 use crate::flat::Poses;
 use run::drive;
+use run::dynamics::Force;
 use run::replay;
 use run::reward;
 use run::reward::Weights;
@@ -75,16 +76,33 @@ pub extern "C" fn grader_start(
 pub extern "C" fn grader_drive(run: Run, action: u32, motions: Motions) -> FlatDriven
     ensures { λ r. ⌜ r ≡ flatDriven (driveOf fullWords mostTiles run action (motions .wheels)) ⌝ }
 {
-    let wheels = motions.wheels;
-    let d = drive::drive(run, action, wheels);
-    let answer = d.answer;
-    let forces = d.forces;
-    let after = d.run;
-    FlatDriven {
+    let given = motions.wheels;
+    let c = drive::drive_change(run, action, given);
+    let answer = c.answer;
+    let forces = c.forces;
+    let core = run.core;
+    let next = drive::changed_core(core, c);
+    let credited = run.credited;
+    let wheels = run.wheels;
+    let after = Run {
+        core: next,
+        credited,
+        wheels,
+    };
+    let z = Force {
+        motor: 0.0,
+        fx: 0.0,
+        fy: 0.0,
+    };
+    let mut driven = FlatDriven {
         cause: flat::drive_cause(answer),
-        forces,
+        forces: [z, z, z, z],
         run: after,
-    }
+    };
+    // Over numbers that are set one by one the compiler moves the forces number by number, else as bytes from the
+    // cause on, across the numbers just stored.
+    driven.forces = forces;
+    driven
 }
 
 // The contact after physics; the state as it was where it is refused.
@@ -100,11 +118,29 @@ pub extern "C" fn grader_settle(
 ) -> FlatSettled
     ensures { λ r. ⌜ r ≡ flatSettled (settleOf fullWords mostTiles (view run) (columns (now (tiles .entry)) (now (offsets .entry)) (now (list .entry))) x y (poses .wheels)) ⌝ }
 {
-    let wheels = poses.wheels;
-    let s = settle::settle(run, tiles, offsets, list, x, y, wheels);
-    let answer = s.answer;
-    let after = s.run;
+    let given = poses.wheels;
+    let mut credited = run.credited;
+    let mut wheels = run.wheels;
+    let core = run.core;
+    let c = settle::settle_in_place(
+        core,
+        &mut credited,
+        &mut wheels,
+        tiles,
+        offsets,
+        list,
+        x,
+        y,
+        given,
+    );
+    let answer = c.answer;
     let f = flat::settle(answer);
+    let next = settle::settle_changed(core, c);
+    let after = Run {
+        core: next,
+        credited,
+        wheels,
+    };
     FlatSettled {
         cause: f.cause,
         new_tiles: f.new_tiles,

@@ -3,13 +3,16 @@
 use mathlib.Core.Path.{_≡_, refl, sym, ap, _∙_}
 use mathlib.Core.List.{List}
 use Prim.Native.Nat.{ℕ, zero, suc}
-use Rattle.run.specs.Drive.{driveCause, driveAt, drivenOf, coreDriveOf, driveOf, driveCauseOf}
+use Rattle.run.specs.Drive.{driveCause, driveAt, drivenOf, coreDriveOf, changeOf, changedBy, driveOf, driveCauseOf}
+use Rattle.run.specs.Grip.{roadsOf}
 use Rattle.run.specs.Pass.{noForces}
 use Rattle.run.specs.declared.state.Core.{Core}
 use Rattle.run.specs.declared.state.Run.{Run}
 use Rattle.run.specs.declared.dynamics.Motion.{Motion}
 use Rattle.run.specs.declared.drive.Passed.{Passed}
 use Rattle.run.specs.declared.drive.CoreDrove.{CoreDrove}
+use Rattle.run.specs.declared.drive.Change.{Change}
+use Rattle.run.specs.declared.drive.Drove.{Drove}
 use Rattle.run.specs.declared.drive.DriveAnswer.the-variants.{Refused}
 
 -- ---- by the cause's number
@@ -48,6 +51,10 @@ unfolding driveAt drivenOf
 turned-at zero s p = refl
 turned-at (suc k) s p = refl
 
+-- the call put together from what it changes, around the core with the change made
+abbrev pub droveFrom : Run → Core → Change → Drove
+droveFrom run s c = record { answer = c .answer; forces = c .forces; run = record { core = s; credited = run .credited; wheels = run .wheels } }
+
 -- ---- the call
 
 module _ (m most : ℕ) (run : Run) (action : ℕ) (ms : List Motion) where
@@ -69,3 +76,13 @@ module _ (m most : ℕ) (run : Run) (action : ℕ) (ms : List Motion) where
     where
       keep : Core → Run
       keep s = record { core = s; credited = run .credited; wheels = run .wheels }
+
+  whole : droveFrom run (changedBy (run .core) (changeOf (coreDriveOf most (run .core) action ms (roadsOf m (run .wheels))))) (changeOf (coreDriveOf most (run .core) action ms (roadsOf m (run .wheels)))) ≡ driveOf m most run action ms
+  unfolding changeOf changedBy driveOf coreDriveOf
+  whole = ap (λ (s : Core). droveFrom run s (changeOf (coreDriveOf most (run .core) action ms (roadsOf m (run .wheels))))) (sym (turned-at _ _ _))
+
+  pub drove-from : (s : Core) (c : Change)
+      → s ≡ changedBy (run .core) c
+      → c ≡ changeOf (coreDriveOf most (run .core) action ms (roadsOf m (run .wheels)))
+      → droveFrom run s c ≡ driveOf m most run action ms
+  drove-from s c p e = ap (λ (t : Core). droveFrom run t c) p ∙ ap (λ (z : Change). droveFrom run (changedBy (run .core) z) z) e ∙ whole

@@ -3,12 +3,14 @@ pub mod CreditLaws
 pub mod TouchLaws
 pub mod ContactLaws
 pub mod CallLaws
+pub mod InPlaceLaws
 pub mod Literals
 pub mod SmallForces
 pub mod PassLaws
 pub mod Tests
 pub mod AnyLaws
 pub mod DriveLaws
+pub mod RoadLaws
 pub mod Examples
 pub mod SheetLaws
 pub mod BelowLaws

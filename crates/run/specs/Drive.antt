@@ -12,6 +12,7 @@ use Rattle.run.specs.declared.state.Run.{Run}
 use Rattle.run.specs.declared.dynamics.Motion.{Motion}
 use Rattle.run.specs.declared.drive.Passed.{Passed}
 use Rattle.run.specs.declared.drive.CoreDrove.{CoreDrove}
+use Rattle.run.specs.declared.drive.Change.{Change}
 use Rattle.run.specs.declared.drive.Drove.{Drove}
 use Rattle.run.specs.declared.drive.DriveAnswer.{DriveAnswer}
 use Rattle.run.specs.declared.drive.DriveAnswer.the-variants.{Forces, Refused}
@@ -61,6 +62,28 @@ unfoldable pub driveOf : ℕ → ℕ → Run → ℕ → List Motion → Drove
 driveOf m most run action ms =
     let d = coreDriveOf most (run .core) action ms (roadsOf m (run .wheels)) in
     record { answer = d .answer; forces = d .forces; run = record { core = d .core; credited = run .credited; wheels = run .wheels } }
+
+-- ---- the call by what it changes
+
+unfoldable pub changeOf : CoreDrove → Change
+changeOf d = record { answer = d .answer; forces = d .forces; ctl = d .core .ctl; «fuel_spent» = d .core .«fuel_spent»; driven = d .core .driven }
+
+-- the state with the change made, but for the bit sets
+unfoldable pub changedBy : Core → Change → Core
+changedBy s c =
+    record {
+      n = s .n;
+      «visited_count» = s .«visited_count»;
+      tick = s .tick;
+      «tick_limit» = s .«tick_limit»;
+      «lap_share» = s .«lap_share»;
+      lap = s .lap;
+      ended = s .ended;
+      fallback = s .fallback;
+      driven = c .driven;
+      ctl = c .ctl;
+      «fuel_spent» = c .«fuel_spent»;
+    }
 
 -- ---- number and values of each case of the answer: the forces beside it, 0 where it is refused
 

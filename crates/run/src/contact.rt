@@ -96,45 +96,31 @@ pub(crate) fn contact_pass(
     Contact { fresh, zero }
 }
 
-// The same over the full state's sets by value.
-pub(crate) struct FullContact {
-    pub credited: [u64; FULL_WORDS],
-    pub wheels: [u64; WHEEL_WORDS],
-    pub fresh: u32,
-    pub zero: bool,
-}
-
+// The same on the full state's sets. The parts are lent by their known length, which the compiler takes into the loops.
 pub(crate) fn full_contact(
     poses: [Pose; 4],
     tiles: &[f64],
     offsets: &[u32],
     list: &[u32],
     n: usize,
-    credited: [u64; FULL_WORDS],
-    wheels: [u64; WHEEL_WORDS],
-) -> FullContact
+    credited: &mut [u64],
+    wheels: &mut [u64],
+) -> Contact
+    requires { ⌜ (length (now credited) ≡ fullWords) × (length (now wheels) ≡ 4 * fullWords) ⌝ }
     requires { ⌜ (0 < n) × (n ≤ mostTiles) × (n * 8 ≤ length (now tiles)) × (soundPoses (now offsets) (now list) n poses ≡ true) ⌝ }
-    ensures { λ r. ⌜ contacted (r .credited) (r .wheels) (r .fresh) (r .zero) ≡ contactOf fullWords credited wheels (λ w. touchedBy (now (tiles .entry)) (now (offsets .entry)) (now (list .entry)) (quadOf poses w)) ⌝ }
+    ensures { λ r. ⌜ contacted (now (credited .exit)) (now (wheels .exit)) (r .fresh) (r .zero) ≡ contactOf fullWords (now (credited .entry)) (now (wheels .entry)) (λ w. touchedBy (now (tiles .entry)) (now (offsets .entry)) (now (list .entry)) (quadOf poses w)) ⌝ }
 {
-    let mut next = credited;
-    let mut sets = wheels;
     let mut tested = [0u64; FULL_WORDS];
     let mut touched = [0u64; FULL_WORDS];
-    let c = contact_pass(
+    contact_pass(
         poses,
         tiles,
         offsets,
         list,
         n,
-        &mut next,
-        &mut sets,
+        &mut credited[..FULL_WORDS],
+        &mut wheels[..WHEEL_WORDS],
         &mut tested,
         &mut touched,
-    );
-    FullContact {
-        credited: next,
-        wheels: sets,
-        fresh: c.fresh,
-        zero: c.zero,
-    }
+    )
 }

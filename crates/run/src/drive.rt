@@ -4,7 +4,7 @@ ghost use Prim.Native.Nat.{_+_, _*_, _≤_};
 ghost use lib.ListN.{length};
 ghost use Rattle.run.specs.Widths.{fullWords, mostTiles};
 ghost use Rattle.run.specs.Grip.{onRoad, roadsOf};
-ghost use Rattle.run.specs.Drive.{driveCause, coreDriveOf, driveOf};
+ghost use Rattle.run.specs.Drive.{driveCause, coreDriveOf, changeOf, changedBy, driveOf};
 ghost use Rattle.run.specs.Pass.{indicator, frontOf, rearOf, passOf};
 ghost use Rattle.run.specs.Arguments.{motionOk, motionsOk};
 ghost use Rattle.run.specs.DriveSteps.{controlOf};
@@ -17,7 +17,6 @@ use crate::state::Run;
 use crate::state::WheelCtl;
 use crate::widths::FULL_WORDS;
 use crate::widths::MOST_TILES;
-use crate::words;
 use course::numeric;
 
 // How a drive is answered: with forces, or refused by a cause's number.
@@ -38,6 +37,15 @@ pub(crate) struct CoreDrove {
     pub answer: DriveAnswer,
     pub forces: [Force; 4],
     pub core: Core,
+}
+
+// The answer, the forces, and what a drive changes of the state.
+pub struct Change {
+    pub answer: DriveAnswer,
+    pub forces: [Force; 4],
+    pub ctl: [WheelCtl; 4],
+    pub fuel_spent: f64,
+    pub driven: bool,
 }
 
 // What the pass over the wheels leaves.
@@ -203,13 +211,20 @@ pub(crate) fn core_drive(
     }
 }
 
-// Whether wheel w touched a tile at the last contact, by sets of `words` words to a wheel.
+// Whether wheel w touched a tile at the last contact, by sets of `words` words to a wheel. It reads every word: a loop of
+// known length the compiler unrolls, reading several words at a time and from where the caller's state stands.
 fn on_road(wheels: &[u64], words: usize, w: usize) -> bool
     requires { do ⌜ w * words + words ≤ (← ⟦wheels.len()⟧) ⌝ }
     ensures { λ r. ⌜ r ≡ onRoad words (now (wheels .entry)) w ⌝ }
 {
     let from = w * words;
-    words::any(&wheels[from..from + words])
+    let mut any = false;
+    let mut i: usize = 0;
+    while i < words {
+        any = any | (wheels[from + i] != 0);
+        i += 1;
+    }
+    any
 }
 
 // Which wheels touched a tile at the last contact.
@@ -224,18 +239,51 @@ pub(crate) fn roads_of(wheels: &[u64], words: usize) -> [bool; 4]
     [a, b, c, d]
 }
 
-// Forces for the host, or the number of a cause and the state as it was.
-pub fn drive(run: Run, action: u32, motion: [Motion; 4]) -> Drove
-    ensures { λ r. ⌜ r ≡ driveOf fullWords mostTiles run action motion ⌝ }
+// What a drive changes. The sets stay out of it, so a caller who puts the state together moves them once.
+pub fn drive_change(run: Run, action: u32, motion: [Motion; 4]) -> Change
+    ensures { λ r. ⌜ r ≡ changeOf (coreDriveOf mostTiles (run .core) action motion (roadsOf fullWords (run .wheels))) ⌝ }
 {
-    let credited = run.credited;
     let wheels = run.wheels;
     let roads = roads_of(&wheels, FULL_WORDS);
     let core = run.core;
     let d = core_drive(MOST_TILES, core, action, motion, roads);
     let answer = d.answer;
     let forces = d.forces;
-    let next = d.core;
+    let after = d.core;
+    let ctl = after.ctl;
+    Change {
+        answer,
+        forces,
+        ctl,
+        fuel_spent: after.fuel_spent,
+        driven: after.driven,
+    }
+}
+
+// The state but for the bit sets, with the change made. Stored number by number, it lets the compiler write each part
+// of the state to its place, where a whole struct would be put together first.
+pub fn changed_core(s: Core, c: Change) -> Core
+    ensures { λ r. ⌜ r ≡ changedBy s c ⌝ }
+{
+    let ctl = c.ctl;
+    let mut next = s;
+    next.ctl = ctl;
+    next.fuel_spent = c.fuel_spent;
+    next.driven = c.driven;
+    next
+}
+
+// Forces for the host, or the number of a cause and the state as it was.
+pub fn drive(run: Run, action: u32, motion: [Motion; 4]) -> Drove
+    ensures { λ r. ⌜ r ≡ driveOf fullWords mostTiles run action motion ⌝ }
+{
+    let c = drive_change(run, action, motion);
+    let answer = c.answer;
+    let forces = c.forces;
+    let core = run.core;
+    let next = changed_core(core, c);
+    let credited = run.credited;
+    let wheels = run.wheels;
     let after = Run {
         core: next,
         credited,

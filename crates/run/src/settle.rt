@@ -2,8 +2,9 @@
 ghost use mathlib.Core.Path.{_≡_};
 ghost use Prim.Native.Nat.{_+_, _<_};
 ghost use Rattle.run.specs.Widths.{fullWords, mostTiles};
-ghost use Rattle.run.specs.State.{view, columns};
-ghost use Rattle.run.specs.Settle.{settleCause, settledCore, done, settleOf};
+ghost use lib.ListN.{length};
+ghost use Rattle.run.specs.State.{stateOf, view, columns, fullSets};
+ghost use Rattle.run.specs.Settle.{settleCause, settledCore, settleChangeOf, settleChanged, setsSettled, settleSetsOf, done, settleOf};
 use crate::contact;
 use crate::lap;
 use crate::state;
@@ -11,7 +12,9 @@ use crate::state::Core;
 use crate::state::Pose;
 use crate::state::Run;
 use crate::touch;
+use crate::widths::FULL_WORDS;
 use crate::widths::MOST_TILES;
+use crate::widths::WHEEL_WORDS;
 
 // New tiles, n, off, lap, ended; or the number of the cause.
 pub enum SettleAnswer {
@@ -23,6 +26,16 @@ pub enum SettleAnswer {
 pub struct Settlement {
     pub answer: SettleAnswer,
     pub run: Run,
+}
+
+// The answer, and what a settle changes of the state beside the bit sets.
+pub struct SettleChange {
+    pub answer: SettleAnswer,
+    pub visited_count: u32,
+    pub tick: u32,
+    pub lap: bool,
+    pub ended: bool,
+    pub driven: bool,
 }
 
 // The first of the causes 4, 5, 6, 2, 8 and 10 that holds, else 0; n is at most `most`.
@@ -75,6 +88,79 @@ fn settled_core(s: Core, fresh: u32, zero: bool, off: bool) -> Core
     next
 }
 
+// An answer beside the changing parts of the state that it leaves.
+fn settle_change(answer: SettleAnswer, s: Core) -> SettleChange
+    ensures { λ r. ⌜ r ≡ settleChangeOf answer s ⌝ }
+{
+    SettleChange {
+        answer,
+        visited_count: s.visited_count,
+        tick: s.tick,
+        lap: s.lap,
+        ended: s.ended,
+        driven: s.driven,
+    }
+}
+
+// The state but for the bit sets, with the change made.
+pub fn settle_changed(s: Core, c: SettleChange) -> Core
+    ensures { λ r. ⌜ r ≡ settleChanged s c ⌝ }
+{
+    let mut next = s;
+    next.visited_count = c.visited_count;
+    next.tick = c.tick;
+    next.lap = c.lap;
+    next.ended = c.ended;
+    next.driven = c.driven;
+    next
+}
+
+// The sets have the full state's widths.
+fn are_full(credited: usize, wheels: usize) -> bool
+    ensures { λ r. ⌜ r ≡ fullSets fullWords credited wheels ⌝ }
+{
+    (credited == FULL_WORDS) & (wheels == WHEEL_WORDS)
+}
+
+// The call in place, so that a caller who puts the state together moves the sets once in and once out: a refusal
+// leaves them, and sets of other widths are no run's (cause 4).
+pub fn settle_in_place(
+    core: Core,
+    credited: &mut [u64],
+    wheels: &mut [u64],
+    tiles: &[f64],
+    offsets: &[u32],
+    list: &[u32],
+    x: f64,
+    y: f64,
+    poses: [Pose; 4],
+) -> SettleChange
+    ensures { λ r. ⌜ setsSettled r (now (credited .exit)) (now (wheels .exit)) ≡ settleSetsOf fullWords mostTiles (stateOf core (now (credited .entry)) (now (wheels .entry))) (columns (now (tiles .entry)) (now (offsets .entry)) (now (list .entry))) x y poses ⌝ }
+{
+    if !are_full(credited.len(), wheels.len()) {
+        return settle_change(SettleAnswer::Refused(4), core);
+    }
+    let k = settle_cause(MOST_TILES, core, tiles, offsets, list, x, y, poses);
+    if k != 0 {
+        return settle_change(SettleAnswer::Refused(k), core);
+    }
+    let c = contact::full_contact(
+        poses,
+        tiles,
+        offsets,
+        list,
+        core.n as usize,
+        credited,
+        wheels,
+    );
+    let off = lap::is_off(x, y);
+    let next = settled_core(core, c.fresh, c.zero, off);
+    settle_change(
+        SettleAnswer::Settled(c.fresh, core.n, off, next.lap, next.ended),
+        next,
+    )
+}
+
 // The contact after physics, or the number of the cause with the state as it was.
 pub fn settle(
     run: Run,
@@ -87,28 +173,26 @@ pub fn settle(
 ) -> Settlement
     ensures { λ r. ⌜ done (r .answer) (view (r .run)) ≡ settleOf fullWords mostTiles (view run) (columns (now (tiles .entry)) (now (offsets .entry)) (now (list .entry))) x y poses ⌝ }
 {
+    let mut credited = run.credited;
+    let mut wheels = run.wheels;
     let core = run.core;
-    let k = settle_cause(MOST_TILES, core, tiles, offsets, list, x, y, poses);
-    if k != 0 {
-        return Settlement {
-            answer: SettleAnswer::Refused(k),
-            run,
-        };
-    }
-    let last = run.credited;
-    let sets = run.wheels;
-    let c = contact::full_contact(poses, tiles, offsets, list, core.n as usize, last, sets);
-    let off = lap::is_off(x, y);
-    let next = settled_core(core, c.fresh, c.zero, off);
-    let credited = c.credited;
-    let wheels = c.wheels;
+    let c = settle_in_place(
+        core,
+        &mut credited,
+        &mut wheels,
+        tiles,
+        offsets,
+        list,
+        x,
+        y,
+        poses,
+    );
+    let answer = c.answer;
+    let next = settle_changed(core, c);
     let after = Run {
         core: next,
         credited,
         wheels,
     };
-    Settlement {
-        answer: SettleAnswer::Settled(c.fresh, core.n, off, next.lap, next.ended),
-        run: after,
-    }
+    Settlement { answer, run: after }
 }

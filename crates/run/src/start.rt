@@ -136,19 +136,19 @@ pub fn start(
             run,
         };
     }
+    let mut credited = [0u64; FULL_WORDS];
+    let mut wheels = [0u64; WHEEL_WORDS];
     let c = contact::full_contact(
         poses,
         tiles,
         offsets,
         list,
         n as usize,
-        [0u64; FULL_WORDS],
-        [0u64; WHEEL_WORDS],
+        &mut credited,
+        &mut wheels,
     );
     let lap = lap::update_lap(false, c.zero, c.fresh, n, share);
     let core = begun_core(n, fallback, share, limit, c.fresh, lap);
-    let credited = c.credited;
-    let wheels = c.wheels;
     let run = Run {
         core,
         credited,

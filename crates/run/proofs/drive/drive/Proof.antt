@@ -1,33 +1,21 @@
 -- `run::drive::drive` meets its contract. Assumes nothing.
-use native.Mathlib.Omega.{arith}
-use lib.ListN.{length}
-use Prim.Native.Nat.{_<_}
+use Rattle.run.proofs.DriveLaws.{drove-from}
 use borrow.Author.Needs.{needs}
-use Rattle.run.specs.Drive.{driveOf}
 use Rattle.run.proofs.drive.drive.Statement.{statement}
 use Rattle.run.proofs.drive.drive.Tie as tie
 use Rattle.run.proofs.drive.drive.Reads as reads
 use Rattle.run.proofs.drive.drive.Lts as lts
-use Rattle.run.proofs.drive.core_drive.Reads as core-drive-reads
-use Rattle.run.proofs.drive.roads_of.Reads as roads-of-reads
+use Rattle.run.proofs.drive.drive_change.Reads as drive-change-reads
+use Rattle.run.proofs.drive.changed_core.Reads as changed-core-reads
 
-slice-aggregate-roads-of : tie.Need-slice-aggregate-roads-of
-slice-aggregate-roads-of c = search needs
+drive-change-requires : tie.Need-drive-change-requires
+drive-change-requires c κs = search needs
 
-roads-of-requires : tie.Need-roads-of-requires
-roads-of-requires c κs =
-    let h : 159 < length (c .before .before .before .args .run .wheels) = search needs in
-    omega arith
-
-core-drive-requires : tie.Need-core-drive-requires
-core-drive-requires c κs = search needs
+changed-core-requires : tie.Need-changed-core-requires
+changed-core-requires c κs = search needs
 
 returns : tie.Need-returns
-unfolding driveOf
-returns c =
-    let d = c .before .before in
-    simp (← d .before .before .roads-of .ensures, ← d .core-drive .ensures)
+returns c = drove-from _ _ _ _ _ _ _ (c .before .before .changed-core .ensures) (c .before .before .before .before .before .drive-change .ensures)
 
 pub drive-spec : {M : Type 1} → statement M
-drive-spec =
-    tie.close (tie.spec slice-aggregate-roads-of roads-of-requires core-drive-requires returns)
+drive-spec = tie.close (tie.spec drive-change-requires changed-core-requires returns)

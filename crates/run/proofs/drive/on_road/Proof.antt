@@ -1,44 +1,72 @@
 -- `run::drive::on_road` meets its contract. Assumes nothing.
-use Prim.Native.Nat.{_+_, _-_, _*_}
+use Prim.Native.Nat.{ℕ, _+_, _-_, _*_, _^_, _≤_, _<_}
 use native.Mathlib.Omega.{arith}
-use mathlib.Core.Path.{_∙_}
+use lib.ListN.{getD}
+use mathlib.Core.Path.{_≡_, refl, ap, _∙_}
 use borrow.Author.Needs.{needs}
-use Rattle.run.proofs.AnyLaws.{part-any}
+use Rattle.run.specs.Below.{anyBelow}
+use Rattle.run.proofs.RoadLaws.{stands, stands-more, stands-any}
 use Rattle.run.proofs.drive.on_road.Statement.{statement}
 use Rattle.run.proofs.drive.on_road.Tie as tie
 use Rattle.run.proofs.drive.on_road.Reads as reads
 use Rattle.run.proofs.drive.on_road.Lts as lts
-use Rattle.run.proofs.words.any.Reads as any-reads
 
-mul-from : tie.Need-mul-from
+abbrev Inv-loop : tie.InvT-loop
+Inv-loop wheels words w from any₀ i₀ any i = (i ≤ words) × (any ≡ anyBelow i (stands wheels from)) × ((j : ℕ) → j < i → getD wheels (from + j) 0 < 2 ^ 64)
+
+abbrev μ-loop : tie.MeasureT-loop
+μ-loop wheels words w from any₀ i₀ any i = words - i
+
+mul-from : tie.Need-mul-from Inv-loop μ-loop
 mul-from c = search needs
 
-add-any : tie.Need-add-any
+loop-holds : tie.Need-loop-holds Inv-loop μ-loop
+unfolding anyBelow
+loop-holds c = (search needs, refl, λ j h. absurd (omega arith))
+
+add-any : tie.Need-add-any Inv-loop μ-loop
 add-any c = search needs
 
-mul-any : tie.Need-mul-any
+mul-any : tie.Need-mul-any Inv-loop μ-loop
 mul-any c = search needs
 
-sub-any : tie.Need-sub-any
-sub-any c = search needs
+shared-slice-read-any : tie.Need-shared-slice-read-any Inv-loop μ-loop
+shared-slice-read-any c = search needs
 
-part-any-start : tie.Need-part-any-start
-part-any-start c = search needs
+add-i : tie.Need-add-i Inv-loop μ-loop
+add-i c = search needs
 
-part-any-end : tie.Need-part-any-end
-part-any-end c = search needs
+loop-less : tie.Need-loop-less Inv-loop μ-loop
+loop-less c = search needs
 
-any-requires : tie.Need-any-requires
-any-requires c κs = search needs
-
-returns : tie.Need-returns
-returns c =
+loop-again : tie.Need-loop-again Inv-loop μ-loop
+loop-again c =
     let s = c .before .before .before in
-    let m = s .args .words in
-    let from = (s .args .w) * m in
-    c .any .ensures ∙ part-any m (s .args .w) (from + m - from) (s .args .wheels .now) (omega arith) (s .pre)
+    let k = c .before .before .loop in
+    let from = s .args .w * s .args .words in
+    (search needs, stands-more (s .args .wheels .now) from (k .i) (k .any) (k .inv .1), λ j h. omega (arith, c .shared-slice-known .given (from + j)))
+
+returns : tie.Need-returns Inv-loop μ-loop
+returns c =
+    let s = c .before .before in
+    let k = c .before .loop in
+    let end : k .i ≡ s .args .words = omega (arith, k .inv .0, c .loop-test .left) in
+    k .inv .1
+    ∙ ap (λ (n : ℕ). anyBelow n (stands (s .args .wheels .now) (s .args .w * s .args .words))) end
+    ∙ stands-any (s .args .words) (s .args .w) (s .args .wheels .now) (λ j h. k .inv .2 j (omega (arith, h, end)))
 
 pub on-road-spec : {M : Type 1} → statement M
 on-road-spec =
     tie.close
-    (tie.spec mul-from add-any mul-any sub-any part-any-start part-any-end any-requires returns)
+    (tie.spec
+    Inv-loop
+    μ-loop
+    mul-from
+    loop-holds
+    add-any
+    mul-any
+    shared-slice-read-any
+    add-i
+    loop-less
+    loop-again
+    returns)

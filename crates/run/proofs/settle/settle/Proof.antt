@@ -1,66 +1,44 @@
 -- `run::settle::settle` meets its contract. Assumes nothing.
-use Rattle.run.proofs.CallLaws.{settle-facts, settle-refused, settle-accepted, contact-few}
-use Rattle.run.specs.Contact.{Contacted}
-use Rattle.run.specs.State.{view}
-use lib.Dec.{lit≤, lit<}
+use Prim.Native.Nat.{_*_}
+use mathlib.Core.Path.{_≡_}
 use lib.ListN.{length}
-use Prim.Native.Nat.{ℕ, _+_, _-_, _*_, _≤_, _<_}
-use mathlib.Core.List.{List}
-use mathlib.Core.Path.{_≡_, refl, sym, ap, ap₂, _∙_, subst}
-use native.Mathlib.Omega.{arith}
+use Rattle.run.specs.Widths.{fullWords}
+use Rattle.run.specs.State.{view}
+use Rattle.run.proofs.InPlaceLaws.{settled-from}
 use borrow.Author.Needs.{needs}
 use Rattle.run.proofs.settle.settle.Statement.{statement}
 use Rattle.run.proofs.settle.settle.Tie as tie
 use Rattle.run.proofs.settle.settle.Reads as reads
 use Rattle.run.proofs.settle.settle.Lts as lts
-use Rattle.run.proofs.contact.full_contact.Reads as full-contact-reads
-use Rattle.run.proofs.lap.is_off.Reads as is-off-reads
-use Rattle.run.proofs.settle.settle_cause.Reads as settle-cause-reads
-use Rattle.run.proofs.settle.settled_core.Reads as settled-core-reads
+use Rattle.run.proofs.settle.settle_changed.Reads as settle-changed-reads
+use Rattle.run.proofs.settle.settle_in_place.Reads as settle-in-place-reads
 
-settle-cause-requires : tie.Need-settle-cause-requires
-settle-cause-requires c κs = search needs
+slice-aggregate-settle-in-place : tie.Need-slice-aggregate-settle-in-place
+slice-aggregate-settle-in-place c = search needs
+
+slice-aggregate-settle-in-place-2 : tie.Need-slice-aggregate-settle-in-place-2
+slice-aggregate-settle-in-place-2 c = search needs
+
+settle-in-place-requires : tie.Need-settle-in-place-requires
+settle-in-place-requires c κs = search needs
+
+settle-changed-requires : tie.Need-settle-changed-requires
+settle-changed-requires c κs = search needs
 
 returns : tie.Need-returns
 unfolding view
-returns c = settle-refused _ _ _ _ _ _ _ _ (c .before .settle-cause .ensures) (c .if1 .taken)
-
-cast-full-contact : tie.Need-cast-full-contact
-cast-full-contact c = search needs
-
-full-contact-requires : tie.Need-full-contact-requires
-full-contact-requires c κs =
-    let k = c .before .before .before .before .settle-cause in
-    let z : k .result ≡ 0 = omega (arith, c .before .before .before .if1 .left) in
-    let h = settle-facts _ _ _ _ _ _ (lit≤ tt) (sym (k .ensures) ∙ z) in
-    (h .some, h .few, h .tiles, h .sound)
-
-is-off-requires : tie.Need-is-off-requires
-is-off-requires c κs = search needs
-
-settled-core-requires : tie.Need-settled-core-requires
-settled-core-requires c κs =
-    let k = c .before .before .before .before .before .before .settle-cause in
-    let z : k .result ≡ 0 = omega (arith, c .before .before .before .before .before .if1 .left) in
-    let h = settle-facts _ _ _ _ _ _ (lit≤ tt) (sym (k .ensures) ∙ z) in
-    let b = contact-few _ _ _ _ _ (ap (λ (x : Contacted). x .fresh) (c .before .full-contact .ensures)) in
-    (omega (arith, h .few, h .count, b), h .time)
-
-returns-2 : tie.Need-returns-2
-unfolding view
-returns-2 c =
-    let k = c .before .before .before .before .before .before .before .before .before .settle-cause in
-    let z : k .result ≡ 0 = omega (arith, c .before .before .before .before .before .before .before .before .if1 .left) in
-    settle-accepted _ _ _ _ _ _ _ _ _ _ _ _ _ _ (k .ensures) z (c .before .before .before .before .full-contact .ensures) (c .before .before .before .is-off .ensures) (c .before .before .settled-core .ensures)
+returns c =
+    let s = c .before .before .before .before .before .before .before .before .before .before .before .before in
+    let cl : length (s .args .run .credited) ≡ fullWords = search needs in
+    let wl : length (s .args .run .wheels) ≡ 4 * fullWords = search needs in
+    settled-from _ _ _ _ _ _ _ _ _ _ _ cl wl (c .before .before .before .settle-in-place .ensures) (c .settle-changed .ensures)
 
 pub settle-spec : {M : Type 1} → statement M
 settle-spec =
     tie.close
     (tie.spec
-    settle-cause-requires
-    returns
-    cast-full-contact
-    full-contact-requires
-    is-off-requires
-    settled-core-requires
-    returns-2)
+    slice-aggregate-settle-in-place
+    slice-aggregate-settle-in-place-2
+    settle-in-place-requires
+    settle-changed-requires
+    returns)

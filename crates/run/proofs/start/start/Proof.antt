@@ -28,12 +28,18 @@ zero-run-requires c κs = search needs
 returns : tie.Need-returns
 returns c = start-refused _ _ _ _ _ _ (c .before .before .start-cause .ensures) (c .before .if1 .taken) (c .zero-run .ensures)
 
+slice-aggregate-full-contact : tie.Need-slice-aggregate-full-contact
+slice-aggregate-full-contact c = search needs
+
+slice-aggregate-full-contact-2 : tie.Need-slice-aggregate-full-contact-2
+slice-aggregate-full-contact-2 c = search needs
+
 full-contact-requires : tie.Need-full-contact-requires
 full-contact-requires c κs =
-    let k = c .before .start-cause in
-    let z : k .result ≡ 0 = omega (arith, c .if1 .left) in
+    let k = c .before .before .before .start-cause in
+    let z : k .result ≡ 0 = omega (arith, c .before .before .if1 .left) in
     let h = start-facts _ _ _ (lit≤ tt) (sym (k .ensures) ∙ z) in
-    (h .some, h .few, h .tiles, h .sound)
+    ((refl, refl), (h .some, h .few, h .tiles, h .sound))
 
 update-lap-requires : tie.Need-update-lap-requires
 update-lap-requires c κs = search needs
@@ -44,9 +50,9 @@ begun-core-requires c κs = search needs
 returns-2 : tie.Need-returns-2
 unfolding view firstContact
 returns-2 c =
-    let k = c .before .before .before .before .before .before .start-cause in
-    let z : k .result ≡ 0 = omega (arith, c .before .before .before .before .before .if1 .left) in
-    start-accepted _ _ _ _ _ _ _ _ _ _ _ (k .ensures) z (c .before .before .before .before .full-contact .ensures) (c .before .before .before .update-lap .ensures) (c .before .before .begun-core .ensures)
+    let k = c .before .before .before .before .before .before .before .before .start-cause in
+    let z : k .result ≡ 0 = omega (arith, c .before .before .before .before .before .before .before .if1 .left) in
+    start-accepted _ _ _ _ _ _ _ _ _ _ _ (k .ensures) z (c .before .before .before .before .full-contact .ensures) (c .before .update-lap .ensures) (c .begun-core .ensures)
 
 pub start-spec : {M : Type 1} → statement M
 start-spec =
@@ -55,6 +61,8 @@ start-spec =
     start-cause-requires
     zero-run-requires
     returns
+    slice-aggregate-full-contact
+    slice-aggregate-full-contact-2
     full-contact-requires
     update-lap-requires
     begun-core-requires
