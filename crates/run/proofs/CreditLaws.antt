@@ -7,8 +7,8 @@ use native.Mathlib.Nat.{lt-of-le-of-lt}
 use native.Mathlib.Omega.{arith}
 use native.Mathlib.Decide.{decLt}
 use lib.ListN.{length, getD, set, length-set, List·getD-eq-default}
-use lib.Seq.{getD-set-same, getD-set-other}
-use lib.Bits.{bitOr, bitAnd, and-le-l, or-lt}
+use lib.Seq.{getD-set-same, getD-set-other, set-getD}
+use lib.Bits.{bitOr, bitAnd, and-le-l, or-lt, or-zero-r, and-zero-l}
 use lib.Count.{ones}
 use lib.Dec.{lit<}
 use borrow.Author.Count.{below-more}
@@ -121,6 +121,23 @@ module _ (c₀ l e : List ℕ) where
             ∙ new-word i (subst (λ (x : ℕ). x < 2 ^ 64) same fc) fl fe)
             ∙ sym (howMany-add (64 * i) 64 New) ∙ ap (λ (x : ℕ). howMany x New) (step i);
       }
+
+  -- a word of which nothing was entered stays as it is
+  pub none-more : (c : List ℕ) (fresh i : ℕ) → Credited c fresh i → i < length c → getD c i 0 < 2 ^ 64 → getD l i 0 < 2 ^ 64 → getD e i 0 < 2 ^ 64
+      → bitAnd (getD e i 0) (flipped (getD l i 0)) ≡ 0 → Credited c fresh (i + 1)
+  unfolding ones
+  none-more c fresh i h b fc fl fe z =
+      let w = getD c i 0 in
+      let same : set c i (bitOr w 0) ≡ c = ap (set c i) (or-zero-r w) ∙ set-getD c i 0 in
+      let zero-more : fresh + 0 ≡ fresh = omega arith in
+      let count : fresh + ones (bitAnd 0 (flipped w)) ≡ fresh = ap (λ (x : ℕ). fresh + ones x) (and-zero-l (flipped w)) ∙ zero-more in
+      subst (λ (x : ℕ). Credited c x (i + 1)) count
+      (subst (λ (x : List ℕ). Credited x (fresh + ones (bitAnd 0 (flipped w))) (i + 1)) same
+      (subst (λ (x : ℕ). Credited (set c i (bitOr w x)) (fresh + ones (bitAnd x (flipped w))) (i + 1)) z (one-more c fresh i h b fc fl fe)))
+
+  -- the same of values that are equal
+  pub credited-is : {c c′ : List ℕ} {fresh fresh′ i : ℕ} → c′ ≡ c → fresh′ ≡ fresh → Credited c fresh i → Credited c′ fresh′ i
+  credited-is {c′ = c′} {fresh = fresh} {i = i} p q h = subst (λ (y : ℕ). Credited c′ y i) (sym q) (subst (λ (x : List ℕ). Credited x fresh i) (sym p) h)
 
   pub all-credited : (c : List ℕ) (fresh i : ℕ) → i ≡ length c₀ → Credited c fresh i → c ≡ setOf (length c₀) (λ t. member c₀ t || Enters t)
   unfolding member

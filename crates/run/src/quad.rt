@@ -8,7 +8,7 @@ ghost use Rattle.run.specs.Wheel.{placed, wheelQuad, boxCells};
 use crate::dynamics::SIZE;
 use crate::dynamics::WHEEL_R;
 use crate::state::Pose;
-use course::cell::cell_at;
+use course::cell::cell_of;
 use course::numeric::greatest;
 use course::numeric::least;
 
@@ -97,10 +97,9 @@ pub fn box_cells(q: [[f64; 2]; 4]) -> [usize; 4]
     let y0 = least(q[0][1], q[1][1], q[2][1], q[3][1]);
     let x1 = greatest(q[0][0], q[1][0], q[2][0], q[3][0]);
     let y1 = greatest(q[0][1], q[1][1], q[2][1], q[3][1]);
-    [
-        cell_at(x0, y0),
-        cell_at(x1, y0),
-        cell_at(x0, y1),
-        cell_at(x1, y1),
-    ]
+    let c0 = cell_of(x0);
+    let c1 = cell_of(x1);
+    let r0 = cell_of(y0) * 67;
+    let r1 = cell_of(y1) * 67;
+    [r0 + c0, r0 + c1, r1 + c0, r1 + c1]
 }

@@ -72,8 +72,12 @@ pub(crate) fn credit(credited: &mut [u64], last: &[u64], cur: &[u64]) -> u32
     let mut i: usize = 0;
     while i < credited.len() {
         let entered = cur[i] & !last[i];
-        fresh += u64::count_ones(entered & !credited[i]);
-        credited[i] = credited[i] | entered;
+        let before = credited[i];
+        // Mostly nothing was entered, and the count is dear where the processor has no instruction for it.
+        if entered != 0 {
+            fresh += u64::count_ones(entered & !before);
+            credited[i] = before | entered;
+        }
         i += 1;
     }
     fresh

@@ -1,11 +1,12 @@
 -- `run::words::credit` meets its contract. Assumes nothing.
 use Rattle.run.proofs.WordLaws.{Fit, howMany-none}
-use Rattle.run.proofs.CreditLaws.{Credited, New, one-more, all-credited, all-counted, few, ones-few, new-lt}
+use Rattle.run.proofs.CreditLaws.{Credited, New, one-more, none-more, credited-is, all-credited, all-counted, few, ones-few, new-lt}
 use Rattle.run.specs.Words.{member, setOf}
 use Rattle.run.specs.Below.{howMany}
 use lib.ListN.{length, getD, set, length-set}
 use Prim.Native.Nat.{ℕ, _+_, _-_, _*_, _/_, _%_, _^_, _≤_, _<_}
 use mathlib.Core.List.{List}
+use mathlib.Core.Logic.{⊎-elim}
 use mathlib.Core.Path.{_≡_, refl, sym, ap, ap₂, _∙_, subst}
 use native.Mathlib.Omega.{arith}
 use borrow.Author.Needs.{needs}
@@ -35,15 +36,16 @@ mul-entered-2 c = search needs
 shared-slice-read-entered-2 : tie.Need-shared-slice-read-entered-2 Inv-loop μ-loop
 shared-slice-read-entered-2 c = search needs
 
-mul-fresh : tie.Need-mul-fresh Inv-loop μ-loop
-mul-fresh c = search needs
+mul-before : tie.Need-mul-before Inv-loop μ-loop
+mul-before c = search needs
 
-slice-read-fresh : tie.Need-slice-read-fresh Inv-loop μ-loop
-slice-read-fresh c = search needs
+slice-read-before : tie.Need-slice-read-before Inv-loop μ-loop
+slice-read-before c = search needs
 
 add-fresh : tie.Need-add-fresh Inv-loop μ-loop
 add-fresh c =
-    let l = c .before .before .before .before in
+    let k = c .before in
+    let l = k .before .before .before .before in
     let n = l .loop .inv in
     let a = l .before .args in
     record {
@@ -51,21 +53,15 @@ add-fresh c =
         arith,
         n .count,
         few (64 * l .loop .i) (New (a .credited .now) (a .last .now) (a .cur .now)),
-        ones-few _ (new-lt _ _ _ (c .slice-known .given (l .loop .i) .fits) (c .before .shared-slice-known2 .given (l .loop .i) .fits) (c .before .before .shared-slice-known .given (l .loop .i) .fits)),
+        ones-few _ (new-lt _ _ _ (k .slice-known .given (l .loop .i) .fits) (k .before .shared-slice-known2 .given (l .loop .i) .fits) (k .before .before .shared-slice-known .given (l .loop .i) .fits)),
         l .before .pre .1,
         n .long,
-        c .before .before .before .loop-test .taken,
+        k .before .before .before .loop-test .taken,
       );
     }
 
 mul-credited : tie.Need-mul-credited Inv-loop μ-loop
 mul-credited c = search needs
-
-slice-read-credited : tie.Need-slice-read-credited Inv-loop μ-loop
-slice-read-credited c = search needs
-
-mul-credited-2 : tie.Need-mul-credited-2 Inv-loop μ-loop
-mul-credited-2 c = search needs
 
 slice-write-credited : tie.Need-slice-write-credited Inv-loop μ-loop
 slice-write-credited c = search needs
@@ -78,9 +74,17 @@ loop-less c = search needs
 
 loop-again : tie.Need-loop-again Inv-loop μ-loop
 loop-again c =
-    let l = c .before .before .before .before .before in
+    let k = c .before in
+    let l = k .before .before .before .before in
     let i = l .loop .i in
-    one-more _ _ _ _ _ _ (l .loop .inv) (c .before .before .before .before .loop-test .taken) (c .slice-known2 .given i .fits) (c .before .before .shared-slice-known2 .given i .fits) (c .before .before .before .shared-slice-known .given i .fits)
+    let fc = k .slice-known .given i .fits in
+    let fl = k .before .shared-slice-known2 .given i .fits in
+    let fe = k .before .before .shared-slice-known .given i .fits in
+    let b = k .before .before .before .loop-test .taken in
+    ⊎-elim
+    (λ w. credited-is _ _ _ (w .1) (w .2) (one-more _ _ _ _ _ _ (l .loop .inv) b fc fl fe))
+    (λ w. credited-is _ _ _ (w .1) (w .2) (none-more _ _ _ _ _ _ (l .loop .inv) b fc fl fe (w .0 .left)))
+    (c .if1 .came)
 
 same-length : tie.Need-same-length Inv-loop μ-loop
 same-length c = search needs
@@ -102,12 +106,10 @@ credit-spec =
     shared-slice-read-entered
     mul-entered-2
     shared-slice-read-entered-2
-    mul-fresh
-    slice-read-fresh
+    mul-before
+    slice-read-before
     add-fresh
     mul-credited
-    slice-read-credited
-    mul-credited-2
     slice-write-credited
     add-i
     loop-less
