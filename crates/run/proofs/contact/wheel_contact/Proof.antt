@@ -43,7 +43,7 @@ same-length-4 c = search needs
 
 returns : tie.Need-returns
 returns c =
-    let s = c .before .before .before .before .before .before .before .before .before .before .before .before .before .before .before .before .before .before .before .before .before .before .before .before .before .before .before .before .before in
+    let s = c .before .before .before .before .before .before .before .before .before .before .before .before .before .before .before .before .before .before .before .before .before .before .before .before .before .before .before .before .before .before in
     let t = c .before .before .before .before .before .before .before .before .before .before .before .before .before .before .before .before .before .before .before .touch-quad .ensures in
     let e = s .pre .0 .2 in (
       c .before .before .before .before .before .before .before .credit .ensures .0 ∙ now-credited _ _ (s .args .credited .now) (s .args .last .now) _ _ t e,
