@@ -10,7 +10,7 @@ use lib.ListN.{length, getD, take}
 use lib.Seq.{take-suc, take-all}
 use lib.Dec.{eqb, ltb}
 use lib.Ieee.{Float}
-use borrow.Author.Tests.{eq-eqb, ne-eqb}
+use borrow.Author.Tests.{eq-eqb, ne-eqb, ltb-true}
 use Rattle.course.proofs.IndexLaws.{and-left, and-right}
 use Rattle.run.specs.Below.{someOf, everyOf}
 use Rattle.run.specs.Words.{member, setOf}
@@ -175,3 +175,23 @@ unfolding touchedBy listedBy
 all-touched m m′ ts offs l q k tested touched i em e b h =
     h .hit ∙ ap (λ (x : List ℕ). setOf m (λ t. someOf (λ c. lists (lookup offs l c) t) x && overlapOf q (tileOf ts t))) (take-all i k b ∙ e)
     ∙ ap (λ (x : ℕ). setOf x (λ t. someOf (λ c. lists (lookup offs l c) t) (boxCells q) && overlapOf q (tileOf ts t))) em
+
+-- ---- no tile from n on is touched, where the look-ups are sound
+none-listed : (n t : ℕ) (ids : List ℕ) → n ≤ t → everyOf (λ u. ltb u n) ids ≡ true → someOf (eqb t) ids ≡ false
+unfolding someOf everyOf
+none-listed n t [] b e = refl
+none-listed n t (x ∷ xs) b e =
+    let less : x < n = ltb-true x n (and-left (ltb x n) (everyOf (λ u. ltb u n) xs) e) in
+    ap₂ _||_ (ne-eqb t x (λ q. omega arith)) (none-listed n t xs b (and-right (ltb x n) (everyOf (λ u. ltb u n) xs) e))
+
+none-in-cells : (offs l : List ℕ) (n t : ℕ) (ks : List ℕ) → n ≤ t → everyOf (soundCell offs l n) ks ≡ true → someOf (λ c. lists (lookup offs l c) t) ks ≡ false
+unfolding someOf everyOf soundCell
+none-in-cells offs l n t [] b e = refl
+none-in-cells offs l n t (k ∷ ks) b e =
+    let ids = lookup offs l k in
+    let own : everyOf (λ u. ltb u n) ids ≡ true = and-right (partOk offs l k) (everyOf (λ u. ltb u n) ids) (and-left (soundCell offs l n k) (everyOf (soundCell offs l n) ks) e) in
+    ap₂ _||_ (none-listed n t ids b own) (none-in-cells offs l n t ks b (and-right (soundCell offs l n k) (everyOf (soundCell offs l n) ks) e))
+
+pub untouched : (ts : List Float) (offs l : List ℕ) (n : ℕ) (q : List (List Float)) (t : ℕ) → soundQuad offs l n q ≡ true → n ≤ t → touchedBy ts offs l q t ≡ false
+unfolding touchedBy listedBy soundQuad
+untouched ts offs l n q t h b = ap (λ (x : Bool). x && overlapOf q (tileOf ts t)) (none-in-cells offs l n t (boxCells q) b h)

@@ -47,7 +47,7 @@ fn wheel_contact(
 {
     touch::touch_quad(q, cells, tiles, offsets, list, n, tested, touched);
     let zero = words::has(touched, 0) & !words::has(last, 0);
-    let fresh = words::credit(credited, last, touched);
+    let fresh = words::credit(credited, last, touched, n);
     words::copy(touched, last);
     Contact { fresh, zero }
 }
