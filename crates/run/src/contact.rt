@@ -52,7 +52,7 @@ fn wheel_contact(
     Contact { fresh, zero }
 }
 
-// The contact of four wheels, by the cells of their boxes.
+// The contact of four wheels by the cells of their boxes; `tested` and `touched` are scratch.
 fn contact_by_cells(
     poses: [Pose; 4],
     cells: &[usize],
@@ -100,7 +100,7 @@ fn contact_by_cells(
     Contact { fresh, zero }
 }
 
-// The contact of four wheels; `tested` and `touched` are scratch.
+// The same, the cells looked for here.
 pub(crate) fn contact_pass(
     poses: [Pose; 4],
     tiles: &[f64],

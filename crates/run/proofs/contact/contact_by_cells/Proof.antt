@@ -144,12 +144,11 @@ wheel-contact-requires c κs =
     let s = l .before .before .before .before .before .before .before .before .before in
     let n = l .loop .inv in
     let b = c .before .before .before .before .before .before .before .loop-test .taken in
-    let q = wheel-is _ _ _ (c .before .before .before .before .before .wheel-quad .ensures) in
     let e = credited-long _ _ _ _ _ _ _ _ _ _ _ n in (
       (part-long _ (l .loop .w) (l .loop .wheels) (wheels-long _ _ _ _ _ _ _ _ _ _ _ (s .pre .0 .0) n) b ∙ sym e, n .tested-long ∙ sym e, n .touched-long ∙ sym e),
       (
         (omega (arith, e, s .pre .1 .0 .0), s .pre .1 .0 .1, omega (arith, e, s .pre .1 .0 .2)),
-        (s .pre .1 .1 .0, sound-wheel _ _ _ _ _ _ (s .pre .1 .1 .1) b q, wheel-cells _ _ _ _ (s .pre .1 .1 .2) b q),
+        (s .pre .1 .1 .0, sound-wheel _ _ _ _ _ _ (s .pre .1 .1 .1) b (wheel-is _ _ _ (c .before .before .before .before .before .wheel-quad .ensures)), wheel-cells _ _ _ _ (s .pre .1 .1 .2) b (wheel-is _ _ _ (c .before .before .before .before .before .wheel-quad .ensures))),
       ),
     )
 
