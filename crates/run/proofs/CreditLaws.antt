@@ -7,8 +7,8 @@ use native.Mathlib.Nat.{lt-of-le-of-lt}
 use native.Mathlib.Omega.{arith}
 use native.Mathlib.Decide.{decLt}
 use lib.ListN.{length, getD, set, length-set, List·getD-eq-default}
-use lib.Seq.{getD-set-same, getD-set-other}
-use lib.Bits.{bitOr, bitAnd, and-le-l, or-lt}
+use lib.Seq.{getD-set-same, getD-set-other, set-getD}
+use lib.Bits.{bitOr, bitAnd, and-le-l, or-lt, or-zero-r, and-zero-l}
 use lib.Count.{ones}
 use lib.Dec.{lit<}
 use borrow.Author.Count.{below-more}
@@ -47,6 +47,15 @@ empty-words m ws el h = is-setOf m ws (λ t. false) el fit (λ t b. ap (λ (w : 
 
 pub ones-few : (w : ℕ) → w < 2 ^ 64 → ones w ≤ 64
 ones-few w h = subst (λ (x : ℕ). x ≤ 64) (sym (ones-bits w h)) (few 64 (bitOf w))
+
+howMany-false : (n : ℕ) → howMany n (λ t. false) ≡ 0
+unfolding howMany
+howMany-false zero = refl
+howMany-false (suc n) = ap (λ (x : ℕ). x + 0) (howMany-false n)
+
+or-none : (a : Bool) → (a || false) ≡ a
+or-none true = refl
+or-none false = refl
 
 -- ---- word j of three sets: credited before, touched last, touched now
 module _ (c l e : ℕ) (fc : c < 2 ^ 64) (fl : l < 2 ^ 64) (fe : e < 2 ^ 64) where
@@ -120,6 +129,48 @@ module _ (c₀ l e : List ℕ) where
             (ap (λ (x : ℕ). ones (bitAnd (bitAnd (getD e i 0) (flipped (getD l i 0))) (flipped x))) same
             ∙ new-word i (subst (λ (x : ℕ). x < 2 ^ 64) same fc) fl fe)
             ∙ sym (howMany-add (64 * i) 64 New) ∙ ap (λ (x : ℕ). howMany x New) (step i);
+      }
+
+  -- a word of which nothing was entered stays as it is
+  pub none-more : (c : List ℕ) (fresh i : ℕ) → Credited c fresh i → i < length c → getD c i 0 < 2 ^ 64 → getD l i 0 < 2 ^ 64 → getD e i 0 < 2 ^ 64
+      → bitAnd (getD e i 0) (flipped (getD l i 0)) ≡ 0 → Credited c fresh (i + 1)
+  unfolding ones
+  none-more c fresh i h b fc fl fe z =
+      let w = getD c i 0 in
+      let same : set c i (bitOr w 0) ≡ c = ap (set c i) (or-zero-r w) ∙ set-getD c i 0 in
+      let zero-more : fresh + 0 ≡ fresh = omega arith in
+      let count : fresh + ones (bitAnd 0 (flipped w)) ≡ fresh = ap (λ (x : ℕ). fresh + ones x) (and-zero-l (flipped w)) ∙ zero-more in
+      subst (λ (x : ℕ). Credited c x (i + 1)) count
+      (subst (λ (x : List ℕ). Credited x (fresh + ones (bitAnd 0 (flipped w))) (i + 1)) same
+      (subst (λ (x : ℕ). Credited (set c i (bitOr w x)) (fresh + ones (bitAnd x (flipped w))) (i + 1)) z (one-more c fresh i h b fc fl fe)))
+
+  -- the same of values that are equal
+  pub credited-is : {c c′ : List ℕ} {fresh fresh′ i : ℕ} → c′ ≡ c → fresh′ ≡ fresh → Credited c fresh i → Credited c′ fresh′ i
+  credited-is {c′ = c′} {fresh = fresh} {i = i} p q h = subst (λ (y : ℕ). Credited c′ y i) (sym q) (subst (λ (x : List ℕ). Credited x fresh i) (sym p) h)
+
+  -- the words from i on, of which nothing was entered, stay as they are
+  pub rest-credited : (c : List ℕ) (fresh i : ℕ) → Fit c₀ → length e ≡ length c₀ → ((t : ℕ) → 64 * i ≤ t → t < 64 * length e → member e t ≡ false) → Credited c fresh i
+      → Credited c fresh (length c₀)
+  rest-credited c fresh i fit el none h =
+      let m = length c₀ in
+      let d = m - i in
+      let empty : (j k : ℕ) → i ≤ j → j < m → k < 64 → bitOf (getD e j 0) k ≡ false = λ j k a b u. sym (member-at e j k u) ∙ none (64 * j + k) (omega arith) (omega (arith, el)) in
+      let none-new : (t : ℕ) → t < 64 * d → New (64 * i + t) ≡ false = λ t b. ap (λ (x : Bool). (x && not (member l (64 * i + t))) && not (member c₀ (64 * i + t))) (none (64 * i + t) (omega arith) (omega (arith, el, h .bound))) in
+      let whole : 64 * i + 64 * d ≡ 64 * m = omega (arith, h .bound) in
+      let same : howMany (64 * i) New + 0 ≡ howMany (64 * i) New = omega arith in
+      record {
+        bound = omega arith;
+        long = h .long;
+        small = λ j b. elim (decLt j i) [ yes a ↦ h .small j a | no a ↦ subst (λ (x : ℕ). x < 2 ^ 64) (sym (h .kept j (omega arith))) (fit j) ];
+        done = λ j b k u. elim (decLt j i) [
+          | yes a ↦ h .done j a k u
+          | no a ↦ ap (λ (x : ℕ). bitOf x k) (h .kept j (omega arith)) ∙ sym (or-none (bitOf (getD c₀ j 0) k)) ∙ ap (λ (x : Bool). bitOf (getD c₀ j 0) k || (x && not (bitOf (getD l j 0) k))) (sym (empty j k (omega arith) b u))
+        ];
+        kept = λ j b. h .kept j (omega (arith, h .bound));
+        count =
+            h .count ∙ sym same
+            ∙ ap (λ (x : ℕ). howMany (64 * i) New + x) (sym (howMany-cong (64 * d) (λ t. New (64 * i + t)) (λ t. false) none-new ∙ howMany-false (64 * d)))
+            ∙ sym (howMany-add (64 * i) (64 * d) New) ∙ ap (λ (x : ℕ). howMany x New) whole;
       }
 
   pub all-credited : (c : List ℕ) (fresh i : ℕ) → i ≡ length c₀ → Credited c fresh i → c ≡ setOf (length c₀) (λ t. member c₀ t || Enters t)

@@ -1,6 +1,7 @@
 pub mod WordLaws
 pub mod CreditLaws
 pub mod TouchLaws
+pub mod CellLaws
 pub mod ContactLaws
 pub mod CallLaws
 pub mod InPlaceLaws

@@ -10,7 +10,7 @@ use lib.ListN.{length, getD, take}
 use lib.Seq.{take-suc, take-all}
 use lib.Dec.{eqb, ltb}
 use lib.Ieee.{Float}
-use borrow.Author.Tests.{eq-eqb, ne-eqb}
+use borrow.Author.Tests.{eq-eqb, ne-eqb, ltb-true}
 use Rattle.course.proofs.IndexLaws.{and-left, and-right}
 use Rattle.run.specs.Below.{someOf, everyOf}
 use Rattle.run.specs.Words.{member, setOf}
@@ -75,18 +75,6 @@ every-fails p xs i h e = go (everyOf p xs) refl
     go true q = absurd (false≢true (sym e ∙ every-at p xs i q h))
     go false q = refl
 
--- a test of four cells, one after the other
-every-of-four : (p : ℕ → Bool) (a b c d : ℕ) → everyOf p (a ∷ b ∷ c ∷ d ∷ []) ≡ (p a && (p b && (p c && p d)))
-unfolding everyOf
-every-of-four p a b c d = ap (λ (x : Bool). p a && (p b && (p c && x))) (and-true (p d))
-
-pub every-four : (p : ℕ → Bool) (ks : List ℕ) (w x y z : ℕ) {a b c d : Bool} → ks ≡ (w ∷ x ∷ y ∷ z ∷ []) → a ≡ p (getD ks 0 0) → b ≡ p (getD ks 1 0) → c ≡ p (getD ks 2 0) → d ≡ p (getD ks 3 0)
-    → (a && (b && (c && d))) ≡ everyOf p (w ∷ x ∷ y ∷ z ∷ [])
-every-four p ks w x y z e ea eb ec ed =
-    (λ i. ea i && (eb i && (ec i && ed i)))
-    ∙ ap (λ (l : List ℕ). p (getD l 0 0) && (p (getD l 1 0) && (p (getD l 2 0) && p (getD l 3 0)))) e
-    ∙ sym (every-of-four p w x y z)
-
 -- ---- one tile's test
 module _ (m : ℕ) (o L : ℕ → Bool) (tested touched : List ℕ) (id : ℕ) (b : id < 64 * m) (h : Tested m o L tested touched) where
   in-set : member tested id ≡ L id
@@ -150,6 +138,10 @@ tested-cong m o L M tested touched e h =
       hit = h .hit ∙ setOf-cong m (λ t. L t && o t) (λ t. M t && o t) (λ t l. ap (λ (x : Bool). x && o t) (e t l));
     }
 
+-- the same of sets that are equal
+pub tested-is : {m : ℕ} {o L : ℕ → Bool} {a a′ b b′ : List ℕ} → a′ ≡ a → b′ ≡ b → Tested m o L a b → Tested m o L a′ b′
+tested-is p q h = record { all = p ∙ h .all; hit = q ∙ h .hit }
+
 -- a further test N after M, where the words' number is known by an equation
 pub touch-more : (m m′ : ℕ) (o L M N Z : ℕ → Bool) (a b a′ b′ : List ℕ) → m′ ≡ m → ((K : ℕ → Bool) → Tested m′ o K a b → Tested m′ o (λ t. K t || N t) a′ b′)
     → Tested m o (λ t. L t || M t) a b → ((t : ℕ) → (M t || N t) ≡ Z t) → Tested m o (λ t. L t || Z t) a′ b′
@@ -158,18 +150,14 @@ touch-more m m′ o L M N Z a b a′ b′ e step h z =
     (subst (λ (k : ℕ). Tested k o (λ t. (L t || M t) || N t) a′ b′) e (step (λ t. L t || M t) (subst (λ (k : ℕ). Tested k o (λ t. L t || M t) a b) (sym e) h)))
 
 -- ---- a quad's four cells
-pub four-cells : (q : List (List Float)) → length (boxCells q) ≡ 4
-unfolding boxCells
-four-cells q = refl
-
 -- the ids that a sound cell lists
-pub sound-ids : (offs l : List ℕ) (n : ℕ) (q : List (List Float)) (k ids : List ℕ) (i : ℕ) → soundQuad offs l n q ≡ true → k ≡ boxCells q → i < 4 → ids ≡ lookup offs l (getD k i 0)
+pub sound-ids : (offs l : List ℕ) (n : ℕ) (q : List (List Float)) (k ids : List ℕ) (i : ℕ) → soundQuad offs l n q ≡ true → k ≡ boxCells q → i < length k → ids ≡ lookup offs l (getD k i 0)
     → everyOf (λ t. ltb t n) ids ≡ true
 unfolding soundQuad soundCell
 sound-ids offs l n q k ids i h e b r =
     ap (everyOf (λ t. ltb t n)) (r ∙ ap (λ (x : List ℕ). lookup offs l (getD x i 0)) e)
     ∙ and-right (partOk offs l (getD (boxCells q) i 0)) (everyOf (λ t. ltb t n) (lookup offs l (getD (boxCells q) i 0)))
-    (every-at (soundCell offs l n) (boxCells q) i h (subst (λ (x : ℕ). i < x) (sym (four-cells q)) b))
+    (every-at (soundCell offs l n) (boxCells q) i h (subst (λ (x : List ℕ). i < length x) e b))
 
 -- nothing tested yet
 pub none-tested : (m a b : ℕ) (o N : ℕ → Bool) (tested touched : List ℕ) → tested ≡ setOf a (λ t. false) → touched ≡ setOf b (λ t. false) → m ≡ a → b ≡ a → ((t : ℕ) → N t ≡ false)
@@ -181,9 +169,29 @@ none-tested m a b o N tested touched e f p q z =
     }
 
 -- all four cells are done
-pub all-touched : (m m′ : ℕ) (ts : List Float) (offs l : List ℕ) (q : List (List Float)) (k tested touched : List ℕ) (i : ℕ) → m ≡ m′ → k ≡ boxCells q → 4 ≤ i
+pub all-touched : (m m′ : ℕ) (ts : List Float) (offs l : List ℕ) (q : List (List Float)) (k tested touched : List ℕ) (i : ℕ) → m ≡ m′ → k ≡ boxCells q → length k ≤ i
     → Tested m (λ t. overlapOf q (tileOf ts t)) (λ t. someOf (λ c. lists (lookup offs l c) t) (take i k)) tested touched → touched ≡ setOf m′ (touchedBy ts offs l q)
 unfolding touchedBy listedBy
 all-touched m m′ ts offs l q k tested touched i em e b h =
-    h .hit ∙ ap (λ (x : List ℕ). setOf m (λ t. someOf (λ c. lists (lookup offs l c) t) x && overlapOf q (tileOf ts t))) (ap (take i) e ∙ take-all i (boxCells q) (subst (λ (x : ℕ). x ≤ i) (sym (four-cells q)) b))
+    h .hit ∙ ap (λ (x : List ℕ). setOf m (λ t. someOf (λ c. lists (lookup offs l c) t) x && overlapOf q (tileOf ts t))) (take-all i k b ∙ e)
     ∙ ap (λ (x : ℕ). setOf x (λ t. someOf (λ c. lists (lookup offs l c) t) (boxCells q) && overlapOf q (tileOf ts t))) em
+
+-- ---- no tile from n on is touched, where the look-ups are sound
+none-listed : (n t : ℕ) (ids : List ℕ) → n ≤ t → everyOf (λ u. ltb u n) ids ≡ true → someOf (eqb t) ids ≡ false
+unfolding someOf everyOf
+none-listed n t [] b e = refl
+none-listed n t (x ∷ xs) b e =
+    let less : x < n = ltb-true x n (and-left (ltb x n) (everyOf (λ u. ltb u n) xs) e) in
+    ap₂ _||_ (ne-eqb t x (λ q. omega arith)) (none-listed n t xs b (and-right (ltb x n) (everyOf (λ u. ltb u n) xs) e))
+
+none-in-cells : (offs l : List ℕ) (n t : ℕ) (ks : List ℕ) → n ≤ t → everyOf (soundCell offs l n) ks ≡ true → someOf (λ c. lists (lookup offs l c) t) ks ≡ false
+unfolding someOf everyOf soundCell
+none-in-cells offs l n t [] b e = refl
+none-in-cells offs l n t (k ∷ ks) b e =
+    let ids = lookup offs l k in
+    let own : everyOf (λ u. ltb u n) ids ≡ true = and-right (partOk offs l k) (everyOf (λ u. ltb u n) ids) (and-left (soundCell offs l n k) (everyOf (soundCell offs l n) ks) e) in
+    ap₂ _||_ (none-listed n t ids b own) (none-in-cells offs l n t ks b (and-right (soundCell offs l n k) (everyOf (soundCell offs l n) ks) e))
+
+pub untouched : (ts : List Float) (offs l : List ℕ) (n : ℕ) (q : List (List Float)) (t : ℕ) → soundQuad offs l n q ≡ true → n ≤ t → touchedBy ts offs l q t ≡ false
+unfolding touchedBy listedBy soundQuad
+untouched ts offs l n q t h b = ap (λ (x : Bool). x && overlapOf q (tileOf ts t)) (none-in-cells offs l n t (boxCells q) b h)

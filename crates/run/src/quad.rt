@@ -5,10 +5,11 @@ ghost use lib.ListN.{length};
 ghost use Rattle.course.specs.Tiles.{corner};
 ghost use Rattle.run.specs.Overlap.{leastOn, greatestOn, apartOn, apartAlong, apartByEdges, overlapOf};
 ghost use Rattle.run.specs.Wheel.{placed, wheelQuad, boxCells};
+ghost use Rattle.run.specs.TouchSteps.{sideOf, beyond, cellsOf};
 use crate::dynamics::SIZE;
 use crate::dynamics::WHEEL_R;
 use crate::state::Pose;
-use course::cell::cell_at;
+use course::cell::cell_of;
 use course::numeric::greatest;
 use course::numeric::least;
 
@@ -71,6 +72,32 @@ pub fn quad_overlap(a: [[f64; 2]; 4], b: [[f64; 2]; 4]) -> bool
     !apart_by_edges(b, a, b)
 }
 
+// The normal (nx, ny) of a quad's first edge, and the quad's least and greatest projection on it.
+pub(crate) struct Side {
+    pub nx: f64,
+    pub ny: f64,
+    pub low: f64,
+    pub high: f64,
+}
+
+// The first side of a quad. Made once for a wheel: most tiles of a cell lie apart from the wheel on it.
+pub(crate) fn first_side(q: [[f64; 2]; 4]) -> Side
+    ensures { λ r. ⌜ r ≡ sideOf q ⌝ }
+{
+    let nx = q[1][1] - q[0][1];
+    let ny = q[0][0] - q[1][0];
+    let low = least_on(nx, ny, q);
+    let high = greatest_on(nx, ny, q);
+    Side { nx, ny, low, high }
+}
+
+// The quad lies apart from the side's own quad on the side's normal.
+pub(crate) fn is_beyond(s: Side, q: [[f64; 2]; 4]) -> bool
+    ensures { λ r. ⌜ r ≡ beyond s q ⌝ }
+{
+    (s.high < least_on(s.nx, s.ny, q)) | (greatest_on(s.nx, s.ny, q) < s.low)
+}
+
 // The place (u, v) of a wheel's own frame under its pose.
 fn place(p: Pose, u: f64, v: f64) -> [f64; 2]
     ensures { λ r. ⌜ r ≡ placed p u v ⌝ }
@@ -97,10 +124,38 @@ pub fn box_cells(q: [[f64; 2]; 4]) -> [usize; 4]
     let y0 = least(q[0][1], q[1][1], q[2][1], q[3][1]);
     let x1 = greatest(q[0][0], q[1][0], q[2][0], q[3][0]);
     let y1 = greatest(q[0][1], q[1][1], q[2][1], q[3][1]);
+    let c0 = cell_of(x0);
+    let c1 = cell_of(x1);
+    let r0 = cell_of(y0) * 67;
+    let r1 = cell_of(y1) * 67;
+    [r0 + c0, r0 + c1, r1 + c0, r1 + c1]
+}
+
+// The cells of four wheels' boxes, four to a wheel. Made before any of them is looked up: the wheels do
+// not wait for each other.
+pub(crate) fn wheel_cells(poses: [Pose; 4]) -> [usize; 16]
+    ensures { λ r. ⌜ r ≡ cellsOf poses ⌝ }
+{
+    let a = box_cells(wheel_quad(poses[0]));
+    let b = box_cells(wheel_quad(poses[1]));
+    let c = box_cells(wheel_quad(poses[2]));
+    let d = box_cells(wheel_quad(poses[3]));
     [
-        cell_at(x0, y0),
-        cell_at(x1, y0),
-        cell_at(x0, y1),
-        cell_at(x1, y1),
+        a[0],
+        a[1],
+        a[2],
+        a[3],
+        b[0],
+        b[1],
+        b[2],
+        b[3],
+        c[0],
+        c[1],
+        c[2],
+        c[3],
+        d[0],
+        d[1],
+        d[2],
+        d[3],
     ]
 }

@@ -4,14 +4,16 @@ ghost use mathlib.Core.Path.{_≡_};
 ghost use mathlib.Core.Bool.{Bool, true, _||_};
 ghost use Prim.Native.Nat.{ℕ, _+_, _*_, _<_, _≤_};
 ghost use lib.Dec.{eqb, ltb};
-ghost use lib.ListN.{length};
+ghost use lib.ListN.{length, getD};
 ghost use Rattle.course.specs.Index.{lookup};
 ghost use Rattle.run.specs.Below.{everyOf};
 ghost use Rattle.run.specs.Words.{setOf};
 ghost use Rattle.run.specs.Overlap.{overlapOf};
 ghost use Rattle.run.specs.Touch.{tileOf, lists, touchedBy, soundCell, soundQuad, soundPoses};
-ghost use Rattle.run.specs.TouchSteps.{Tested};
+ghost use Rattle.run.specs.Wheel.{boxCells};
+ghost use Rattle.run.specs.TouchSteps.{sideOf, again, Tested};
 use crate::quad;
+use crate::quad::Side;
 use crate::state::Pose;
 use crate::words;
 use course::index;
@@ -53,40 +55,72 @@ fn cell_sound(offsets: &[u32], list: &[u32], n: usize, cell: usize) -> bool
     false
 }
 
-// The four cells of a quad's box may be looked up.
-fn quad_sound(offsets: &[u32], list: &[u32], n: usize, q: [[f64; 2]; 4]) -> bool
-    ensures { λ r. ⌜ r ≡ soundQuad (now (offsets .entry)) (now (list .entry)) n q ⌝ }
+// Cell i is the same as the cell before it, as most of a box's are: one look-up is enough for both.
+fn is_again(cells: &[usize], i: usize) -> bool
+    requires { ⌜ i < length (now cells) ⌝ }
+    ensures { λ r. ⌜ r ≡ again (now (cells .entry)) i ⌝ }
 {
-    let k = quad::box_cells(q);
-    let a = cell_sound(offsets, list, n, k[0]);
-    let b = cell_sound(offsets, list, n, k[1]);
-    let c = cell_sound(offsets, list, n, k[2]);
-    let d = cell_sound(offsets, list, n, k[3]);
-    a & (b & (c & d))
+    if i == 0 {
+        return false;
+    }
+    cells[i] == cells[i - 1]
+}
+
+// Cell i may be looked up, or the cell before it is the same.
+fn next_sound(offsets: &[u32], list: &[u32], n: usize, cells: &[usize], i: usize) -> bool
+    requires { ⌜ i < length (now cells) ⌝ }
+    ensures { λ r. ⌜ r ≡ (again (now (cells .entry)) i || soundCell (now (offsets .entry)) (now (list .entry)) n (getD (now (cells .entry)) i 0)) ⌝ }
+{
+    if is_again(cells, i) {
+        return true;
+    }
+    cell_sound(offsets, list, n, cells[i])
+}
+
+// All cells may be looked up.
+pub(crate) fn cells_sound(offsets: &[u32], list: &[u32], n: usize, cells: &[usize]) -> bool
+    ensures { λ r. ⌜ r ≡ everyOf (soundCell (now (offsets .entry)) (now (list .entry)) n) (now (cells .entry)) ⌝ }
+{
+    let mut i: usize = 0;
+    while i < cells.len() {
+        if !next_sound(offsets, list, n, cells, i) {
+            return false;
+        }
+        i += 1;
+    }
+    true
 }
 
 // All sixteen look-ups of four wheels are sound (cause 10).
 pub fn poses_sound(offsets: &[u32], list: &[u32], n: usize, poses: [Pose; 4]) -> bool
     ensures { λ r. ⌜ r ≡ soundPoses (now (offsets .entry)) (now (list .entry)) n poses ⌝ }
 {
-    let a = quad_sound(offsets, list, n, quad::wheel_quad(poses[0]));
-    let b = quad_sound(offsets, list, n, quad::wheel_quad(poses[1]));
-    let c = quad_sound(offsets, list, n, quad::wheel_quad(poses[2]));
-    let d = quad_sound(offsets, list, n, quad::wheel_quad(poses[3]));
-    ((a & b) & c) & d
+    let cells = quad::wheel_cells(poses);
+    cells_sound(offsets, list, n, &cells)
 }
 
 // Tile `id` is tested, unless it was before.
-fn touch_one(q: [[f64; 2]; 4], tiles: &[f64], id: usize, tested: &mut [u64], touched: &mut [u64])
+fn touch_one(
+    q: [[f64; 2]; 4],
+    side: Side,
+    tiles: &[f64],
+    id: usize,
+    tested: &mut [u64],
+    touched: &mut [u64],
+)
     requires { ⌜ (length (now touched) ≡ length (now tested)) × (id < 64 * length (now tested)) ⌝ }
-    requires { ⌜ id * 8 + 8 ≤ length (now tiles) ⌝ }
+    requires { ⌜ (id * 8 + 8 ≤ length (now tiles)) × (side ≡ sideOf q) ⌝ }
     ensures { λ _. ⌜ ((L : ℕ → Bool) → Tested (length (now (tested .entry))) (λ t. overlapOf q (tileOf (now (tiles .entry)) t)) L (now (tested .entry)) (now (touched .entry)) → Tested (length (now (tested .entry))) (λ t. overlapOf q (tileOf (now (tiles .entry)) t)) (λ t. L t || eqb t id) (now (tested .exit)) (now (touched .exit))) ⌝ }
 {
     if words::has(tested, id) {
         return;
     }
     words::put(tested, id);
-    if quad::quad_overlap(q, tile_at(tiles, id)) {
+    let tile = tile_at(tiles, id);
+    if quad::is_beyond(side, tile) {
+        return;
+    }
+    if quad::quad_overlap(q, tile) {
         words::put(touched, id);
     }
 }
@@ -94,6 +128,7 @@ fn touch_one(q: [[f64; 2]; 4], tiles: &[f64], id: usize, tested: &mut [u64], tou
 // The tiles of a list are tested.
 fn touch_ids(
     q: [[f64; 2]; 4],
+    side: Side,
     tiles: &[f64],
     ids: &[u32],
     n: usize,
@@ -101,20 +136,22 @@ fn touch_ids(
     touched: &mut [u64],
 )
     requires { ⌜ (length (now touched) ≡ length (now tested)) × (n ≤ 64 * length (now tested)) ⌝ }
-    requires { ⌜ (n * 8 ≤ length (now tiles)) × (everyOf (λ t. ltb t n) (now ids) ≡ true) ⌝ }
+    requires { ⌜ (n * 8 ≤ length (now tiles)) × (everyOf (λ t. ltb t n) (now ids) ≡ true) × (side ≡ sideOf q) ⌝ }
     ensures { λ _. ⌜ ((L : ℕ → Bool) → Tested (length (now (tested .entry))) (λ t. overlapOf q (tileOf (now (tiles .entry)) t)) L (now (tested .entry)) (now (touched .entry)) → Tested (length (now (tested .entry))) (λ t. overlapOf q (tileOf (now (tiles .entry)) t)) (λ t. L t || lists (now (ids .entry)) t) (now (tested .exit)) (now (touched .exit))) ⌝ }
 {
     let mut i: usize = 0;
     while i < ids.len() {
         let id = ids[i] as usize;
-        touch_one(q, tiles, id, tested, touched);
+        touch_one(q, side, tiles, id, tested, touched);
         i += 1;
     }
 }
 
-// The tiles that a wheel's quad touches become the set `touched`; `tested` is scratch.
+// The tiles that a wheel's quad touches become the set `touched`; `tested` is scratch, and `cells` are
+// the cells of the quad's box.
 pub(crate) fn touch_quad(
     q: [[f64; 2]; 4],
+    cells: &[usize],
     tiles: &[f64],
     offsets: &[u32],
     list: &[u32],
@@ -123,22 +160,25 @@ pub(crate) fn touch_quad(
     touched: &mut [u64],
 )
     requires { ⌜ (length (now touched) ≡ length (now tested)) × (n ≤ 64 * length (now tested)) ⌝ }
-    requires { ⌜ (n * 8 ≤ length (now tiles)) × (soundQuad (now offsets) (now list) n q ≡ true) ⌝ }
+    requires { ⌜ (n * 8 ≤ length (now tiles)) × (soundQuad (now offsets) (now list) n q ≡ true) × (now cells ≡ boxCells q) ⌝ }
     ensures { λ _. ⌜ now (touched .exit) ≡ setOf (length (now (touched .entry))) (touchedBy (now (tiles .entry)) (now (offsets .entry)) (now (list .entry)) q) ⌝ }
 {
-    let k = quad::box_cells(q);
+    let side = quad::first_side(q);
     words::clear(tested);
     words::clear(touched);
     let mut i: usize = 0;
-    while i < 4 {
-        touch_ids(
-            q,
-            tiles,
-            index::cell_tiles(offsets, list, k[i]),
-            n,
-            tested,
-            touched,
-        );
+    while i < cells.len() {
+        if !is_again(cells, i) {
+            touch_ids(
+                q,
+                side,
+                tiles,
+                index::cell_tiles(offsets, list, cells[i]),
+                n,
+                tested,
+                touched,
+            );
+        }
         i += 1;
     }
 }

@@ -2,9 +2,9 @@
 // slices of any number of words, so that states of several widths share it.
 ghost use mathlib.Core.Path.{_≡_};
 ghost use mathlib.Core.Bool.{false, not, _&&_, _||_};
-ghost use Prim.Native.Nat.{_*_, _<_};
+ghost use Prim.Native.Nat.{ℕ, _*_, _^_, _<_, _≤_};
 ghost use lib.Dec.{eqb};
-ghost use lib.ListN.{length};
+ghost use lib.ListN.{length, getD};
 ghost use Rattle.run.specs.Below.{anyBelow, howMany};
 ghost use Rattle.run.specs.Words.{member, setOf};
 
@@ -61,19 +61,27 @@ pub(crate) fn copy(from: &[u64], to: &mut [u64])
     }
 }
 
-// What is in `cur` and not in `last` is credited; how many of these tiles were not credited before.
-pub(crate) fn credit(credited: &mut [u64], last: &[u64], cur: &[u64]) -> u32
+// What is in `cur` and not in `last` is credited; how many of these tiles were not credited before. A
+// course has few tiles for the words at hand: those after the word of tile n - 1 are not gone through.
+pub(crate) fn credit(credited: &mut [u64], last: &[u64], cur: &[u64], n: usize) -> u32
     requires { ⌜ (length (now last) ≡ length (now credited)) × (length (now cur) ≡ length (now credited)) ⌝ }
-    requires { ⌜ 64 * length (now credited) < 4294967296 ⌝ }
+    requires { ⌜ (64 * length (now credited) < 4294967296) × (n ≤ 64 * length (now credited)) ⌝ }
+    requires { ⌜ ((j : ℕ) → getD (now credited) j 0 < 2 ^ 64) ⌝ }
+    requires { ⌜ ((t : ℕ) → n ≤ t → t < 64 * length (now cur) → member (now cur) t ≡ false) ⌝ }
     ensures { λ r. ⌜ now (credited .exit) ≡ setOf (length (now (credited .entry))) (λ t. member (now (credited .entry)) t || (member (now (cur .entry)) t && not (member (now (last .entry)) t))) ⌝ }
     ensures { λ r. ⌜ r ≡ howMany (64 * length (now (credited .entry))) (λ t. (member (now (cur .entry)) t && not (member (now (last .entry)) t)) && not (member (now (credited .entry)) t)) ⌝ }
 {
+    let end = (n + 63) / 64;
     let mut fresh: u32 = 0;
     let mut i: usize = 0;
-    while i < credited.len() {
+    while i < end {
         let entered = cur[i] & !last[i];
-        fresh += u64::count_ones(entered & !credited[i]);
-        credited[i] = credited[i] | entered;
+        let before = credited[i];
+        // Mostly nothing was entered, and the count is dear where the processor has no instruction for it.
+        if entered != 0 {
+            fresh += u64::count_ones(entered & !before);
+            credited[i] = before | entered;
+        }
         i += 1;
     }
     fresh

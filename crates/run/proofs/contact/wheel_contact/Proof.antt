@@ -1,5 +1,9 @@
 -- `run::contact::wheel_contact` meets its contract. Assumes nothing.
 use Rattle.run.proofs.ContactLaws.{now-member, now-set, now-credited, now-fresh}
+use Rattle.run.proofs.TouchLaws.{untouched}
+use Rattle.run.proofs.WordLaws.{member-setOf}
+use Rattle.run.specs.Words.{member}
+use mathlib.Core.List.{List}
 use Prim.Native.Nat.{ℕ, _*_, _<_, _≤_}
 use mathlib.Core.Bool.{Bool, not, _&&_}
 use mathlib.Core.Path.{_≡_, refl, sym, ap, ap₂, _∙_}
@@ -24,7 +28,19 @@ has-requires-2 : tie.Need-has-requires-2
 has-requires-2 c κs = search needs
 
 credit-requires : tie.Need-credit-requires
-credit-requires c κs = search needs
+credit-requires c κs =
+    let s = c .before .before .before .before .before .before .before .before .before .before .before .before .before .before .before .before .before .before .before .before .before .before in
+    let k = c .before .before .before .before .before .before .before .before .before .before .before .touch-quad in
+    let e = k .kept .1 .1 .1 .1 .1 .1 .1 .0 in (
+      (s .pre .0 .0, e ∙ s .pre .0 .2),
+      (
+        (s .pre .1 .0 .0, s .pre .1 .0 .2),
+        (
+          λ j. c .before .before .before .before .before .before .before .before .before .before .before .before .before .before .before .before .before .slice-known .given j .fits,
+          λ t b u. ap (λ (x : List ℕ). member x t) (k .ensures) ∙ member-setOf _ t _ (omega (arith, u, e)) ∙ untouched _ _ _ _ _ t (s .pre .1 .1 .1) b,
+        ),
+      ),
+    )
 
 copy-requires : tie.Need-copy-requires
 copy-requires c κs = search needs
@@ -43,7 +59,7 @@ same-length-4 c = search needs
 
 returns : tie.Need-returns
 returns c =
-    let s = c .before .before .before .before .before .before .before .before .before .before .before .before .before .before .before .before .before .before .before .before .before .before .before .before .before .before .before .before .before in
+    let s = c .before .before .before .before .before .before .before .before .before .before .before .before .before .before .before .before .before .before .before .before .before .before .before .before .before .before .before .before .before .before in
     let t = c .before .before .before .before .before .before .before .before .before .before .before .before .before .before .before .before .before .before .before .touch-quad .ensures in
     let e = s .pre .0 .2 in (
       c .before .before .before .before .before .before .before .credit .ensures .0 ∙ now-credited _ _ (s .args .credited .now) (s .args .last .now) _ _ t e,

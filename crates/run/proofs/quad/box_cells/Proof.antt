@@ -1,18 +1,24 @@
 -- `run::quad::box_cells` meets its contract. Assumes nothing.
-use Rattle.course.specs.Cell.{cellAt}
-use Prim.Native.Nat.{ℕ}
+use Rattle.course.specs.Cell.{cellOf, cellAt}
+use Rattle.course.proofs.Cells.{cell-high}
+use Prim.Native.Nat.{ℕ, _+_, _*_, _≤_}
+use native.Mathlib.Omega.{arith}
+use lib.Ieee.{Float}
 use mathlib.Core.List.{List, [], _∷_}
--- `run::quad::box_cells` meets its contract. Assumes nothing.
 use Rattle.run.specs.Wheel.{boxCells, leastX, leastY, greatestX, greatestY}
-use mathlib.Core.Path.{_≡_, refl, sym, ap, ap₂, _∙_}
+use mathlib.Core.Path.{_≡_, refl, sym, ap, ap₂, _∙_, subst}
 use borrow.Author.Needs.{needs}
 use Rattle.run.proofs.quad.box_cells.Statement.{statement}
 use Rattle.run.proofs.quad.box_cells.Tie as tie
 use Rattle.run.proofs.quad.box_cells.Reads as reads
 use Rattle.run.proofs.quad.box_cells.Lts as lts
-use Rattle.course.proofs.cell.cell_at.Reads as cell-at-reads
+use Rattle.course.proofs.cell.cell_of.Reads as cell-of-reads
 use Rattle.course.proofs.numeric.greatest.Reads as greatest-reads
 use Rattle.course.proofs.numeric.least.Reads as least-reads
+
+-- a cell of one coordinate is small
+few : (r : ℕ) (v : Float) → r ≡ cellOf v → r ≤ 66
+few r v e = subst (λ (x : ℕ). x ≤ 66) (sym e) (cell-high v)
 
 index-1-least : tie.Need-index-1-least
 index-1-least c = search needs
@@ -122,20 +128,43 @@ index-2-greatest-8 c = search needs
 greatest-requires-2 : tie.Need-greatest-requires-2
 greatest-requires-2 c κs = search needs
 
-cell-at-requires : tie.Need-cell-at-requires
-cell-at-requires c κs = search needs
+cell-of-requires : tie.Need-cell-of-requires
+cell-of-requires c κs = search needs
 
-cell-at-requires-2 : tie.Need-cell-at-requires-2
-cell-at-requires-2 c κs = search needs
+cell-of-requires-2 : tie.Need-cell-of-requires-2
+cell-of-requires-2 c κs = search needs
 
-cell-at-requires-3 : tie.Need-cell-at-requires-3
-cell-at-requires-3 c κs = search needs
+cell-of-requires-3 : tie.Need-cell-of-requires-3
+cell-of-requires-3 c κs = search needs
 
-cell-at-requires-4 : tie.Need-cell-at-requires-4
-cell-at-requires-4 c κs = search needs
+mul-r0 : tie.Need-mul-r0
+mul-r0 c = omega (arith, few _ _ (c .cell-of3 .ensures))
+
+cell-of-requires-4 : tie.Need-cell-of-requires-4
+cell-of-requires-4 c κs = search needs
+
+mul-r1 : tie.Need-mul-r1
+mul-r1 c = omega (arith, few _ _ (c .cell-of4 .ensures))
+
+add-t79 : tie.Need-add-t79
+add-t79 c = omega (arith, few _ _ (c .before .cell-of3 .ensures), few _ _ (c .before .before .before .cell-of .ensures))
+
+add-t80 : tie.Need-add-t80
+add-t80 c = omega (arith, few _ _ (c .before .cell-of3 .ensures), few _ _ (c .before .before .cell-of2 .ensures))
+
+add-t81 : tie.Need-add-t81
+add-t81 c = omega (arith, few _ _ (c .cell-of4 .ensures), few _ _ (c .before .before .before .cell-of .ensures))
+
+add-t82 : tie.Need-add-t82
+add-t82 c = omega (arith, few _ _ (c .cell-of4 .ensures), few _ _ (c .before .before .cell-of2 .ensures))
 
 four : {a b c d a′ b′ c′ d′ : ℕ} → a ≡ a′ → b ≡ b′ → c ≡ c′ → d ≡ d′ → _≡_ {A = List ℕ} (a ∷ b ∷ c ∷ d ∷ []) (a′ ∷ b′ ∷ c′ ∷ d′ ∷ [])
 four p q r s = λ i. p i ∷ q i ∷ r i ∷ s i ∷ []
+
+-- the cell of a row and a column
+cell : {r k : ℕ} {x y x′ y′ : Float} → r ≡ cellOf y → y ≡ y′ → k ≡ cellOf x → x ≡ x′ → r * 67 + k ≡ cellAt x′ y′
+unfolding cellAt
+cell er ey ek ex = ap₂ (λ (a b : ℕ). a * 67 + b) (er ∙ ap cellOf ey) (ek ∙ ap cellOf ex)
 
 returns : tie.Need-returns
 unfolding boxCells leastX leastY greatestX greatestY
@@ -144,7 +173,11 @@ returns c =
     let y0 = c .before .before .before .before .before .before .before .before .before .before .before .before .before .before .least2 .ensures in
     let x1 = c .before .before .before .before .before .before .before .before .before .greatest .ensures in
     let y1 = c .before .before .before .before .greatest2 .ensures in
-    four (c .before .before .before .cell-at .ensures ∙ ap₂ cellAt x0 y0) (c .before .before .cell-at2 .ensures ∙ ap₂ cellAt x1 y0) (c .before .cell-at3 .ensures ∙ ap₂ cellAt x0 y1) (c .cell-at4 .ensures ∙ ap₂ cellAt x1 y1)
+    let c0 = c .before .before .before .cell-of .ensures in
+    let c1 = c .before .before .cell-of2 .ensures in
+    let r0 = c .before .cell-of3 .ensures in
+    let r1 = c .cell-of4 .ensures in
+    four (cell r0 y0 c0 x0) (cell r0 y0 c1 x1) (cell r1 y1 c0 x0) (cell r1 y1 c1 x1)
 
 pub box-cells-spec : {M : Type 1} → statement M
 box-cells-spec =
@@ -186,8 +219,14 @@ box-cells-spec =
     index-1-greatest-8
     index-2-greatest-8
     greatest-requires-2
-    cell-at-requires
-    cell-at-requires-2
-    cell-at-requires-3
-    cell-at-requires-4
+    cell-of-requires
+    cell-of-requires-2
+    cell-of-requires-3
+    mul-r0
+    cell-of-requires-4
+    mul-r1
+    add-t79
+    add-t80
+    add-t81
+    add-t82
     returns)

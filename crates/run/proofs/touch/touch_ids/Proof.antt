@@ -21,11 +21,11 @@ use Rattle.run.proofs.touch.touch_ids.Lts as lts
 use Rattle.run.proofs.touch.touch_one.Reads as touch-one-reads
 
 abbrev Inv-loop : tie.InvT-loop
-Inv-loop q tiles ids n tested₀ touched₀ i₀ tested touched i = (i ≤ length ids) × (length tested ≡ length tested₀) × (length touched ≡ length touched₀)
+Inv-loop q side tiles ids n tested₀ touched₀ i₀ tested touched i = (i ≤ length ids) × (length tested ≡ length tested₀) × (length touched ≡ length touched₀)
     × ((L : ℕ → Bool) → Tested (length tested₀) (λ t. overlapOf q (tileOf tiles t)) L tested₀ touched₀ → Tested (length tested₀) (λ t. overlapOf q (tileOf tiles t)) (λ t. L t || lists (take i ids) t) tested touched)
 
 abbrev μ-loop : tie.MeasureT-loop
-μ-loop q tiles ids n tested₀ touched₀ i₀ tested touched i = length ids - i
+μ-loop q side tiles ids n tested₀ touched₀ i₀ tested touched i = length ids - i
 
 loop-holds : tie.Need-loop-holds Inv-loop μ-loop
 loop-holds c =
@@ -46,7 +46,7 @@ touch-one-requires c κs =
     let l = c .before .before .before .before in
     let s = c .before .before .before .before .before .before .before .before .before in
     let b : getD (s .args .ids .now) (l .loop .i) 0 < s .args .n = ltb-true _ _ (every-at (λ t. ltb t (s .args .n)) (s .args .ids .now) (l .loop .i) (s .pre .1 .1) (c .before .before .before .loop-test .taken)) in
-    ((l .loop .inv .2 ∙ s .pre .0 .0 ∙ sym (l .loop .inv .1), omega (arith, b, s .pre .0 .1, l .loop .inv .1)), omega (arith, b, s .pre .1 .0))
+    ((l .loop .inv .2 ∙ s .pre .0 .0 ∙ sym (l .loop .inv .1), omega (arith, b, s .pre .0 .1, l .loop .inv .1)), (omega (arith, b, s .pre .1 .0), s .pre .1 .2))
 
 add-i : tie.Need-add-i Inv-loop μ-loop
 add-i c = search needs
@@ -62,8 +62,8 @@ loop-again c =
     let ids : List ℕ = c .before .before .before .before .before .before .before .before .before .before .before .before .before .before .args .ids .now in
     let i = l .loop .i in (
       omega arith,
-      t .kept .1 .1 .1 .0 ∙ n .1,
-      t .kept .1 .1 .1 .1 .0 ∙ n .2,
+      t .kept .1 .1 .1 .1 .0 ∙ n .1,
+      t .kept .1 .1 .1 .1 .1 .0 ∙ n .2,
       λ L h. touch-more _ _ _ L (lists (take i ids)) (λ u. eqb u (getD ids i 0)) (lists (take (i + 1) ids)) _ _ _ _ (n .1) (t .ensures) (n .3 L h) (λ u. sym (some-take (eqb u) ids i (c .before .before .before .before .before .before .before .before .loop-test .taken))),
     )
 
