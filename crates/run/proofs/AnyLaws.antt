@@ -2,16 +2,13 @@
 use mathlib.Core.Bool.{Bool, true, false, _||_}
 use mathlib.Core.List.{List}
 use mathlib.Core.Path.{_≡_, refl, sym, ap, ap₂, _∙_}
-use Prim.Native.Nat.{ℕ, zero, suc, _+_, _*_, _/_, _%_, _^_, _≤_, _<_}
+use Prim.Native.Nat.{ℕ, zero, suc, _+_, _*_, _/_, _%_, _^_, _<_}
 use native.Mathlib.Omega.{arith}
 use native.Mathlib.Decide.{ℕ-discrete}
 use lib.Dec.{lit<}
-use lib.ListN.{length, getD, take, drop, length-drop}
-use lib.Seq.{length-take-le}
+use lib.ListN.{getD}
 use Rattle.run.specs.Below.{anyBelow}
 use Rattle.run.specs.Words.{bitOf, member}
-use Rattle.run.specs.Contact.{wheelPart}
-use Rattle.run.specs.Grip.{onRoad}
 use Rattle.run.proofs.Tests.{left-false, right-false, not-false}
 use Rattle.run.proofs.WordLaws.{member-at, word-ext, bit-none}
 
@@ -41,16 +38,3 @@ unfolding member
 none-found ws n z =
     any-none (64 * n) (member ws)
     (λ t h. ap (λ (w : ℕ). bitOf w (t % 64)) (z (t / 64) (omega arith)) ∙ bit-none (t % 64))
-
--- one word more that is 0
-pub zero-more : (ws : List ℕ) (i : ℕ) → ((j : ℕ) → j < i → getD ws j 0 ≡ 0) → getD ws i 0 ≡ 0 → (j : ℕ) → j < i + 1 → getD ws j 0 ≡ 0
-zero-more ws i z e j h =
-    elim (ℕ-discrete j i) [ yes q ↦ ap (λ (x : ℕ). getD ws x 0) q ∙ e | no q ↦ z j (omega arith) ]
-
--- the set of wheel w is the part of k words from word w * m on, where k is m
-pub part-any : (m w k : ℕ) (ws : List ℕ) → k ≡ m → w * m + m ≤ length ws
-    → anyBelow (64 * length (take k (drop (w * m) ws))) (member (take k (drop (w * m) ws))) ≡ onRoad m ws w
-unfolding onRoad wheelPart
-part-any m w k ws e h =
-    ap (λ (j : ℕ). anyBelow (64 * length (take j (drop (w * m) ws))) (member (take j (drop (w * m) ws)))) e
-    ∙ ap (λ (j : ℕ). anyBelow (64 * j) (member (take m (drop (w * m) ws)))) (length-take-le m (drop (w * m) ws) (omega (arith, length-drop (w * m) ws)))

@@ -13,19 +13,19 @@ use Rattle.run.specs.Below.{someOf, everyOf, everyBelow}
 use Rattle.run.specs.Overlap.{leastOn, greatestOn, apartOn, apartAlong, apartByEdges, overlapOf}
 use Rattle.run.specs.Wheel.{quadOf, boxCells}
 use Rattle.run.specs.Touch.{soundCell, soundQuad, soundPoses}
-use Rattle.run.specs.TouchSteps.{sideOn, sideOf, beyond, cellsOf, again}
+use Rattle.run.specs.TouchSteps.{sideAlong, firstSide, beyond, cellsOf, again}
 use Rattle.run.specs.declared.state.Pose.{Pose}
 use Rattle.run.specs.declared.quad.Side.{Side}
 use Rattle.run.proofs.TouchLaws.{some-take, every-take}
 
 -- ---- a wheel's first side
 pub side-is : (nx ny low high : Float) (q : List (List Float)) → low ≡ leastOn nx ny q → high ≡ greatestOn nx ny q
-    → _≡_ {A = Side} (record { nx = nx; ny = ny; low = low; high = high }) (sideOn nx ny q)
+    → _≡_ {A = Side} (record { nx = nx; ny = ny; low = low; high = high }) (sideAlong nx ny q)
 side-is nx ny low high q el eh = λ i. record { nx = nx; ny = ny; low = el i; high = eh i }
 
 -- a quad that lies beyond a wheel's first side does not overlap the wheel
-pub beyond-misses : (s : Side) (q b : List (List Float)) → s ≡ sideOf q → beyond s b ≡ true → overlapOf q b ≡ false
-unfolding overlapOf apartByEdges apartAlong apartOn sideOf beyond
+pub beyond-misses : (s : Side) (q b : List (List Float)) → s ≡ firstSide q → beyond s b ≡ true → overlapOf q b ≡ false
+unfolding overlapOf apartByEdges apartAlong apartOn firstSide beyond
 beyond-misses s q b e h = ap (λ (x : Bool). not ((x || (apartAlong q 1 2 q b || (apartAlong q 2 3 q b || apartAlong q 3 0 q b))) || apartByEdges b q b)) (ap (λ (x : Side). beyond x b) (sym e) ∙ h)
 
 -- ---- a cell again

@@ -16,12 +16,12 @@ use Rattle.run.specs.declared.state.Pose.{Pose}
 use Rattle.run.specs.declared.quad.Side.{Side}
 
 -- the normal (nx, ny) with the quad's own projections on it
-abbrev pub sideOn : Float → Float → List (List Float) → Side
-sideOn nx ny q = record { nx = nx; ny = ny; low = leastOn nx ny q; high = greatestOn nx ny q }
+abbrev pub sideAlong : Float → Float → List (List Float) → Side
+sideAlong nx ny q = record { nx = nx; ny = ny; low = leastOn nx ny q; high = greatestOn nx ny q }
 
 -- the side of a quad's edge from corner 0 to corner 1
-unfoldable pub sideOf : List (List Float) → Side
-sideOf q = sideOn (corner q 1 1 ⊖ corner q 0 1) (corner q 0 0 ⊖ corner q 1 0) q
+unfoldable pub firstSide : List (List Float) → Side
+firstSide q = sideAlong (corner q 1 1 ⊖ corner q 0 1) (corner q 0 0 ⊖ corner q 1 0) q
 
 -- the quad lies apart on the side's normal from the quad that the side is of
 unfoldable pub beyond : Side → List (List Float) → Bool

@@ -5,7 +5,7 @@ ghost use lib.ListN.{length};
 ghost use Rattle.course.specs.Tiles.{corner};
 ghost use Rattle.run.specs.Overlap.{leastOn, greatestOn, apartOn, apartAlong, apartByEdges, overlapOf};
 ghost use Rattle.run.specs.Wheel.{placed, wheelQuad, boxCells};
-ghost use Rattle.run.specs.TouchSteps.{sideOf, beyond, cellsOf};
+ghost use Rattle.run.specs.TouchSteps.{firstSide, beyond, cellsOf};
 use crate::dynamics::SIZE;
 use crate::dynamics::WHEEL_R;
 use crate::state::Pose;
@@ -82,7 +82,7 @@ pub(crate) struct Side {
 
 // The first side of a quad. Made once for a wheel: most tiles of a cell lie apart from the wheel on it.
 pub(crate) fn first_side(q: [[f64; 2]; 4]) -> Side
-    ensures { λ r. ⌜ r ≡ sideOf q ⌝ }
+    ensures { λ r. ⌜ r ≡ firstSide q ⌝ }
 {
     let nx = q[1][1] - q[0][1];
     let ny = q[0][0] - q[1][0];

@@ -11,7 +11,7 @@ ghost use Rattle.run.specs.Words.{setOf};
 ghost use Rattle.run.specs.Overlap.{overlapOf};
 ghost use Rattle.run.specs.Touch.{tileOf, lists, touchedBy, soundCell, soundQuad, soundPoses};
 ghost use Rattle.run.specs.Wheel.{boxCells};
-ghost use Rattle.run.specs.TouchSteps.{sideOf, again, Tested};
+ghost use Rattle.run.specs.TouchSteps.{firstSide, again, Tested};
 use crate::quad;
 use crate::quad::Side;
 use crate::state::Pose;
@@ -109,7 +109,7 @@ fn touch_one(
     touched: &mut [u64],
 )
     requires { ⌜ (length (now touched) ≡ length (now tested)) × (id < 64 * length (now tested)) ⌝ }
-    requires { ⌜ (id * 8 + 8 ≤ length (now tiles)) × (side ≡ sideOf q) ⌝ }
+    requires { ⌜ (id * 8 + 8 ≤ length (now tiles)) × (side ≡ firstSide q) ⌝ }
     ensures { λ _. ⌜ ((L : ℕ → Bool) → Tested (length (now (tested .entry))) (λ t. overlapOf q (tileOf (now (tiles .entry)) t)) L (now (tested .entry)) (now (touched .entry)) → Tested (length (now (tested .entry))) (λ t. overlapOf q (tileOf (now (tiles .entry)) t)) (λ t. L t || eqb t id) (now (tested .exit)) (now (touched .exit))) ⌝ }
 {
     if words::has(tested, id) {
@@ -136,7 +136,7 @@ fn touch_ids(
     touched: &mut [u64],
 )
     requires { ⌜ (length (now touched) ≡ length (now tested)) × (n ≤ 64 * length (now tested)) ⌝ }
-    requires { ⌜ (n * 8 ≤ length (now tiles)) × (everyOf (λ t. ltb t n) (now ids) ≡ true) × (side ≡ sideOf q) ⌝ }
+    requires { ⌜ (n * 8 ≤ length (now tiles)) × (everyOf (λ t. ltb t n) (now ids) ≡ true) × (side ≡ firstSide q) ⌝ }
     ensures { λ _. ⌜ ((L : ℕ → Bool) → Tested (length (now (tested .entry))) (λ t. overlapOf q (tileOf (now (tiles .entry)) t)) L (now (tested .entry)) (now (touched .entry)) → Tested (length (now (tested .entry))) (λ t. overlapOf q (tileOf (now (tiles .entry)) t)) (λ t. L t || lists (now (ids .entry)) t) (now (tested .exit)) (now (touched .exit))) ⌝ }
 {
     let mut i: usize = 0;

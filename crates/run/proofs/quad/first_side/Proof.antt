@@ -1,6 +1,6 @@
 -- `run::quad::first_side` meets its contract. Assumes nothing.
 use Rattle.run.proofs.CellLaws.{side-is}
-use Rattle.run.specs.TouchSteps.{sideOf}
+use Rattle.run.specs.TouchSteps.{firstSide}
 use borrow.Author.Needs.{needs}
 use Rattle.run.proofs.quad.first_side.Statement.{statement}
 use Rattle.run.proofs.quad.first_side.Tie as tie
@@ -40,7 +40,7 @@ greatest-on-requires : tie.Need-greatest-on-requires
 greatest-on-requires c κs = search needs
 
 returns : tie.Need-returns
-unfolding sideOf
+unfolding firstSide
 returns c = side-is _ _ _ _ _ (c .before .least-on .ensures) (c .greatest-on .ensures)
 
 pub first-side-spec : {M : Type 1} → statement M
