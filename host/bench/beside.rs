@@ -86,12 +86,18 @@ pub fn courses(rounds: Rounds) {
     );
 }
 
+/// The tyre pass, which the Rust does in place and the port with the copies of the state.
+pub fn drives(rounds: Rounds) {
+    head("Drives, through the C boundary with the copies of the state", &BESIDE);
+    let ground = Ground::laid(0);
+    for (name, most, gas, omega, action) in [("no wheel slips", 2.0, 0.0, 1.0, 0), ("all wheels slip", 20.0, 0.2, 20.0, 3)] {
+        drive(&format!("tyre pass, drive: {name}"), rounds, &ground, most, [gas, omega], action);
+    }
+}
+
 pub fn runs(rounds: Rounds) {
     head("Runs, through the C boundary with the copies of the state", &BESIDE);
     let grounds: Vec<Ground> = (0..10).map(Ground::laid).collect();
-    for (name, most, gas, omega, action) in [("no wheel slips", 2.0, 0.0, 1.0, 0), ("all wheels slip", 20.0, 0.2, 20.0, 3)] {
-        drive(&format!("tyre pass, drive: {name}"), rounds, &grounds[0], most, [gas, omega], action);
-    }
     settle(rounds, &grounds);
     tick(rounds, &grounds);
 }

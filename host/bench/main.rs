@@ -15,7 +15,7 @@ use clock::Rounds;
 
 const HELP: &str = "usage: host/bench/run [--rounds N] [--only TABLE]
   --rounds N      rounds of each row (default 41)
-  --only TABLE    one table alone: numbers, course, run, growth
+  --only TABLE    one table alone: numbers, course, drive, run, growth
 Exit status 0, or 2 for a wrong argument. A row whose two sides answer differently ends the program.";
 
 fn wrong(text: &str) -> ! {
@@ -34,8 +34,13 @@ fn main() {
             _ => wrong(&format!("no flag {flag:?}")),
         }
     }
-    let tables: [(&str, fn(Rounds)); 4] =
-        [("numbers", beside::numbers), ("course", beside::courses), ("run", beside::runs), ("growth", growth::tables)];
+    let tables: [(&str, fn(Rounds)); 5] = [
+        ("numbers", beside::numbers),
+        ("course", beside::courses),
+        ("drive", beside::drives),
+        ("run", beside::runs),
+        ("growth", growth::tables),
+    ];
     if let Some(name) = &only {
         if tables.iter().all(|t| t.0 != name) {
             wrong(&format!("no table {name:?}"));

@@ -9,7 +9,7 @@ const HELP: &str = "\
 grade bench [SEED] [--json]: how long the grader's calls take
 
 Times laying the course of a seed (0 if none is given), and start, drive and settle over the demo's run on it, each through the C
-boundary: the median of 21 rounds, in nanoseconds a call. For port and Rust side by side see host/compare.
+boundary: the median of 21 rounds, in nanoseconds a call. For port and Rust side by side see host/bench.
 
   --json       one JSON object in place of the text
 ";
