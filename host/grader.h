@@ -19,6 +19,9 @@
  * entries were the most of 200,000 seeds, and cause 3 answers the length needed. */
 enum { GRADER_POINTS = 2500, GRADER_TILES = 20000, GRADER_OFFSETS = 4490, GRADER_MARKS = 2500 };
 
+/* Words of a run's sets: the credited tiles, and four times as many for the wheels. */
+enum { GRADER_CREDITED = 40, GRADER_WHEELS = 160 };
+
 /* Why a call is refused. */
 enum {
     GRADER_SETTINGS = 1,    /* lap share NaN or outside 0 to 1; tick limit outside 1 to 1,000,000 */
@@ -41,7 +44,8 @@ typedef struct { double tile, step, off_playfield; } grader_weights;
 typedef struct { grader_pose wheels[4]; } grader_poses;     /* front left, front right, rear left, rear right */
 typedef struct { grader_motion wheels[4]; } grader_motions;
 
-/* The state of a run. Keep it as it is and pass on what the last call returned. */
+/* The state of a run. Keep it as it is: a drive or settle is lent its sets where they stand (a drive reads those of the wheels, a
+ * settle changes both), and returns the rest, to be stored as its core. Sets of other lengths are no run's and refused by 4. */
 typedef struct {
     uint32_t n, visited_count, tick, tick_limit;
     double lap_share;
@@ -51,15 +55,15 @@ typedef struct {
 } grader_core;
 typedef struct {
     grader_core core;
-    uint64_t credited[40];
-    uint64_t wheels[160];
+    uint64_t credited[GRADER_CREDITED];
+    uint64_t wheels[GRADER_WHEELS];
 } grader_run;
 
 typedef struct { uint32_t cause, n, entries; bool fallback; double beta, x, y; } grader_laid; /* beta, x, y: the first point */
 typedef struct { uint32_t cause, count; } grader_curbs_found;
 typedef struct { uint32_t cause, count; bool lap; grader_run run; } grader_started;
-typedef struct { uint32_t cause; grader_force forces[4]; grader_run run; } grader_driven;
-typedef struct { uint32_t cause, new_tiles, n; bool off, lap, ended; grader_run run; } grader_settled;
+typedef struct { uint32_t cause; grader_force forces[4]; grader_core core; } grader_driven;
+typedef struct { uint32_t cause, new_tiles, n; bool off, lap, ended; grader_core core; } grader_settled;
 typedef struct { uint32_t cause, tick, credited, n, share; bool lap, ended, fallback; } grader_figures;
 typedef struct { grader_laid laid; uint32_t start_cause, start_count; bool start_lap; grader_figures sheet; } grader_replayed;
 typedef struct { uint32_t cause; double value; } grader_angle;
@@ -79,8 +83,8 @@ grader_curbs_found grader_curbs(IN(double, beta), IN(double, x), IN(double, y), 
 /* A run: start (causes 1, 2, 8, 10), then drive (4, 5, 6, 7, 8) and settle (4, 5, 6, 2, 8, 10) in turn, with the host's
  * physics between them; sheet (4) at any time. */
 grader_started grader_start(COURSE_IN, uint32_t n, bool fallback, double lap_share, uint32_t tick_limit, grader_poses poses);
-grader_driven grader_drive(grader_run run, uint32_t action, grader_motions motions);
-grader_settled grader_settle(grader_run run, COURSE_IN, double hull_x, double hull_y, grader_poses poses);
+grader_driven grader_drive(grader_core core, IN(uint64_t, wheels), uint32_t action, grader_motions motions);
+grader_settled grader_settle(grader_core core, OUT(uint64_t, credited), OUT(uint64_t, wheels), COURSE_IN, double hull_x, double hull_y, grader_poses poses);
 grader_figures grader_sheet(grader_run run);
 double grader_reward(grader_weights weights, uint32_t new_tiles, uint32_t n, bool off);
 

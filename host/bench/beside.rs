@@ -86,9 +86,9 @@ pub fn courses(rounds: Rounds) {
     );
 }
 
-/// The tyre pass, which the Rust does in place and the port with the copies of the state.
+/// The tyre pass, which the Rust does in place; the port's state goes in and out by value but for its sets, which are lent.
 pub fn drives(rounds: Rounds) {
-    head("Drives, through the C boundary with the copies of the state", &BESIDE);
+    head("Drives, through the C boundary", &BESIDE);
     let ground = Ground::laid(0);
     for (name, most, gas, omega, action) in [("no wheel slips", 2.0, 0.0, 1.0, 0), ("all wheels slip", 20.0, 0.2, 20.0, 3)] {
         drive(&format!("tyre pass, drive: {name}"), rounds, &ground, most, [gas, omega], action);
@@ -96,7 +96,7 @@ pub fn drives(rounds: Rounds) {
 }
 
 pub fn runs(rounds: Rounds) {
-    head("Runs, through the C boundary with the copies of the state", &BESIDE);
+    head("Runs, through the C boundary", &BESIDE);
     let grounds: Vec<Ground> = (0..10).map(Ground::laid).collect();
     settle(rounds, &grounds);
     tick(rounds, &grounds);
@@ -131,7 +131,7 @@ fn drive(name: &str, rounds: Rounds, ground: &Ground, most: f64, [gas, omega]: [
         run.core.ctl.iter_mut().for_each(|c| (c.gas, c.omega) = (gas, omega));
         let t = each(here.len(), || {
             for m in &here {
-                run = port::drive(run, action, *m).run;
+                black_box(&port::drive(&mut run, action, *m).forces);
                 run.core.driven = false;
             }
         });
@@ -169,8 +169,7 @@ fn settle(rounds: Rounds, grounds: &[Ground]) {
         let t = each(total, || {
             for ((run, g), cars) in runs.iter_mut().zip(grounds).zip(&here) {
                 for p in &cars[1..] {
-                    let s = port::settle(*run, g.course(), HULL.x, HULL.y, *p);
-                    *run = s.run;
+                    let s = port::settle(run, g.course(), HULL.x, HULL.y, *p);
                     run.core.driven = true;
                     new += s.new_tiles;
                 }
@@ -215,10 +214,8 @@ fn tick(rounds: Rounds, grounds: &[Ground]) {
         let t = each(total, || {
             for ((run, g), cars) in runs.iter_mut().zip(grounds).zip(&cars) {
                 for (j, p) in cars.iter().enumerate().skip(1) {
-                    let d = port::drive(*run, (j % 5) as u32, here[j % here.len()]);
-                    black_box(&d.forces);
-                    let s = port::settle(d.run, g.course(), HULL.x, HULL.y, *p);
-                    *run = s.run;
+                    black_box(&port::drive(run, (j % 5) as u32, here[j % here.len()]).forces);
+                    let s = port::settle(run, g.course(), HULL.x, HULL.y, *p);
                     new += s.new_tiles;
                     ticks += 1;
                     if s.ended {

@@ -15,9 +15,12 @@ int main(void) {
         still.wheels[i].cos = 1;
     }
     grader_started s = grader_start(tiles, GRADER_TILES, offsets, GRADER_OFFSETS, list, c.entries, c.n, c.fallback, 0.95, 1000, car);
-    grader_driven d = grader_drive(s.run, 3, still);
-    grader_settled t = grader_settle(d.run, tiles, GRADER_TILES, offsets, GRADER_OFFSETS, list, c.entries, c.x, c.y, car);
-    grader_figures f = grader_sheet(t.run);
+    grader_run run = s.run;
+    grader_driven d = grader_drive(run.core, run.wheels, GRADER_WHEELS, 3, still);
+    run.core = d.core;
+    grader_settled t = grader_settle(run.core, run.credited, GRADER_CREDITED, run.wheels, GRADER_WHEELS, tiles, GRADER_TILES, offsets, GRADER_OFFSETS, list, c.entries, c.x, c.y, car);
+    run.core = t.core;
+    grader_figures f = grader_sheet(run);
     printf("%u tiles, %u at the start, force %.3f, %u new, tick %u, share %u\n", c.n, s.count, d.forces[2].fy, t.new_tiles, f.tick, f.share);
     return s.cause || d.cause || t.cause || f.cause || f.tick != 1;
 }

@@ -48,6 +48,11 @@ fn port_poses(poses: &[Pose; 4]) -> [port::Pose; 4] {
     poses.map(|p| port::Pose { x: p.x, y: p.y, cos: p.cos, sin: p.sin })
 }
 
+/// The model's columns in the lengths that they are lent in.
+fn lent_part(m: &Model, lent: [usize; 3]) -> Columns<'_> {
+    Columns { tiles: &m.tiles[..lent[0]], offsets: &m.offsets[..lent[1]], list: &m.ids[..lent[2]] }
+}
+
 /// A run that goes on in both: the port's state, and the model with the columns and its own.
 struct Both<'a> {
     t: &'a mut Tally,
@@ -58,9 +63,6 @@ struct Both<'a> {
 }
 
 impl Both<'_> {
-    fn course(&self, lent: [usize; 3]) -> Columns<'_> {
-        Columns { tiles: &self.model.tiles[..lent[0]], offsets: &self.model.offsets[..lent[1]], list: &self.model.ids[..lent[2]] }
-    }
     fn whole(&self) -> [usize; 3] {
         [self.model.tiles.len(), self.model.offsets.len(), self.model.ids.len()]
     }
@@ -70,7 +72,7 @@ impl Both<'_> {
         self.calls += 1;
     }
     fn start(&mut self, b: &Begin, poses: &[Pose; 4]) -> bool {
-        let answer = port::start(self.course(b.lent), b.n, b.fallback, b.share, b.limit, port_poses(poses));
+        let answer = port::start(lent_part(&self.model, b.lent), b.n, b.fallback, b.share, b.limit, port_poses(poses));
         let cause = self.model.start(b, poses) as u32;
         let s = &self.model.state;
         let same = (answer.cause, answer.count, answer.lap) == (cause, s.count, s.lap) && same_state(&answer.run, s);
@@ -81,23 +83,22 @@ impl Both<'_> {
     }
     fn drive(&mut self, action: u32, m: &[Motion; 4]) {
         let motions = m.map(|m| port::Motion { joint_angle: m.joint_angle, sin: m.sin, cos: m.cos, vx: m.vx, vy: m.vy });
-        let answer = port::drive(self.run, action, motions);
+        let answer = port::drive(&mut self.run, action, motions);
         let (cause, push) = self.model.drive(action, m);
         let forces = |(f, p): (&port::Force, &oracle::Push)| [f.motor, f.fx, f.fy].map(bits) == [p.motor, p.fx, p.fy].map(bits);
-        let same = answer.cause == cause as u32 && answer.forces.iter().zip(&push).all(forces) && same_state(&answer.run, &self.model.state);
-        self.run = answer.run;
+        let same = answer.cause == cause as u32 && answer.forces.iter().zip(&push).all(forces) && same_state(&self.run, &self.model.state);
         let what = if cause == 0 { "drive" } else { "drive, refused" };
         self.check(what, same, || format!("cause {}, not {cause}; action {action} {m:?}", answer.cause));
     }
     fn settle(&mut self, lent: [usize; 3], x: f64, y: f64, poses: &[Pose; 4]) {
-        let answer = port::settle(self.run, self.course(lent), x, y, port_poses(poses));
+        let Both { model, run, .. } = self;
+        let answer = port::settle(run, lent_part(model, lent), x, y, port_poses(poses));
         let (cause, said) = match self.model.settle(lent, x, y, poses) {
             Ok(e) => (0, (e.new_tiles, e.n, e.off, e.lap, e.ended)),
             Err(cause) => (cause as u32, (0, 0, false, false, false)),
         };
         let given = (answer.new_tiles, answer.n, answer.off, answer.lap, answer.ended);
-        let same = answer.cause == cause && given == said && same_state(&answer.run, &self.model.state);
-        self.run = answer.run;
+        let same = answer.cause == cause && given == said && same_state(&self.run, &self.model.state);
         let what = if cause == 0 { "settle" } else { "settle, refused" };
         self.check(what, same, || format!("cause {} {given:?}, not {cause} {said:?}; hull {x:?} {y:?} lent {lent:?} {poses:?}", answer.cause));
     }

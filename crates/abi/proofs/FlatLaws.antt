@@ -9,15 +9,15 @@ use Rattle.course.specs.Curbs.{Edged, edged}
 use Rattle.course.specs.declared.checkpoints.Checkpoint.{Checkpoint}
 use Rattle.course.specs.declared.points.Laid.{Laid}
 use Rattle.course.specs.declared.curbs.CurbAnswer.{CurbAnswer}
-use Rattle.run.specs.State.{view}
+use Rattle.run.specs.State.{State, view}
 use Rattle.run.specs.Start.{Begun, begun}
 use Rattle.run.specs.Settle.{Done, done}
 use Rattle.run.specs.Batch.{Replay, replay}
+use Rattle.run.specs.declared.state.Core.{Core}
 use Rattle.run.specs.declared.state.Run.{Run}
 use Rattle.run.specs.declared.dynamics.Force.{Force}
 use Rattle.run.specs.declared.start.StartAnswer.{StartAnswer}
-use Rattle.run.specs.declared.drive.Drove.{Drove}
-use Rattle.run.specs.declared.drive.DriveAnswer.{DriveAnswer}
+use Rattle.run.specs.declared.drive.CoreDrove.{CoreDrove}
 use Rattle.run.specs.declared.settle.SettleAnswer.{SettleAnswer}
 use Rattle.run.specs.declared.sheet.SheetAnswer.{SheetAnswer}
 use Rattle.run.specs.Drive.{driveCauseOf}
@@ -60,25 +60,25 @@ started-flat a r = refl
 pub started-whole : (f : FlatBegun) (a : StartAnswer) (r : Run) (b : Begun) → f ≡ flatBegun a → begun a (view r) ≡ b → startedFrom f r ≡ flatStarted b
 started-whole f a r b e p = ap (λ (g : FlatBegun). startedFrom g r) e ∙ started-flat a r ∙ ap flatStarted p
 
-abbrev drivenFrom : ℕ → List Force → Run → FlatDriven
-drivenFrom k fs r = record { cause = k; forces = fs; run = r }
+abbrev drivenFrom : ℕ → List Force → Core → FlatDriven
+drivenFrom k fs s = record { cause = k; forces = fs; core = s }
 
-driven-flat : (d : Drove) → drivenFrom (driveCauseOf (d .answer)) (d .forces) (d .run) ≡ flatDriven d
+driven-flat : (d : CoreDrove) → drivenFrom (driveCauseOf (d .answer)) (d .forces) (d .core) ≡ flatDriven d
 unfolding flatDriven
 driven-flat d = refl
 
-pub driven-whole : (k : ℕ) (d e : Drove) → k ≡ driveCauseOf (d .answer) → d ≡ e → drivenFrom k (d .forces) (d .run) ≡ flatDriven e
-driven-whole k d e q p = ap (λ (j : ℕ). drivenFrom j (d .forces) (d .run)) q ∙ driven-flat d ∙ ap flatDriven p
+pub driven-whole : (k : ℕ) (d e : CoreDrove) → k ≡ driveCauseOf (d .answer) → d ≡ e → drivenFrom k (d .forces) (d .core) ≡ flatDriven e
+driven-whole k d e q p = ap (λ (j : ℕ). drivenFrom j (d .forces) (d .core)) q ∙ driven-flat d ∙ ap flatDriven p
 
-abbrev settledFrom : FlatSettle → Run → FlatSettled
-settledFrom f r = record { cause = f .cause; «new_tiles» = f .«new_tiles»; n = f .n; off = f .off; lap = f .lap; ended = f .ended; run = r }
+abbrev settledFrom : FlatSettle → Core → FlatSettled
+settledFrom f s = record { cause = f .cause; «new_tiles» = f .«new_tiles»; n = f .n; off = f .off; lap = f .lap; ended = f .ended; core = s }
 
-settled-flat : (a : SettleAnswer) (r : Run) → settledFrom (flatSettle a) r ≡ flatSettled (done a (view r))
-unfolding flatSettle flatSettled runOf view
-settled-flat a r = refl
+settled-flat : (a : SettleAnswer) (s : State) → settledFrom (flatSettle a) (s .core) ≡ flatSettled (done a s)
+unfolding flatSettle flatSettled
+settled-flat a s = refl
 
-pub settled-whole : (f : FlatSettle) (a : SettleAnswer) (r : Run) (d : Done) → f ≡ flatSettle a → done a (view r) ≡ d → settledFrom f r ≡ flatSettled d
-settled-whole f a r d e p = ap (λ (g : FlatSettle). settledFrom g r) e ∙ settled-flat a r ∙ ap flatSettled p
+pub settled-whole : (f : FlatSettle) (a : SettleAnswer) (s : State) (d : Done) → f ≡ flatSettle a → done a s ≡ d → (settledFrom f (s .core) ≡ flatSettled d) × (s ≡ d .state)
+settled-whole f a s d e p = (ap (λ (g : FlatSettle). settledFrom g (s .core)) e ∙ settled-flat a s ∙ ap flatSettled p, ap (λ (z : Done). z .state) p)
 
 -- ---- a whole replay
 

@@ -19,7 +19,7 @@ use Rattle.run.specs.Sheet.{sheetCauseOf, sheetFiguresOf}
 use Rattle.run.specs.Batch.{Replay}
 use Rattle.run.specs.declared.state.Run.{Run}
 use Rattle.run.specs.declared.start.StartAnswer.{StartAnswer}
-use Rattle.run.specs.declared.drive.Drove.{Drove}
+use Rattle.run.specs.declared.drive.CoreDrove.{CoreDrove}
 use Rattle.run.specs.declared.settle.SettleAnswer.{SettleAnswer}
 use Rattle.run.specs.declared.sheet.SheetAnswer.{SheetAnswer}
 use Rattle.abi.specs.declared.flat.FlatLaid.{FlatLaid}
@@ -102,8 +102,9 @@ flatBegun a = record { cause = startCauseOf a; count = startCountOf a; lap = sta
 unfoldable pub flatStarted : Begun → FlatStarted
 flatStarted b = record { cause = startCauseOf (b .answer); count = startCountOf (b .answer); lap = startLapOf (b .answer); run = runOf (b .state) }
 
-unfoldable pub flatDriven : Drove → FlatDriven
-flatDriven d = record { cause = driveCauseOf (d .answer); forces = d .forces; run = d .run }
+-- the sets of a drive and of a settle are lent: what is passed back is the state but for them
+unfoldable pub flatDriven : CoreDrove → FlatDriven
+flatDriven d = record { cause = driveCauseOf (d .answer); forces = d .forces; core = d .core }
 
 unfoldable pub flatSettle : SettleAnswer → FlatSettle
 flatSettle a =
@@ -125,7 +126,7 @@ flatSettled d =
       off = settleOffOf (d .answer);
       lap = settleLapOf (d .answer);
       ended = settleEndedOf (d .answer);
-      run = runOf (d .state);
+      core = d .state .core;
     }
 
 unfoldable pub flatSheet : SheetAnswer → FlatSheet

@@ -13,6 +13,7 @@ use run::replay::Replayed;
 use run::settle::SettleAnswer;
 use run::sheet::SheetAnswer;
 use run::start::StartAnswer;
+use run::state::Core;
 use run::state::Pose;
 use run::state::Run;
 
@@ -44,15 +45,15 @@ pub struct FlatStarted {
     pub run: Run,
 }
 
-// What drive answers, and the state after.
+// What drive answers, and the state after but for the sets, which it leaves.
 #[repr(C)]
 pub struct FlatDriven {
     pub cause: u32,
     pub forces: [Force; 4],
-    pub run: Run,
+    pub core: Core,
 }
 
-// What settle answers, and the state after.
+// What settle answers, and the state after but for the sets, which it changes where they stand.
 #[repr(C)]
 pub struct FlatSettled {
     pub cause: u32,
@@ -61,7 +62,7 @@ pub struct FlatSettled {
     pub off: bool,
     pub lap: bool,
     pub ended: bool,
-    pub run: Run,
+    pub core: Core,
 }
 
 // The run sheet.

@@ -2,10 +2,10 @@
 ghost use mathlib.Core.Path.{_≡_};
 ghost use Rattle.course.specs.Lent.{lent};
 ghost use Rattle.run.specs.Widths.{fullWords, mostTiles};
-ghost use Rattle.run.specs.State.{view, columns};
+ghost use Rattle.run.specs.State.{stateOf, columns};
 ghost use Rattle.run.specs.Start.{startOf};
-ghost use Rattle.run.specs.Drive.{driveOf};
-ghost use Rattle.run.specs.Settle.{settleOf};
+ghost use Rattle.run.specs.Drive.{driveSetsOf};
+ghost use Rattle.run.specs.Settle.{settleSetsOf};
 ghost use Rattle.run.specs.Sheet.{sheetOf};
 ghost use Rattle.run.specs.Reward.{rewardOf};
 ghost use Rattle.run.specs.Batch.{replayOf};
@@ -19,13 +19,13 @@ use crate::flat::FlatStarted;
 use crate::flat::Motions;
 use crate::flat::Poses;
 use run::drive;
-use run::dynamics::Force;
 use run::replay;
 use run::reward;
 use run::reward::Weights;
 use run::settle;
 use run::sheet;
 use run::start;
+use run::state::Core;
 use run::state::Run;
 
 // The figures of a run, ended or not.
@@ -71,44 +71,36 @@ pub extern "C" fn grader_start(
     }
 }
 
-// Forces for the host; none, and the state as it was, where it is refused.
+// Forces for the host, and the state but for its sets, which a drive only reads; no forces, and the state as it was, where it
+// is refused.
 #[no_mangle]
-pub extern "C" fn grader_drive(run: Run, action: u32, motions: Motions) -> FlatDriven
-    ensures { λ r. ⌜ r ≡ flatDriven (driveOf fullWords mostTiles run action (motions .wheels)) ⌝ }
+pub extern "C" fn grader_drive(
+    core: Core,
+    wheels: &[u64],
+    action: u32,
+    motions: Motions,
+) -> FlatDriven
+    ensures { λ r. ⌜ r ≡ flatDriven (driveSetsOf fullWords mostTiles core (now (wheels .entry)) action (motions .wheels)) ⌝ }
 {
     let given = motions.wheels;
-    let c = drive::drive_change(run, action, given);
-    let answer = c.answer;
-    let forces = c.forces;
-    let core = run.core;
-    let next = drive::changed_core(core, c);
-    let credited = run.credited;
-    let wheels = run.wheels;
-    let after = Run {
-        core: next,
-        credited,
-        wheels,
-    };
-    let z = Force {
-        motor: 0.0,
-        fx: 0.0,
-        fy: 0.0,
-    };
-    let mut driven = FlatDriven {
+    let d = drive::drive_in_place(core, wheels, action, given);
+    let answer = d.answer;
+    let forces = d.forces;
+    let next = d.core;
+    FlatDriven {
         cause: flat::drive_cause(answer),
-        forces: [z, z, z, z],
-        run: after,
-    };
-    // Over numbers that are set one by one the compiler moves the forces number by number, else as bytes from the
-    // cause on, across the numbers just stored.
-    driven.forces = forces;
-    driven
+        forces,
+        core: next,
+    }
 }
 
-// The contact after physics; the state as it was where it is refused.
+// The contact after physics, and the state but for its sets, which are changed where they stand; the state as it was where it
+// is refused.
 #[no_mangle]
 pub extern "C" fn grader_settle(
-    run: Run,
+    core: Core,
+    credited: &mut [u64],
+    wheels: &mut [u64],
     tiles: &[f64],
     offsets: &[u32],
     list: &[u32],
@@ -116,31 +108,14 @@ pub extern "C" fn grader_settle(
     y: f64,
     poses: Poses,
 ) -> FlatSettled
-    ensures { λ r. ⌜ r ≡ flatSettled (settleOf fullWords mostTiles (view run) (columns (now (tiles .entry)) (now (offsets .entry)) (now (list .entry))) x y (poses .wheels)) ⌝ }
+    ensures { λ r. ⌜ r ≡ flatSettled (settleSetsOf fullWords mostTiles (stateOf core (now (credited .entry)) (now (wheels .entry))) (columns (now (tiles .entry)) (now (offsets .entry)) (now (list .entry))) x y (poses .wheels)) ⌝ }
+    ensures { λ r. ⌜ stateOf (r .core) (now (credited .exit)) (now (wheels .exit)) ≡ settleSetsOf fullWords mostTiles (stateOf core (now (credited .entry)) (now (wheels .entry))) (columns (now (tiles .entry)) (now (offsets .entry)) (now (list .entry))) x y (poses .wheels) .state ⌝ }
 {
     let given = poses.wheels;
-    let mut credited = run.credited;
-    let mut wheels = run.wheels;
-    let core = run.core;
-    let c = settle::settle_in_place(
-        core,
-        &mut credited,
-        &mut wheels,
-        tiles,
-        offsets,
-        list,
-        x,
-        y,
-        given,
-    );
+    let c = settle::settle_in_place(core, credited, wheels, tiles, offsets, list, x, y, given);
     let answer = c.answer;
+    let next = c.core;
     let f = flat::settle(answer);
-    let next = settle::settle_changed(core, c);
-    let after = Run {
-        core: next,
-        credited,
-        wheels,
-    };
     FlatSettled {
         cause: f.cause,
         new_tiles: f.new_tiles,
@@ -148,7 +123,7 @@ pub extern "C" fn grader_settle(
         off: f.off,
         lap: f.lap,
         ended: f.ended,
-        run: after,
+        core: next,
     }
 }
 

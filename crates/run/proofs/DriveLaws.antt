@@ -1,9 +1,12 @@
 -- What a drive keeps: a refused one leaves the state as it was, an accepted one changes the turn, the controls and the fuel spent alone.
 -- For any number of words. Assumes nothing.
 use mathlib.Core.Path.{_≡_, refl, sym, ap, _∙_}
+use mathlib.Core.Bool.{Bool, cond}
 use mathlib.Core.List.{List}
-use Prim.Native.Nat.{ℕ, zero, suc}
-use Rattle.run.specs.Drive.{driveCause, driveAt, drivenOf, coreDriveOf, changeOf, changedBy, driveOf, driveCauseOf}
+use Prim.Native.Nat.{ℕ, zero, suc, _*_}
+use lib.ListN.{length}
+use borrow.Author.Tests.{eq-eqb, ne-eqb}
+use Rattle.run.specs.Drive.{driveCause, refusedDrive, driveAt, drivenOf, coreDriveOf, driveSetsOf, driveOf, driveCauseOf}
 use Rattle.run.specs.Grip.{roadsOf}
 use Rattle.run.specs.Pass.{noForces}
 use Rattle.run.specs.declared.state.Core.{Core}
@@ -11,14 +14,13 @@ use Rattle.run.specs.declared.state.Run.{Run}
 use Rattle.run.specs.declared.dynamics.Motion.{Motion}
 use Rattle.run.specs.declared.drive.Passed.{Passed}
 use Rattle.run.specs.declared.drive.CoreDrove.{CoreDrove}
-use Rattle.run.specs.declared.drive.Change.{Change}
 use Rattle.run.specs.declared.drive.Drove.{Drove}
 use Rattle.run.specs.declared.drive.DriveAnswer.the-variants.{Refused}
 
 -- ---- by the cause's number
 
 -- a number that is not 0 refuses
-pub refused-at : (k : ℕ) (s : Core) (p : Passed) → (k ≡ 0 → ⊥) → record { answer = Refused k; forces = noForces; core = s } ≡ driveAt k s p
+pub refused-at : (k : ℕ) (s : Core) (p : Passed) → (k ≡ 0 → ⊥) → refusedDrive k s ≡ driveAt k s p
 unfolding driveAt
 refused-at zero s p z = absurd (z refl)
 refused-at (suc k) s p z = refl
@@ -51,9 +53,19 @@ unfolding driveAt drivenOf
 turned-at zero s p = refl
 turned-at (suc k) s p = refl
 
--- the call put together from what it changes, around the core with the change made
-abbrev pub droveFrom : Run → Core → Change → Drove
-droveFrom run s c = record { answer = c .answer; forces = c .forces; run = record { core = s; credited = run .credited; wheels = run .wheels } }
+-- ---- lent sets
+
+module _ (m most : ℕ) (s : Core) (wheels : List ℕ) (action : ℕ) (ms : List Motion) where
+  pub sets-full : length wheels ≡ 4 * m → driveSetsOf m most s wheels action ms ≡ coreDriveOf most s action ms (roadsOf m wheels)
+  unfolding driveSetsOf
+  sets-full l = ap (λ (b : Bool). cond b (coreDriveOf most s action ms (roadsOf m wheels)) (refusedDrive 4 s)) (eq-eqb (length wheels) (4 * m) l)
+
+  pub sets-driven : (d : CoreDrove) (roads : List Bool) → length wheels ≡ 4 * m → roads ≡ roadsOf m wheels → d ≡ coreDriveOf most s action ms roads → d ≡ driveSetsOf m most s wheels action ms
+  sets-driven d roads l r e = e ∙ ap (λ (b : List Bool). coreDriveOf most s action ms b) r ∙ sym (sets-full l)
+
+  pub sets-other : (length wheels ≡ 4 * m → ⊥) → driveSetsOf m most s wheels action ms ≡ refusedDrive 4 s
+  unfolding driveSetsOf
+  sets-other l = ap (λ (b : Bool). cond b (coreDriveOf most s action ms (roadsOf m wheels)) (refusedDrive 4 s)) (ne-eqb (length wheels) (4 * m) l)
 
 -- ---- the call
 
@@ -77,12 +89,11 @@ module _ (m most : ℕ) (run : Run) (action : ℕ) (ms : List Motion) where
       keep : Core → Run
       keep s = record { core = s; credited = run .credited; wheels = run .wheels }
 
-  whole : droveFrom run (changedBy (run .core) (changeOf (coreDriveOf most (run .core) action ms (roadsOf m (run .wheels))))) (changeOf (coreDriveOf most (run .core) action ms (roadsOf m (run .wheels)))) ≡ driveOf m most run action ms
-  unfolding changeOf changedBy driveOf coreDriveOf
-  whole = ap (λ (s : Core). droveFrom run s (changeOf (coreDriveOf most (run .core) action ms (roadsOf m (run .wheels))))) (sym (turned-at _ _ _))
-
-  pub drove-from : (s : Core) (c : Change)
-      → s ≡ changedBy (run .core) c
-      → c ≡ changeOf (coreDriveOf most (run .core) action ms (roadsOf m (run .wheels)))
-      → droveFrom run s c ≡ driveOf m most run action ms
-  drove-from s c p e = ap (λ (t : Core). droveFrom run t c) p ∙ ap (λ (z : Change). droveFrom run (changedBy (run .core) z) z) e ∙ whole
+  -- sets of the full widths: the call on the whole state, put together around the core that it leaves
+  pub drove-from : (d : CoreDrove) → length (run .wheels) ≡ 4 * m → d ≡ driveSetsOf m most (run .core) (run .wheels) action ms
+      → record { answer = d .answer; forces = d .forces; run = record { core = d .core; credited = run .credited; wheels = run .wheels } } ≡ driveOf m most run action ms
+  unfolding driveOf
+  drove-from d l e = ap whole (e ∙ sets-full m most (run .core) (run .wheels) action ms l)
+    where
+      whole : CoreDrove → Drove
+      whole z = record { answer = z .answer; forces = z .forces; run = record { core = z .core; credited = run .credited; wheels = run .wheels } }

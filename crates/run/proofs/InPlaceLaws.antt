@@ -2,20 +2,17 @@
 use mathlib.Core.Bool.{Bool, true, false, cond, not, _&&_, true≢false}
 use mathlib.Core.List.{List, _++_, append-nil}
 use mathlib.Core.Path.{_≡_, refl, sym, ap, ap₂, _∙_, subst}
-use Prim.Native.Nat.{ℕ, zero, suc, _*_, _≤_}
+use Prim.Native.Nat.{ℕ, _*_, _≤_}
 use native.Mathlib.Omega.{arith}
 use lib.Dec.{eqb}
 use lib.ListN.{length, take, drop, drop-of-length-le}
 use lib.Seq.{take-all}
 use lib.Ieee.{Float}
 use borrow.Author.Tests.{eq-eqb, eqb-true}
-use Rattle.run.specs.State.{State, stateOf, Columns, fullSets}
+use Rattle.run.specs.State.{State, Columns, fullSets}
 use Rattle.run.specs.Contact.{Contacted, contacted, contactOf}
-use Rattle.run.specs.Settle.{settledCore, Done, done, settledBy, settleAt, settleOf, settleCause, settleChangeOf, settleChanged, SetsSettled, setsSettled, settledSets, settleSetsOf}
-use Rattle.run.specs.declared.state.Core.{Core}
+use Rattle.run.specs.Settle.{Done, done, settleOf, settleSetsOf}
 use Rattle.run.specs.declared.state.Pose.{Pose}
-use Rattle.run.specs.declared.settle.SettleChange.{SettleChange}
-use Rattle.run.specs.declared.settle.SettleAnswer.{SettleAnswer}
 use Rattle.run.specs.declared.settle.SettleAnswer.the-variants.{Refused}
 use Rattle.run.proofs.ContactLaws.{full-passed}
 
@@ -62,45 +59,19 @@ full-of m c w p q = ap₂ (λ (a b : Bool). a && b) (eq-eqb c m p) (eq-eqb w (4 
 
 -- ---- settle
 
--- what a settle leaves of the core is its change
-changed-at : (m k : ℕ) (s : State) (l : Columns) (x y : Float) (ps : List Pose)
-    → settleAt m k s l x y ps .state .core ≡ settleChanged (s .core) (settleChangeOf (settleAt m k s l x y ps .answer) (settleAt m k s l x y ps .state .core))
-unfolding settleAt settledBy settledCore settleChangeOf settleChanged
-changed-at m zero s l x y ps = refl
-changed-at m (suc k) s l x y ps = refl
-
 module _ (m most : ℕ) (s : State) (l : Columns) (x y : Float) (ps : List Pose) where
   -- the call by whether the sets have their widths
-  abbrev byWidths : Bool → SetsSettled
-  byWidths b = settledSets (cond b (settleOf m most s l x y ps) (done (Refused 4) s))
+  abbrev byWidths : Bool → Done
+  byWidths b = cond b (settleOf m most s l x y ps) (done (Refused 4) s)
 
-  pub settle-narrow : (r : SettleChange) → fullSets m (length (s .credited)) (length (s .wheels)) ≡ false → r ≡ settleChangeOf (Refused 4) (s .core)
-      → setsSettled r (s .credited) (s .wheels) ≡ settleSetsOf m most s l x y ps
-  unfolding settleSetsOf settledSets
-  settle-narrow r h e = ap (λ (c : SettleChange). setsSettled c (s .credited) (s .wheels)) e ∙ ap byWidths (sym h)
-
-  pub settle-wide : (r : SettleChange) (a : SettleAnswer) (t : Core) (cs ws : List ℕ) → fullSets m (length (s .credited)) (length (s .wheels)) ≡ true → r ≡ settleChangeOf a t
-      → done a (stateOf t cs ws) ≡ settleOf m most s l x y ps
-      → setsSettled r cs ws ≡ settleSetsOf m most s l x y ps
-  unfolding settleSetsOf settledSets
-  settle-wide r a t cs ws h e p = ap (λ (c : SettleChange). setsSettled c cs ws) e ∙ ap settledSets p ∙ ap byWidths (sym h)
-
-  -- a change and sets, put together around the core before
-  abbrev together : SetsSettled → Done
-  together z = done (z .change .answer) (stateOf (settleChanged (s .core) (z .change)) (z .credited) (z .wheels))
-
-  together-is : together (settledSets (settleOf m most s l x y ps)) ≡ settleOf m most s l x y ps
-  unfolding settledSets settleChangeOf settleOf
-  together-is =
-      let d = settleAt m (settleCause most (s .core) l x y ps) s l x y ps in
-      ap (λ (t : Core). done (d .answer) (stateOf t (d .state .credited) (d .state .wheels))) (sym (changed-at m (settleCause most (s .core) l x y ps) s l x y ps))
-
-  pub settled-from : (c : SettleChange) (t : Core) (cs ws : List ℕ) → length (s .credited) ≡ m → length (s .wheels) ≡ 4 * m
-      → setsSettled c cs ws ≡ settleSetsOf m most s l x y ps
-      → t ≡ settleChanged (s .core) c
-      → done (c .answer) (stateOf t cs ws) ≡ settleOf m most s l x y ps
+  pub settle-narrow : fullSets m (length (s .credited)) (length (s .wheels)) ≡ false → done (Refused 4) s ≡ settleSetsOf m most s l x y ps
   unfolding settleSetsOf
-  settled-from c t cs ws lc lw p e =
-      ap (λ (z : Core). done (c .answer) (stateOf z cs ws)) e
-      ∙ ap together (p ∙ ap byWidths (full-of m (length (s .credited)) (length (s .wheels)) lc lw))
-      ∙ together-is
+  settle-narrow h = ap byWidths (sym h)
+
+  pub settle-wide : (d : Done) → fullSets m (length (s .credited)) (length (s .wheels)) ≡ true → d ≡ settleOf m most s l x y ps → d ≡ settleSetsOf m most s l x y ps
+  unfolding settleSetsOf
+  settle-wide d h p = p ∙ ap byWidths (sym h)
+
+  pub settled-from : (d : Done) → length (s .credited) ≡ m → length (s .wheels) ≡ 4 * m → d ≡ settleSetsOf m most s l x y ps → d ≡ settleOf m most s l x y ps
+  unfolding settleSetsOf
+  settled-from d lc lw p = p ∙ ap byWidths (full-of m (length (s .credited)) (length (s .wheels)) lc lw)

@@ -1,8 +1,9 @@
 -- Document 01, "Drive" and "Refusals by cause" (drive 4, 5, 6, 7, 8): the causes in their order, the answer and the state after. Assumes nothing.
 use mathlib.Core.Bool.{Bool, true, cond, not, _||_}
 use mathlib.Core.List.{List}
-use Prim.Native.Nat.{ℕ, zero, suc}
-use lib.Dec.{ltb, leb}
+use Prim.Native.Nat.{ℕ, zero, suc, _*_}
+use lib.Dec.{eqb, ltb, leb}
+use lib.ListN.{length}
 use Rattle.run.specs.State.{unfitCore}
 use Rattle.run.specs.Arguments.{motionsOk}
 use Rattle.run.specs.Pass.{passOf, noForces}
@@ -12,7 +13,6 @@ use Rattle.run.specs.declared.state.Run.{Run}
 use Rattle.run.specs.declared.dynamics.Motion.{Motion}
 use Rattle.run.specs.declared.drive.Passed.{Passed}
 use Rattle.run.specs.declared.drive.CoreDrove.{CoreDrove}
-use Rattle.run.specs.declared.drive.Change.{Change}
 use Rattle.run.specs.declared.drive.Drove.{Drove}
 use Rattle.run.specs.declared.drive.DriveAnswer.{DriveAnswer}
 use Rattle.run.specs.declared.drive.DriveAnswer.the-variants.{Forces, Refused}
@@ -48,10 +48,14 @@ drivenOf s p =
       «fuel_spent» = p .«fuel_spent»;
     }
 
+-- a cause's number, no forces, and the state as it was
+abbrev pub refusedDrive : ℕ → Core → CoreDrove
+refusedDrive k s = record { answer = Refused k; forces = noForces; core = s }
+
 -- by the cause's number: at 0 the forces and the state after, else that number and the state as it was
 unfoldable pub driveAt : ℕ → Core → Passed → CoreDrove
 driveAt zero s p = record { answer = Forces; forces = p .forces; core = drivenOf s p }
-driveAt (suc k) s p = record { answer = Refused (suc k); forces = noForces; core = s }
+driveAt (suc k) s p = refusedDrive (suc k) s
 
 -- the call but for the bit sets, given which wheels are on the road
 unfoldable pub coreDriveOf : ℕ → Core → ℕ → List Motion → List Bool → CoreDrove
@@ -63,27 +67,10 @@ driveOf m most run action ms =
     let d = coreDriveOf most (run .core) action ms (roadsOf m (run .wheels)) in
     record { answer = d .answer; forces = d .forces; run = record { core = d .core; credited = run .credited; wheels = run .wheels } }
 
--- ---- the call by what it changes
-
-unfoldable pub changeOf : CoreDrove → Change
-changeOf d = record { answer = d .answer; forces = d .forces; ctl = d .core .ctl; «fuel_spent» = d .core .«fuel_spent»; driven = d .core .driven }
-
--- the state with the change made, but for the bit sets
-unfoldable pub changedBy : Core → Change → Core
-changedBy s c =
-    record {
-      n = s .n;
-      «visited_count» = s .«visited_count»;
-      tick = s .tick;
-      «tick_limit» = s .«tick_limit»;
-      «lap_share» = s .«lap_share»;
-      lap = s .lap;
-      ended = s .ended;
-      fallback = s .fallback;
-      driven = c .driven;
-      ctl = c .ctl;
-      «fuel_spent» = c .«fuel_spent»;
-    }
+-- the call where the wheels' sets are lent: sets of other widths than m words to a wheel are no run's, 4
+unfoldable pub driveSetsOf : ℕ → ℕ → Core → List ℕ → ℕ → List Motion → CoreDrove
+driveSetsOf m most s wheels action ms =
+    cond (eqb (length wheels) (4 * m)) (coreDriveOf most s action ms (roadsOf m wheels)) (refusedDrive 4 s)
 
 -- ---- number and values of each case of the answer: the forces beside it, 0 where it is refused
 

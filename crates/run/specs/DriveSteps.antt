@@ -1,9 +1,10 @@
 -- Document 01, "Drive": what private functions of the pass say, one wheel after the other by its number. Assumes nothing.
-use mathlib.Core.Bool.{Bool, cond}
+use mathlib.Core.Bool.{Bool, cond, not}
 use mathlib.Core.List.{List}
-use Prim.Native.Nat.{ℕ, zero, suc}
-use lib.Dec.{ltb}
-use lib.ListN.{set}
+use Prim.Native.Nat.{ℕ, zero, suc, _+_}
+use lib.Dec.{eqb, ltb}
+use lib.ListN.{set, getD}
+use Rattle.run.specs.Below.{anyBelow}
 use Rattle.run.specs.Dynamics.{tyreOf}
 use Rattle.run.specs.Pass.{frontOf, rearOf, ctlAt, roadAt}
 use Rattle.run.specs.Arguments.{motionAt}
@@ -25,3 +26,13 @@ wheelPass action ms roads i p =
 unfoldable pub wheelsPass : ℕ → List Motion → List Bool → ℕ → Passed → Passed
 wheelsPass action ms roads zero p = p
 wheelsPass action ms roads (suc k) p = wheelPass action ms roads k (wheelsPass action ms roads k p)
+
+-- ---- a wheel's set by its words
+
+-- word j from `from` on is not 0
+unfoldable pub stands : List ℕ → ℕ → ℕ → Bool
+stands ws from j = not (eqb (getD ws (from + j) 0) 0)
+
+-- one of `count` words from `from` on is not 0
+unfoldable pub anyStands : ℕ → List ℕ → ℕ → Bool
+anyStands count ws from = anyBelow count (stands ws from)

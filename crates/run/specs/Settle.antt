@@ -14,7 +14,6 @@ use Rattle.run.specs.Contact.{Contacted, contactOf}
 use Rattle.run.specs.Lap.{lapOf, offField, endOf}
 use Rattle.run.specs.declared.state.Pose.{Pose}
 use Rattle.run.specs.declared.state.Core.{Core}
-use Rattle.run.specs.declared.settle.SettleChange.{SettleChange}
 use Rattle.run.specs.declared.settle.SettleAnswer.{SettleAnswer}
 use Rattle.run.specs.declared.settle.SettleAnswer.the-variants.{Settled, Refused}
 
@@ -68,43 +67,9 @@ settleAt m (suc k) s l x y ps = done (Refused (suc k)) s
 unfoldable pub settleOf : ℕ → ℕ → State → Columns → Float → Float → List Pose → Done
 settleOf m most s l x y ps = settleAt m (settleCause most (s .core) l x y ps) s l x y ps
 
--- ---- the call in place, by what it changes
-
-unfoldable pub settleChangeOf : SettleAnswer → Core → SettleChange
-settleChangeOf a s = record { answer = a; «visited_count» = s .«visited_count»; tick = s .tick; lap = s .lap; ended = s .ended; driven = s .driven }
-
--- the core with the change made
-unfoldable pub settleChanged : Core → SettleChange → Core
-settleChanged s c =
-    record {
-      n = s .n;
-      «visited_count» = c .«visited_count»;
-      tick = c .tick;
-      «tick_limit» = s .«tick_limit»;
-      «lap_share» = s .«lap_share»;
-      lap = c .lap;
-      ended = c .ended;
-      fallback = s .fallback;
-      driven = c .driven;
-      ctl = s .ctl;
-      «fuel_spent» = s .«fuel_spent»;
-    }
-
--- the change, and the lent sets after
-pub record SetsSettled : Type 0 where
-  pub change : SettleChange
-  pub credited : List ℕ
-  pub wheels : List ℕ
-
-abbrev pub setsSettled : SettleChange → List ℕ → List ℕ → SetsSettled
-setsSettled c credited wheels = record { change = c; credited = credited; wheels = wheels }
-
-unfoldable pub settledSets : Done → SetsSettled
-settledSets d = setsSettled (settleChangeOf (d .answer) (d .state .core)) (d .state .credited) (d .state .wheels)
-
--- sets of other widths are no run's: 4
-unfoldable pub settleSetsOf : ℕ → ℕ → State → Columns → Float → Float → List Pose → SetsSettled
-settleSetsOf m most s l x y ps = settledSets (cond (fullSets m (length (s .credited)) (length (s .wheels))) (settleOf m most s l x y ps) (done (Refused 4) s))
+-- the call where the sets are lent: sets of other widths than m words to a set are no run's, 4
+unfoldable pub settleSetsOf : ℕ → ℕ → State → Columns → Float → Float → List Pose → Done
+settleSetsOf m most s l x y ps = cond (fullSets m (length (s .credited)) (length (s .wheels))) (settleOf m most s l x y ps) (done (Refused 4) s)
 
 -- ---- number and values of each case of the answer
 

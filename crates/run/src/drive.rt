@@ -1,13 +1,13 @@
 // The call `drive`: forces for the host (document 01, "Drive").
 ghost use mathlib.Core.Path.{_≡_};
-ghost use Prim.Native.Nat.{_+_, _*_, _≤_};
-ghost use lib.ListN.{length};
+ghost use Prim.Native.Nat.{ℕ, _+_, _*_, _^_, _≤_, _<_};
+ghost use lib.ListN.{length, getD};
 ghost use Rattle.run.specs.Widths.{fullWords, mostTiles};
 ghost use Rattle.run.specs.Grip.{onRoad, roadsOf};
-ghost use Rattle.run.specs.Drive.{driveCause, coreDriveOf, changeOf, changedBy, driveOf};
+ghost use Rattle.run.specs.Drive.{driveCause, refusedDrive, coreDriveOf, driveSetsOf, driveOf};
 ghost use Rattle.run.specs.Pass.{indicator, frontOf, rearOf, passOf};
 ghost use Rattle.run.specs.Arguments.{motionOk, motionsOk};
-ghost use Rattle.run.specs.DriveSteps.{controlOf};
+ghost use Rattle.run.specs.DriveSteps.{controlOf, anyStands};
 use crate::dynamics;
 use crate::dynamics::Force;
 use crate::dynamics::Motion;
@@ -17,6 +17,7 @@ use crate::state::Run;
 use crate::state::WheelCtl;
 use crate::widths::FULL_WORDS;
 use crate::widths::MOST_TILES;
+use crate::widths::WHEEL_WORDS;
 use course::numeric;
 
 // How a drive is answered: with forces, or refused by a cause's number.
@@ -33,19 +34,10 @@ pub struct Drove {
 }
 
 // The same without the bit sets, which no drive changes.
-pub(crate) struct CoreDrove {
+pub struct CoreDrove {
     pub answer: DriveAnswer,
     pub forces: [Force; 4],
     pub core: Core,
-}
-
-// The answer, the forces, and what a drive changes of the state.
-pub struct Change {
-    pub answer: DriveAnswer,
-    pub forces: [Force; 4],
-    pub ctl: [WheelCtl; 4],
-    pub fuel_spent: f64,
-    pub driven: bool,
 }
 
 // What the pass over the wheels leaves.
@@ -173,6 +165,22 @@ pub(crate) fn cause(most: u32, s: Core, action: u32, motion: [Motion; 4]) -> u32
     0
 }
 
+// A refused drive: the number of its cause, and the state as it was.
+fn refused(number: u32, s: Core) -> CoreDrove
+    ensures { λ r. ⌜ r ≡ refusedDrive number s ⌝ }
+{
+    let z = Force {
+        motor: 0.0,
+        fx: 0.0,
+        fy: 0.0,
+    };
+    CoreDrove {
+        answer: DriveAnswer::Refused(number),
+        forces: [z, z, z, z],
+        core: s,
+    }
+}
+
 // The call but for the bit sets, where sets hold `most` tiles: the same for every number of words.
 pub(crate) fn core_drive(
     most: u32,
@@ -185,16 +193,7 @@ pub(crate) fn core_drive(
 {
     let number = cause(most, s, action, motion);
     if number != 0 {
-        let z = Force {
-            motor: 0.0,
-            fx: 0.0,
-            fy: 0.0,
-        };
-        return CoreDrove {
-            answer: DriveAnswer::Refused(number),
-            forces: [z, z, z, z],
-            core: s,
-        };
+        return refused(number, s);
     }
     let ctl = s.ctl;
     let p = pass(ctl, action, motion, roads, s.fuel_spent);
@@ -211,20 +210,44 @@ pub(crate) fn core_drive(
     }
 }
 
-// Whether wheel w touched a tile at the last contact, by sets of `words` words to a wheel. It reads every word: a loop of
-// known length the compiler unrolls, reading several words at a time and from where the caller's state stands.
+// Whether one of `count` words from `from` on is not 0. It reads them all: a loop of known length the compiler unrolls,
+// and it reads several words at a time.
+fn any_stands(wheels: &[u64], from: usize, count: usize) -> bool
+    requires { do ⌜ from + count ≤ (← ⟦wheels.len()⟧) ⌝ }
+    ensures { λ r. ⌜ r ≡ anyStands count (now (wheels .entry)) from ⌝ }
+    ensures { λ _. ⌜ ((j : ℕ) → j < count → getD (now (wheels .entry)) (from + j) 0 < 2 ^ 64) ⌝ }
+{
+    let mut any = false;
+    let mut i: usize = 0;
+    while i < count {
+        any = any | (wheels[from + i] != 0);
+        i += 1;
+    }
+    any
+}
+
+// How many words of a set are looked at first: those that hold the tiles of most courses.
+fn first_words(words: usize) -> usize
+    ensures { λ r. ⌜ r ≤ words ⌝ }
+{
+    if words < 8 {
+        return words;
+    }
+    8
+}
+
+// Whether wheel w touched a tile at the last contact, by sets of `words` words to a wheel. The first words are looked at
+// alone: on most courses they answer for a wheel on the road.
 fn on_road(wheels: &[u64], words: usize, w: usize) -> bool
     requires { do ⌜ w * words + words ≤ (← ⟦wheels.len()⟧) ⌝ }
     ensures { λ r. ⌜ r ≡ onRoad words (now (wheels .entry)) w ⌝ }
 {
     let from = w * words;
-    let mut any = false;
-    let mut i: usize = 0;
-    while i < words {
-        any = any | (wheels[from + i] != 0);
-        i += 1;
+    let first = first_words(words);
+    if any_stands(wheels, from, first) {
+        return true;
     }
-    any
+    any_stands(wheels, from + first, words - first)
 }
 
 // Which wheels touched a tile at the last contact.
@@ -239,51 +262,29 @@ pub(crate) fn roads_of(wheels: &[u64], words: usize) -> [bool; 4]
     [a, b, c, d]
 }
 
-// What a drive changes. The sets stay out of it, so a caller who puts the state together moves them once.
-pub fn drive_change(run: Run, action: u32, motion: [Motion; 4]) -> Change
-    ensures { λ r. ⌜ r ≡ changeOf (coreDriveOf mostTiles (run .core) action motion (roadsOf fullWords (run .wheels))) ⌝ }
+// The call where the wheels' sets are lent, which it only reads: a caller who keeps the state moves none of them. Sets of
+// other widths are no run's (cause 4).
+pub fn drive_in_place(core: Core, wheels: &[u64], action: u32, motion: [Motion; 4]) -> CoreDrove
+    ensures { λ r. ⌜ r ≡ driveSetsOf fullWords mostTiles core (now (wheels .entry)) action motion ⌝ }
 {
-    let wheels = run.wheels;
-    let roads = roads_of(&wheels, FULL_WORDS);
-    let core = run.core;
-    let d = core_drive(MOST_TILES, core, action, motion, roads);
-    let answer = d.answer;
-    let forces = d.forces;
-    let after = d.core;
-    let ctl = after.ctl;
-    Change {
-        answer,
-        forces,
-        ctl,
-        fuel_spent: after.fuel_spent,
-        driven: after.driven,
+    if wheels.len() != WHEEL_WORDS {
+        return refused(4, core);
     }
-}
-
-// The state but for the bit sets, with the change made. Stored number by number, it lets the compiler write each part
-// of the state to its place, where a whole struct would be put together first.
-pub fn changed_core(s: Core, c: Change) -> Core
-    ensures { λ r. ⌜ r ≡ changedBy s c ⌝ }
-{
-    let ctl = c.ctl;
-    let mut next = s;
-    next.ctl = ctl;
-    next.fuel_spent = c.fuel_spent;
-    next.driven = c.driven;
-    next
+    let roads = roads_of(wheels, FULL_WORDS);
+    core_drive(MOST_TILES, core, action, motion, roads)
 }
 
 // Forces for the host, or the number of a cause and the state as it was.
 pub fn drive(run: Run, action: u32, motion: [Motion; 4]) -> Drove
     ensures { λ r. ⌜ r ≡ driveOf fullWords mostTiles run action motion ⌝ }
 {
-    let c = drive_change(run, action, motion);
-    let answer = c.answer;
-    let forces = c.forces;
     let core = run.core;
-    let next = changed_core(core, c);
     let credited = run.credited;
     let wheels = run.wheels;
+    let d = drive_in_place(core, &wheels, action, motion);
+    let answer = d.answer;
+    let forces = d.forces;
+    let next = d.core;
     let after = Run {
         core: next,
         credited,

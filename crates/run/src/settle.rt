@@ -4,7 +4,7 @@ ghost use Prim.Native.Nat.{_+_, _<_};
 ghost use Rattle.run.specs.Widths.{fullWords, mostTiles};
 ghost use lib.ListN.{length};
 ghost use Rattle.run.specs.State.{stateOf, view, columns, fullSets};
-ghost use Rattle.run.specs.Settle.{settleCause, settledCore, settleChangeOf, settleChanged, setsSettled, settleSetsOf, done, settleOf};
+ghost use Rattle.run.specs.Settle.{settleCause, settledCore, settleSetsOf, done, settleOf};
 use crate::contact;
 use crate::lap;
 use crate::state;
@@ -28,14 +28,10 @@ pub struct Settlement {
     pub run: Run,
 }
 
-// The answer, and what a settle changes of the state beside the bit sets.
-pub struct SettleChange {
+// The same without the bit sets.
+pub struct CoreSettled {
     pub answer: SettleAnswer,
-    pub visited_count: u32,
-    pub tick: u32,
-    pub lap: bool,
-    pub ended: bool,
-    pub driven: bool,
+    pub core: Core,
 }
 
 // The first of the causes 4, 5, 6, 2, 8 and 10 that holds, else 0; n is at most `most`.
@@ -88,33 +84,6 @@ fn settled_core(s: Core, fresh: u32, zero: bool, off: bool) -> Core
     next
 }
 
-// An answer beside the changing parts of the state that it leaves.
-fn settle_change(answer: SettleAnswer, s: Core) -> SettleChange
-    ensures { λ r. ⌜ r ≡ settleChangeOf answer s ⌝ }
-{
-    SettleChange {
-        answer,
-        visited_count: s.visited_count,
-        tick: s.tick,
-        lap: s.lap,
-        ended: s.ended,
-        driven: s.driven,
-    }
-}
-
-// The state but for the bit sets, with the change made.
-pub fn settle_changed(s: Core, c: SettleChange) -> Core
-    ensures { λ r. ⌜ r ≡ settleChanged s c ⌝ }
-{
-    let mut next = s;
-    next.visited_count = c.visited_count;
-    next.tick = c.tick;
-    next.lap = c.lap;
-    next.ended = c.ended;
-    next.driven = c.driven;
-    next
-}
-
 // The sets have the full state's widths.
 fn are_full(credited: usize, wheels: usize) -> bool
     ensures { λ r. ⌜ r ≡ fullSets fullWords credited wheels ⌝ }
@@ -122,8 +91,8 @@ fn are_full(credited: usize, wheels: usize) -> bool
     (credited == FULL_WORDS) & (wheels == WHEEL_WORDS)
 }
 
-// The call in place, so that a caller who puts the state together moves the sets once in and once out: a refusal
-// leaves them, and sets of other widths are no run's (cause 4).
+// The call where the sets are lent and changed in place: a caller who keeps the state moves none of them. A refusal leaves
+// them, and sets of other widths are no run's (cause 4).
 pub fn settle_in_place(
     core: Core,
     credited: &mut [u64],
@@ -134,15 +103,21 @@ pub fn settle_in_place(
     x: f64,
     y: f64,
     poses: [Pose; 4],
-) -> SettleChange
-    ensures { λ r. ⌜ setsSettled r (now (credited .exit)) (now (wheels .exit)) ≡ settleSetsOf fullWords mostTiles (stateOf core (now (credited .entry)) (now (wheels .entry))) (columns (now (tiles .entry)) (now (offsets .entry)) (now (list .entry))) x y poses ⌝ }
+) -> CoreSettled
+    ensures { λ r. ⌜ done (r .answer) (stateOf (r .core) (now (credited .exit)) (now (wheels .exit))) ≡ settleSetsOf fullWords mostTiles (stateOf core (now (credited .entry)) (now (wheels .entry))) (columns (now (tiles .entry)) (now (offsets .entry)) (now (list .entry))) x y poses ⌝ }
 {
     if !are_full(credited.len(), wheels.len()) {
-        return settle_change(SettleAnswer::Refused(4), core);
+        return CoreSettled {
+            answer: SettleAnswer::Refused(4),
+            core,
+        };
     }
     let k = settle_cause(MOST_TILES, core, tiles, offsets, list, x, y, poses);
     if k != 0 {
-        return settle_change(SettleAnswer::Refused(k), core);
+        return CoreSettled {
+            answer: SettleAnswer::Refused(k),
+            core,
+        };
     }
     let c = contact::full_contact(
         poses,
@@ -155,10 +130,10 @@ pub fn settle_in_place(
     );
     let off = lap::is_off(x, y);
     let next = settled_core(core, c.fresh, c.zero, off);
-    settle_change(
-        SettleAnswer::Settled(c.fresh, core.n, off, next.lap, next.ended),
-        next,
-    )
+    CoreSettled {
+        answer: SettleAnswer::Settled(c.fresh, core.n, off, next.lap, next.ended),
+        core: next,
+    }
 }
 
 // The contact after physics, or the number of the cause with the state as it was.
@@ -188,7 +163,7 @@ pub fn settle(
         poses,
     );
     let answer = c.answer;
-    let next = settle_changed(core, c);
+    let next = c.core;
     let after = Run {
         core: next,
         credited,

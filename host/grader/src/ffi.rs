@@ -120,7 +120,7 @@ pub struct Started {
 pub struct Driven {
     pub cause: u32,
     pub forces: [Force; 4],
-    pub run: State,
+    pub core: Core,
 }
 
 #[repr(C)]
@@ -131,7 +131,7 @@ pub struct Settled {
     pub off: bool,
     pub lap: bool,
     pub ended: bool,
-    pub run: State,
+    pub core: Core,
 }
 
 #[repr(C)]
@@ -183,6 +183,8 @@ type F = *const f64;
 type Fm = *mut f64;
 type I = *const u32;
 type Im = *mut u32;
+type W = *const u64;
+type Wm = *mut u64;
 type N = usize;
 
 #[rustfmt::skip]
@@ -191,8 +193,8 @@ extern "C" {
     fn grader_points(gb: F, gbl: N, gx: F, gxl: N, gy: F, gyl: N, count: u32, a: Fm, al: N, b: Fm, bl: N, x: Fm, xl: N, y: Fm, yl: N, t: Fm, tl: N, o: Im, ol: N, l: Im, ll: N) -> Laid;
     fn grader_curbs(gb: F, gbl: N, gx: F, gxl: N, gy: F, gyl: N, count: u32, q: Fm, ql: N, w: *mut u8, wl: N) -> CurbsFound;
     fn grader_start(t: F, tl: N, o: I, ol: N, l: I, ll: N, n: u32, fallback: bool, share: f64, limit: u32, poses: Poses) -> Started;
-    fn grader_drive(run: State, action: u32, motions: Motions) -> Driven;
-    fn grader_settle(run: State, t: F, tl: N, o: I, ol: N, l: I, ll: N, x: f64, y: f64, poses: Poses) -> Settled;
+    fn grader_drive(core: Core, w: W, wl: N, action: u32, motions: Motions) -> Driven;
+    fn grader_settle(core: Core, c: Wm, cl: N, w: Wm, wl: N, t: F, tl: N, o: I, ol: N, l: I, ll: N, x: f64, y: f64, poses: Poses) -> Settled;
     fn grader_sheet(run: State) -> Figures;
     fn grader_reward(weights: Weights, new_tiles: u32, n: u32, off: bool) -> f64;
     fn grader_replay(seed: u32, a: Fm, al: N, b: Fm, bl: N, x: Fm, xl: N, y: Fm, yl: N, t: Fm, tl: N, o: Im, ol: N, l: Im, ll: N, share: f64, limit: u32, poses: Poses, many: u32, c: I, cl: N, g: F, gl: N, w: Im, wl: N, n: Fm, nl: N) -> Replayed;
@@ -266,16 +268,23 @@ pub fn start(c: Columns, n: u32, fallback: bool, opening: Opening) -> Started {
     }
 }
 
-pub fn drive(run: State, action: u32, motions: [Motion; 4]) -> Driven {
-    unsafe { grader_drive(run, action, Motions { wheels: motions }) }
+/// The state goes on where it stands: its sets are lent, the rest of it goes in and out by value.
+pub fn drive(run: &mut State, action: u32, motions: [Motion; 4]) -> Driven {
+    let d = unsafe { grader_drive(run.core, run.wheels.as_ptr(), run.wheels.len(), action, Motions { wheels: motions }) };
+    run.core = d.core;
+    d
 }
 
+/// The same for a settle, which changes the sets.
 #[rustfmt::skip]
-pub fn settle(run: State, c: Columns, x: f64, y: f64, poses: [Pose; 4]) -> Settled {
-    unsafe {
-        grader_settle(run, c.tiles.as_ptr(), c.tiles.len(), c.offsets.as_ptr(), c.offsets.len(), c.list.as_ptr(), c.list.len(),
+pub fn settle(run: &mut State, c: Columns, x: f64, y: f64, poses: [Pose; 4]) -> Settled {
+    let s = unsafe {
+        grader_settle(run.core, run.credited.as_mut_ptr(), run.credited.len(), run.wheels.as_mut_ptr(), run.wheels.len(),
+            c.tiles.as_ptr(), c.tiles.len(), c.offsets.as_ptr(), c.offsets.len(), c.list.as_ptr(), c.list.len(),
             x, y, Poses { wheels: poses })
-    }
+    };
+    run.core = s.core;
+    s
 }
 
 pub fn sheet(run: State) -> Figures {
@@ -342,7 +351,7 @@ mod tests {
         assert_eq!([size_of::<Weights>(), size_of::<Poses>(), size_of::<Motions>()], [24, 128, 160]);
         assert_eq!([size_of::<Core>(), size_of::<State>()], [200, 1800]);
         assert_eq!([size_of::<Laid>(), size_of::<CurbsFound>(), size_of::<Figures>(), size_of::<Replayed>()], [40, 8, 24, 80]);
-        assert_eq!([size_of::<Started>(), size_of::<Driven>(), size_of::<Settled>()], [1816, 1904, 1816]);
+        assert_eq!([size_of::<Started>(), size_of::<Driven>(), size_of::<Settled>()], [1816, 304, 216]);
         assert_eq!([size_of::<Angle>(), size_of::<Drawn>()], [16, 16]);
     }
 
@@ -362,8 +371,8 @@ mod tests {
         places!(Laid: cause 0, n 4, entries 8, fallback 12, beta 16, x 24, y 32);
         places!(CurbsFound: cause 0, count 4);
         places!(Started: cause 0, count 4, lap 8, run 16);
-        places!(Driven: cause 0, forces 8, run 104);
-        places!(Settled: cause 0, new_tiles 4, n 8, off 12, lap 13, ended 14, run 16);
+        places!(Driven: cause 0, forces 8, core 104);
+        places!(Settled: cause 0, new_tiles 4, n 8, off 12, lap 13, ended 14, core 16);
         places!(Figures: cause 0, tick 4, credited 8, n 12, share 16, lap 20, ended 21, fallback 22);
         places!(Replayed: laid 0, start_cause 40, start_count 44, start_lap 48, sheet 52);
         places!(Angle: cause 0, value 8);

@@ -71,18 +71,16 @@ impl Run {
     /// Forces for the host's physics: 0 does nothing, 1 steers right, 2 left, 3 is gas, 4 the brake. Refused by
     /// [`Refusal::NoRun`], [`Refusal::Turn`], [`Refusal::TickLimit`], [`Refusal::Action`] and [`Refusal::Number`].
     pub fn drive(&mut self, action: u32, motions: [Motion; 4]) -> Result<[Force; 4], Refusal> {
-        let d = ffi::drive(self.state, action, motions);
+        let d = ffi::drive(&mut self.state, action, motions);
         Refusal::check(d.cause, 0)?;
-        self.state = d.run;
         Ok(d.forces)
     }
 
     /// The contact after physics: where the hull (x, y) and the wheels are now. `course` must be the one that the run was
     /// started on. Refused by [`Refusal::NoRun`], [`Refusal::Turn`] and [`Refusal::Number`].
     pub fn settle(&mut self, course: &Course, x: f64, y: f64, poses: [Pose; 4]) -> Result<Settled, Refusal> {
-        let s = ffi::settle(self.state, course.columns(), x, y, poses);
+        let s = ffi::settle(&mut self.state, course.columns(), x, y, poses);
         Refusal::check(s.cause, 0)?;
-        self.state = s.run;
         Ok(Settled { new_tiles: s.new_tiles, n: s.n, off: s.off, lap: s.lap, ended: s.ended })
     }
 

@@ -1,72 +1,48 @@
 -- `run::drive::on_road` meets its contract. Assumes nothing.
-use Prim.Native.Nat.{ℕ, _+_, _-_, _*_, _^_, _≤_, _<_}
-use native.Mathlib.Omega.{arith}
-use lib.ListN.{getD}
-use mathlib.Core.Path.{_≡_, refl, ap, _∙_}
+use Rattle.run.proofs.RoadLaws.{first-stands, others-stand}
 use borrow.Author.Needs.{needs}
-use Rattle.run.specs.Below.{anyBelow}
-use Rattle.run.proofs.RoadLaws.{stands, stands-more, stands-any}
 use Rattle.run.proofs.drive.on_road.Statement.{statement}
 use Rattle.run.proofs.drive.on_road.Tie as tie
 use Rattle.run.proofs.drive.on_road.Reads as reads
 use Rattle.run.proofs.drive.on_road.Lts as lts
+use Rattle.run.proofs.drive.any_stands.Reads as any-stands-reads
+use Rattle.run.proofs.drive.first_words.Reads as first-words-reads
 
-abbrev Inv-loop : tie.InvT-loop
-Inv-loop wheels words w from any₀ i₀ any i = (i ≤ words) × (any ≡ anyBelow i (stands wheels from)) × ((j : ℕ) → j < i → getD wheels (from + j) 0 < 2 ^ 64)
-
-abbrev μ-loop : tie.MeasureT-loop
-μ-loop wheels words w from any₀ i₀ any i = words - i
-
-mul-from : tie.Need-mul-from Inv-loop μ-loop
+mul-from : tie.Need-mul-from
 mul-from c = search needs
 
-loop-holds : tie.Need-loop-holds Inv-loop μ-loop
-unfolding anyBelow
-loop-holds c = (search needs, refl, λ j h. absurd (omega arith))
+first-words-requires : tie.Need-first-words-requires
+first-words-requires c κs = search needs
 
-add-any : tie.Need-add-any Inv-loop μ-loop
-add-any c = search needs
+any-stands-requires : tie.Need-any-stands-requires
+any-stands-requires c κs = search needs
 
-mul-any : tie.Need-mul-any Inv-loop μ-loop
-mul-any c = search needs
+returns : tie.Need-returns
+returns c = first-stands _ _ _ _ _ (c .before .before .first-words .ensures) (c .before .any-stands .ensures .0) (c .if1 .taken) (c .before .any-stands .ensures .1)
 
-shared-slice-read-any : tie.Need-shared-slice-read-any Inv-loop μ-loop
-shared-slice-read-any c = search needs
+add-any-stands : tie.Need-add-any-stands
+add-any-stands c = search needs
 
-add-i : tie.Need-add-i Inv-loop μ-loop
-add-i c = search needs
+sub-any-stands : tie.Need-sub-any-stands
+sub-any-stands c = search needs
 
-loop-less : tie.Need-loop-less Inv-loop μ-loop
-loop-less c = search needs
+any-stands-requires-2 : tie.Need-any-stands-requires-2
+any-stands-requires-2 c κs = search needs
 
-loop-again : tie.Need-loop-again Inv-loop μ-loop
-loop-again c =
-    let s = c .before .before .before in
-    let k = c .before .before .loop in
-    let from = s .args .w * s .args .words in
-    (search needs, stands-more (s .args .wheels .now) from (k .i) (k .any) (k .inv .1), λ j h. omega (arith, c .shared-slice-known .given (from + j)))
-
-returns : tie.Need-returns Inv-loop μ-loop
-returns c =
-    let s = c .before .before in
-    let k = c .before .loop in
-    let end : k .i ≡ s .args .words = omega (arith, k .inv .0, c .loop-test .left) in
-    k .inv .1
-    ∙ ap (λ (n : ℕ). anyBelow n (stands (s .args .wheels .now) (s .args .w * s .args .words))) end
-    ∙ stands-any (s .args .words) (s .args .w) (s .args .wheels .now) (λ j h. k .inv .2 j (omega (arith, h, end)))
+returns-2 : tie.Need-returns-2
+returns-2 c =
+    let a = c .before .before in
+    others-stand _ _ _ _ _ _ (a .before .first-words .ensures) (a .any-stands .ensures .0) (c .before .if1 .left) (c .any-stands2 .ensures .0) (c .any-stands2 .ensures .1)
 
 pub on-road-spec : {M : Type 1} → statement M
 on-road-spec =
     tie.close
     (tie.spec
-    Inv-loop
-    μ-loop
     mul-from
-    loop-holds
-    add-any
-    mul-any
-    shared-slice-read-any
-    add-i
-    loop-less
-    loop-again
-    returns)
+    first-words-requires
+    any-stands-requires
+    returns
+    add-any-stands
+    sub-any-stands
+    any-stands-requires-2
+    returns-2)

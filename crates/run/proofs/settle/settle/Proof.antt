@@ -10,7 +10,6 @@ use Rattle.run.proofs.settle.settle.Statement.{statement}
 use Rattle.run.proofs.settle.settle.Tie as tie
 use Rattle.run.proofs.settle.settle.Reads as reads
 use Rattle.run.proofs.settle.settle.Lts as lts
-use Rattle.run.proofs.settle.settle_changed.Reads as settle-changed-reads
 use Rattle.run.proofs.settle.settle_in_place.Reads as settle-in-place-reads
 
 slice-aggregate-settle-in-place : tie.Need-slice-aggregate-settle-in-place
@@ -22,16 +21,13 @@ slice-aggregate-settle-in-place-2 c = search needs
 settle-in-place-requires : tie.Need-settle-in-place-requires
 settle-in-place-requires c κs = search needs
 
-settle-changed-requires : tie.Need-settle-changed-requires
-settle-changed-requires c κs = search needs
-
 returns : tie.Need-returns
 unfolding view
 returns c =
     let s = c .before .before .before .before .before .before .before .before .before .before .before .before in
     let cl : length (s .args .run .credited) ≡ fullWords = search needs in
     let wl : length (s .args .run .wheels) ≡ 4 * fullWords = search needs in
-    settled-from _ _ _ _ _ _ _ _ _ _ _ cl wl (c .before .before .before .settle-in-place .ensures) (c .settle-changed .ensures)
+    settled-from _ _ _ _ _ _ _ _ cl wl (c .before .before .before .settle-in-place .ensures)
 
 pub settle-spec : {M : Type 1} → statement M
 settle-spec =
@@ -40,5 +36,4 @@ settle-spec =
     slice-aggregate-settle-in-place
     slice-aggregate-settle-in-place-2
     settle-in-place-requires
-    settle-changed-requires
     returns)

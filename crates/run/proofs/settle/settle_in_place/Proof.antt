@@ -15,31 +15,24 @@ use Rattle.run.proofs.contact.full_contact.Reads as full-contact-reads
 use Rattle.run.proofs.lap.is_off.Reads as is-off-reads
 use Rattle.run.proofs.settle.are_full.Reads as are-full-reads
 use Rattle.run.proofs.settle.settle_cause.Reads as settle-cause-reads
-use Rattle.run.proofs.settle.settle_change.Reads as settle-change-reads
 use Rattle.run.proofs.settle.settled_core.Reads as settled-core-reads
 
 are-full-requires : tie.Need-are-full-requires
 are-full-requires c κs = search needs
 
-settle-change-requires : tie.Need-settle-change-requires
-settle-change-requires c κs = search needs
-
 returns : tie.Need-returns
 returns c =
-    let f = c .before .before .are-full in
-    settle-narrow _ _ _ _ _ _ _ _ (sym (f .ensures) ∙ no-of (f .result) (c .before .if1 .taken)) (c .settle-change .ensures)
+    let f = c .before .are-full in
+    settle-narrow _ _ _ _ _ _ _ (sym (f .ensures) ∙ no-of (f .result) (c .if1 .taken))
 
 settle-cause-requires : tie.Need-settle-cause-requires
 settle-cause-requires c κs = search needs
 
-settle-change-requires-2 : tie.Need-settle-change-requires-2
-settle-change-requires-2 c κs = search needs
-
 returns-2 : tie.Need-returns-2
 returns-2 c =
-    let k = c .before .before in
+    let k = c .before in
     let f = k .before in
-    settle-wide _ _ _ _ _ _ _ _ _ _ _ _ (sym (f .before .are-full .ensures) ∙ yes-of (f .before .are-full .result) (f .if1 .left)) (c .settle-change2 .ensures) (settle-refused _ _ _ _ _ _ _ _ (k .settle-cause .ensures) (c .before .if2 .taken))
+    settle-wide _ _ _ _ _ _ _ _ (sym (f .before .are-full .ensures) ∙ yes-of (f .before .are-full .result) (f .if1 .left)) (settle-refused _ _ _ _ _ _ _ _ (k .settle-cause .ensures) (c .if2 .taken))
 
 cast-full-contact : tie.Need-cast-full-contact
 cast-full-contact c = search needs
@@ -66,9 +59,6 @@ settled-core-requires c κs =
     let b = contact-few _ _ _ _ _ (ap (λ (x : Contacted). x .fresh) (c .before .before .before .before .before .full-contact .ensures)) in
     (omega (arith, h .few, h .count, b), h .time)
 
-settle-change-requires-3 : tie.Need-settle-change-requires-3
-settle-change-requires-3 c κs = search needs
-
 same-length : tie.Need-same-length
 same-length c = search needs
 
@@ -77,28 +67,25 @@ same-length-2 c = search needs
 
 returns-3 : tie.Need-returns-3
 returns-3 c =
-    let e = c .before .before .before .before .before .before .before .before .before .before .before in
+    let e = c .before .before .before .before .before .before .before .before .before .before in
     let k = e .before .settle-cause in
     let z : k .result ≡ 0 = omega (arith, e .if2 .left) in
     let f = e .before .before in
-    settle-wide _ _ _ _ _ _ _ _ _ _ _ _ (sym (f .before .are-full .ensures) ∙ yes-of (f .before .are-full .result) (f .if1 .left)) (c .settle-change3 .ensures)
-    (settle-accepted _ _ _ _ _ _ _ _ _ _ _ _ _ _ (k .ensures) z (c .before .before .before .before .before .before .before .full-contact .ensures) (c .before .before .is-off .ensures) (c .before .settled-core .ensures))
+    settle-wide _ _ _ _ _ _ _ _ (sym (f .before .are-full .ensures) ∙ yes-of (f .before .are-full .result) (f .if1 .left))
+    (settle-accepted _ _ _ _ _ _ _ _ _ _ _ _ _ _ (k .ensures) z (c .before .before .before .before .before .before .full-contact .ensures) (c .before .is-off .ensures) (c .settled-core .ensures))
 
 pub settle-in-place-spec : {M : Type 1} → statement M
 settle-in-place-spec =
     tie.close
     (tie.spec
     are-full-requires
-    settle-change-requires
     returns
     settle-cause-requires
-    settle-change-requires-2
     returns-2
     cast-full-contact
     full-contact-requires
     is-off-requires
     settled-core-requires
-    settle-change-requires-3
     same-length
     same-length-2
     returns-3)
