@@ -11,6 +11,7 @@ pub mod WholeRoot
 pub mod RootScale
 pub mod RootFields
 pub mod RootLaw
+pub mod OwnValue
 pub mod Examples
 pub mod IndexLaws
 pub mod Rects

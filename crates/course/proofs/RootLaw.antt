@@ -165,7 +165,7 @@ module _ (X K f t : ℕ) (T52 : t < 4503599627370496) (lo : 2 ^ 104 ≤ X) (hi :
           two a e = omega arith
 
 -- ---- the units of a float
-units-value : (v : Float) (s : Bool) (a : ℕ) → HasValue v s a (2 ^ 1074) → inUnits v ≡ a
+pub units-value : (v : Float) (s : Bool) (a : ℕ) → HasValue v s a (2 ^ 1074) → inUnits v ≡ a
 units-value nan s a h = absurd h
 units-value (inf t) s a h = absurd h
 units-value (fin t m e) s a h = ap (λ (x : ℕ). x / down e) (h .1) ∙ mul-div-cancel a (down-pos e)
@@ -337,7 +337,7 @@ of-strict x r s = record {
 pub sqrt-nearest : (x : Float) → T (fits binary64 x) → T (positive x) → Nearest x (sqrtOf x)
 sqrt-nearest x F p = of-strict x (sqrtOf x) (sqrt-strict x F p)
 
-same-units : (r s : Float) → T (fits binary64 r) → T (plain r) → T (fits binary64 s) → T (plain s) → inUnits r ≡ inUnits s → r ≡ s
+pub same-units : (r s : Float) → T (fits binary64 r) → T (plain r) → T (fits binary64 s) → T (plain s) → inUnits r ≡ inUnits s → r ≡ s
 same-units r s F p G q e =
     let v = written r F p in
     let w = written s G q in

@@ -1,5 +1,5 @@
 -- Tests on floats: NaN, and the sign. Assumes nothing.
-use mathlib.Core.Path.{_≡_, refl, sym, ap, _∙_, subst}
+use mathlib.Core.Path.{_≡_, refl, sym, ap, ap₂, _∙_, subst}
 use mathlib.Core.Logic.{inl, inr}
 use mathlib.Core.Bool.{Bool, true, false, not, cond, _&&_, _||_, Bool·beq, true≢false, false≢true}
 use Prim.Native.Nat.{ℕ, zero, suc, _+_, _*_, _^_, _<_}
@@ -7,7 +7,7 @@ use native.Mathlib.Nat.{eq-zero-or-pos, mul-pos, mul-one, one-mul, pow-succ'}
 use native.Mathlib.Omega.{arith}
 use lib.IntN.{ℤ, pos, negsuc}
 use lib.Dec.{T, ltb, eqb, eqb→eq}
-use lib.Ieee.{Float, nan, inf, fin, fits, isNan, ne, eq, lt, div, binary64, ofInt, neg, up, down, round}
+use lib.Ieee.{Float, nan, inf, fin, fits, isNan, ne, eq, lt, le, add, sum, sub, div, binary64, ofInt, neg, up, down, round}
 use lib.Ieee.Compare.{differs-from-itself, nan-differs}
 use lib.Ieee.Fits.{up-pos, and-l}
 use borrow.Author.Tests.{ltb-true, ltb-false, eq-eqb, eqb-true}
@@ -15,6 +15,7 @@ use Rattle.course.specs.Arithmetic.{natural}
 use Rattle.course.specs.Numeric.{signumOf, absOf}
 use Rattle.course.proofs.Naturals.{same-test}
 use Rattle.course.proofs.Bounds.{plain, plain-round}
+use Rattle.course.proofs.OwnValue.{own-value}
 
 -- a NaN, and nothing else, differs from itself
 pub nan-test : (x : Float) → ne x x ≡ isNan x
@@ -101,14 +102,6 @@ sign-plus (fin true m e) n h k =
     absurd (true≢false (sym (ap (λ (b : Bool). lt (cond b (inf true) (round binary64 true (1 * 1 * down e) (m * up e * 1))) nought) (is-zero m e h)) ∙ k))
 
 -- ---- abs
-pub abs-below : (x : Float) → lt x nought ≡ true → neg x ≡ absOf x
-unfolding lt neg absOf
-abs-below nan h = refl
-abs-below (inf true) h = refl
-abs-below (inf false) h = absurd (false≢true h)
-abs-below (fin true m e) h = refl
-abs-below (fin false m e) h = absurd (none (m * up e * 1) (down e) h)
-
 -- a zero is written with the exponent 0
 one-power : (k : ℕ) → 2 ^ suc k ≡ 1 → ⊥
 one-power k h = let e : 2 ^ suc k ≡ 2 * 2 ^ k = pow-succ' 2 k in omega arith
@@ -126,7 +119,7 @@ zero-fits s (suc m) e f z = absurd (omega arith)
 no-size : (m : ℕ) (e : ℤ) → m * up e * 1 ≡ 0 * 1 * down e → m ≡ 0
 no-size m e h = elim (eq-zero-or-pos m) [ inl z ↦ z | inr p ↦ let g : 0 < m * up e = mul-pos p (up-pos e) in absurd (omega arith) ]
 
-pub abs-zero : (x : Float) → fits binary64 x ≡ true → eq x nought ≡ true → nought ≡ absOf x
+abs-zero : (x : Float) → fits binary64 x ≡ true → eq x nought ≡ true → nought ≡ absOf x
 unfolding eq absOf
 abs-zero nan f h = absurd (false≢true h)
 abs-zero (inf s) f h = absurd (false≢true h)
@@ -140,10 +133,33 @@ both-zero a b h =
     let q : a * 1 ≡ 0 = omega arith in
     rw (eq-eqb _ _ p, eq-eqb _ _ q)
 
-pub abs-else : (x : Float) → lt x nought ≡ false → eq x nought ≡ false → x ≡ absOf x
-unfolding lt eq absOf
-abs-else nan h g = refl
-abs-else (inf true) h g = absurd (true≢false h)
-abs-else (inf false) h g = refl
-abs-else (fin false m e) h g = refl
-abs-else (fin true m e) h g = absurd (true≢false (sym (both-zero (m * up e) (down e) h) ∙ g))
+or-else : (a b : Bool) → (a || b) ≡ true → (a ≡ true → ⊥) → b ≡ true
+or-else true b h n = absurd (n refl)
+or-else false b h n = h
+
+-- 0 − x: what is below 0, and both zeros
+pub abs-down : (x : Float) → fits binary64 x ≡ true → le x nought ≡ true → sub binary64 nought x ≡ absOf x
+unfolding le lt sub add sum neg absOf fits
+abs-down nan f h = absurd (false≢true h)
+abs-down (inf true) f h = refl
+abs-down (inf false) f h = absurd (false≢true h)
+abs-down (fin true m e) f h =
+    let a : 0 * 1 * down e + m * up e * 1 ≡ m * up e = omega arith in
+    ap₂ (round binary64 false) a (one-mul (down e)) ∙ own-value m e (subst T (sym f) tt)
+abs-down (fin false m e) f h =
+    let x = fin false m e in
+    subst (λ (y : Float). sub binary64 nought y ≡ absOf y) (abs-zero x f (or-else (lt x nought) (eq x nought) h (none (m * up e * 1) (down e)))) refl
+
+neither : (a b : Bool) → (a || b) ≡ false → (a ≡ false) × (b ≡ false)
+neither true b h = absurd (true≢false h)
+neither false b h = (refl, h)
+
+pub abs-up : (x : Float) → le x nought ≡ false → x ≡ absOf x
+unfolding le lt eq absOf
+abs-up nan h = refl
+abs-up (inf true) h = absurd (true≢false h)
+abs-up (inf false) h = refl
+abs-up (fin false m e) h = refl
+abs-up (fin true m e) h =
+    let n = neither (lt (fin true m e) nought) (eq (fin true m e) nought) h in
+    absurd (true≢false (sym (both-zero (m * up e) (down e) (n .0)) ∙ n .1))

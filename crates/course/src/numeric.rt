@@ -6,17 +6,11 @@ ghost use Rattle.course.specs.Numeric.{absOf, minOf, maxOf, leastOf, gre
 use crate::constants::MAX;
 use crate::constants::MIN;
 
-// x with its sign cleared.
+// x with its sign cleared; 0 - x is 0 for both zeros. One choice compiles to no branch.
 pub fn abs(x: f64) -> f64
     ensures { λ r. ⌜ r ≡ absOf x ⌝ }
 {
-    if x < 0.0 {
-        return -x;
-    }
-    if x == 0.0 {
-        return 0.0;
-    }
-    x
+    if x <= 0.0 { 0.0 - x } else { x }
 }
 
 // The lesser of two; the other where one is NaN.

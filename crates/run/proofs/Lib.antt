@@ -7,6 +7,7 @@ pub mod CallLaws
 pub mod InPlaceLaws
 pub mod Literals
 pub mod SmallForces
+pub mod MotorLaw
 pub mod PassLaws
 pub mod Tests
 pub mod AnyLaws

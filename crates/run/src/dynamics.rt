@@ -58,12 +58,14 @@ pub(crate) struct Turned {
     pub fuel_spent: f64,
 }
 
-// The joint motor's speed: towards the steering angle, by its sign also at -0.
+// The joint motor's speed: 50 times the way to the steering angle, cut at 3 and at -3. A product has the sign of its factor, also
+// at -0, so that this is the Rust's sign times the lesser size; two choices compile to no branch.
 pub(crate) fn motor(steer: f64, angle: f64) -> f64
     ensures { λ r. ⌜ r ≡ motorOf steer angle ⌝ }
 {
-    let diff = steer - angle;
-    numeric::signum(diff) * numeric::min(50.0 * numeric::abs(diff), 3.0)
+    let speed = 50.0 * (steer - angle);
+    let lowered = if 3.0 < speed { 3.0 } else { speed };
+    if lowered < -3.0 { -3.0 } else { lowered }
 }
 
 // Omega after the engine.
