@@ -2,18 +2,18 @@
 use mathlib.Core.Path.{_≡_, refl, sym, ap, _∙_, subst}
 use mathlib.Core.Logic.{_⊎_, inl, inr}
 use Prim.Native.Nat.{ℕ, zero, suc, _+_, _-_, _*_, _/_, _%_, _^_, _≤_, _<_}
-use native.Mathlib.Nat.{lt-irrefl, zero-mul, mul-pos, mul-div-cancel, mul-one, mod-eq-of-lt, not-le-of-lt, mod-mod-of-dvd, dvd-mul-right}
+use native.Mathlib.Nat.{lt-irrefl, zero-mul, mul-pos, mul-assoc, mul-div-cancel, mul-one, mod-eq-of-lt, not-le-of-lt, mod-mod-of-dvd, dvd-mul-right}
 use native.Mathlib.Omega.{arith}
 use mathlib.Core.Bool.{Bool, true, false, not, cond, true≢false, false≢true}
 use lib.Dec.{T, leb, ltb, eqb, le→leb, leb→le, not-T, eqb→eq, ltb→lt, nltb→le}
-use lib.Pow.{pow-pos}
+use lib.Pow.{pow-add, pow-pos}
 use lib.Ieee.{Float, nan, inf, fin, binary64, up, down, odd, ofFields, ofBits, nanBits, toBits, fits, isNan, ne, div}
 use lib.Ieee.Fits.{down-pos}
 use lib.Ieee.Bits.{ofBits-toBits, nanBits-above, is-true, is-false, cond-no}
 use lib.Ieee.Compare.{nan-differs}
 use lib.Ieee.Exact.{HasValue, odd-sign}
 use Rattle.course.specs.Root.{nearestRoot, sqrtOf}
-use Rattle.course.specs.RootSteps.{unitsOf}
+use Rattle.course.specs.RootSteps.{unitsOf, Split}
 
 -- ---- by the value
 zero-value : (e : ℕ) (a c u : ℕ) → 0 < a → 0 < e → zero * u * c ≡ a * e → ⊥
@@ -91,6 +91,25 @@ sqrt-negative f t F p = go (ltb f 2047) (ltb→lt f 2047) (nltb→le f 2047)
     go : (b : Bool) → (T b → f < 2047) → (T (not b) → 2047 ≤ f) → sqrtOf (ofFields binary64 true f t) ≡ nan
     go true a b = sqrt-below (ofFields binary64 true f t) (unitsOf f t) (fields-value true f t (a tt)) (units-pos f t p)
     go false a b = ap (λ (y : ℕ). sqrtOf (ofFields binary64 true y t)) (eq f F (b tt)) ∙ ap sqrtOf (at-ones true t) ∙ no-root (eqb t 0)
+
+-- ---- a field above 0, as 53 digits and a power of two
+normal : (x t : ℕ) → suc x < 2047 → t < 4503599627370496 → Split (unitsOf (suc x) t) (4503599627370496 + t) (1073 + suc x)
+normal x t X H = record {
+  same = ap (λ (k : ℕ). (4503599627370496 + t) * k) (ap (λ (k : ℕ). 2 ^ k) (more x) ∙ pow-add 2 x 1074) ∙ sym (mul-assoc (4503599627370496 + t) (2 ^ x) (2 ^ 1074));
+  high = omega arith;
+  low = omega arith;
+  least = omega arith;
+  most = omega arith;
+}
+  where
+    more : (k : ℕ) → 1073 + suc k ≡ k + 1074
+    more k = omega arith
+
+pub normal-at : (f t : ℕ) → 0 < f → f < 2047 → t < 4503599627370496 → Split (unitsOf f t) (4503599627370496 + t) (1073 + f)
+normal-at f t p X H = subst (λ (k : ℕ). Split (unitsOf k t) (4503599627370496 + t) (1073 + k)) (pred f p) (normal (f - 1) t (subst (λ (k : ℕ). k < 2047) (sym (pred f p)) X) H)
+  where
+    pred : (k : ℕ) → 0 < k → suc (k - 1) ≡ k
+    pred k h = omega arith
 
 -- ---- the fields of a value's own bits
 ofBits-is : (b : ℕ) → ofBits binary64 b ≡ ofFields binary64 (leb 9223372036854775808 b) (b % 9223372036854775808 / 4503599627370496) (b % 4503599627370496)

@@ -2,7 +2,7 @@
 use mathlib.Core.Path.{_≡_, refl, sym, ap, _∙_, subst}
 use mathlib.Core.Logic.{_⊎_, inl, inr}
 use Prim.Native.Nat.{ℕ, zero, suc, _+_, _-_, _*_, _/_, _%_, _^_, _≤_, _<_, compare, Ordering, Ordering·lt, Ordering·eq, Ordering·gt}
-use native.Mathlib.Nat.{le-trans, le-of-eq, le-antisymm, lt-of-lt-of-le, lt-of-le-of-lt, lt-irrefl, lt-of-not-le, le-of-suc-le-suc, eq-or-lt-of-le, mul-comm, mul-assoc, mul-mul-mul-comm, mul-pos, mul-le-mul-right, mul-lt-mul-of-pos-right, le-div-iff-mul-le, div-lt-iff-lt-mul, mul-div-cancel, zero-add}
+use native.Mathlib.Nat.{le-trans, le-of-eq, le-antisymm, lt-of-lt-of-le, lt-of-le-of-lt, lt-irrefl, lt-of-not-le, le-of-suc-le-suc, eq-or-lt-of-le, mul-comm, mul-assoc, mul-mul-mul-comm, mul-pos, mul-le-mul-right, mul-lt-mul-of-pos-right, mul-le-mul-left, mul-one, mod-eq-of-lt, le-div-iff-mul-le, div-lt-iff-lt-mul, mul-div-cancel, zero-add}
 use native.Mathlib.Omega.{arith}
 use mathlib.Core.Bool.{Bool, true, false, cond}
 use lib.Dec.{T, ltb, lt→ltb, lit<, lit≤}
@@ -191,3 +191,65 @@ joined m j K h e =
 -- ---- what the code computes
 pub bits-law : (X K : ℕ) → 2 ^ 104 ≤ X → X < 2 ^ 106 → K ≤ 2000 → ofBits binary64 (K * 4503599627370496 + nearWhole X) ≡ nearestRoot (X * (2 ^ K * 2 ^ K))
 bits-law X K lo hi k = units-bits (nearWhole X) K (near-high X lo) (near-low X hi) k ∙ sym (scaled-root X K lo hi)
+
+-- X is m * 2 ^ j
+bits : (m j K h X r : ℕ) → X ≡ m * 2 ^ j → j + (K + K) ≡ h → 2 ^ 104 ≤ X → X < 2 ^ 106 → K ≤ 2000 → r ≡ nearWhole X
+    → (ofBits binary64 (K * 4503599627370496 + r) ≡ nearestRoot (m * 2 ^ h)) × (K * 4503599627370496 + r < 9218868437227405312)
+bits m j K h X r x e lo hi k q = (
+  ap (λ (y : ℕ). ofBits binary64 (K * 4503599627370496 + y)) q ∙ bits-law X K lo hi k ∙ ap nearestRoot (ap (λ (y : ℕ). y * (2 ^ K * 2 ^ K)) x ∙ joined m j K h e),
+  omega (arith, near-low X hi),
+)
+
+-- of a parity
+parity : (m o : ℕ) → m * 2 ^ o * 4503599627370496 ≡ m * 2 ^ (o + 52)
+parity m o = mul-assoc m (2 ^ o) 4503599627370496 ∙ ap (λ (x : ℕ). m * x) (sym (pow-add 2 o 52))
+
+above : (m o : ℕ) → 4503599627370496 ≤ m → 2 ^ 104 ≤ m * 2 ^ o * 4503599627370496
+above m o h = go (m * 2 ^ o) (le-trans h (le-trans (le-of-eq (sym (mul-one m))) (mul-le-mul-left m (pow-pos o))))
+  where
+    go : (x : ℕ) → 4503599627370496 ≤ x → 2 ^ 104 ≤ x * 4503599627370496
+    go x g = omega arith
+
+pub below : (m o : ℕ) → m < 9007199254740992 → o < 2 → m * 2 ^ o * 4503599627370496 < 2 ^ 106
+below m o h k = go (m * 2 ^ o) (omega (arith, mul-le-mul-left m (pow-mono (up o k))))
+  where
+    up : (x : ℕ) → x < 2 → x ≤ 1
+    up x g = omega arith
+
+    go : (x : ℕ) → x < 18014398509481984 → x * 4503599627370496 < 2 ^ 106
+    go x g = omega arith
+
+-- m's power by its parity, and the rest halved
+pub bits-at : (m h r : ℕ) → 4503599627370496 ≤ m → m < 9007199254740992 → 1022 ≤ h → h ≤ 3119 → r ≡ nearWhole (m * 2 ^ (h % 2) * 4503599627370496)
+    → (ofBits binary64 ((h - 52) / 2 * 4503599627370496 + r) ≡ nearestRoot (m * 2 ^ h)) × ((h - 52) / 2 * 4503599627370496 + r < 9218868437227405312)
+bits-at m h r lo hi least most q =
+    let o = h % 2 in
+    bits m (o + 52) ((h - 52) / 2) h (m * 2 ^ o * 4503599627370496) r (parity m o) (omega arith) (above m o lo) (below m o hi (omega arith)) (omega arith) q
+
+-- the same of the bits, taken apart
+pub bits-apart : (m h r : ℕ) → 4503599627370496 ≤ m → m < 9007199254740992 → 1022 ≤ h → h ≤ 3119
+    → 4503599627370496 + r % 4503599627370496 ≡ nearWhole (m * 2 ^ (h % 2) * 4503599627370496) → r / 4503599627370496 ≡ (h - 50) / 2
+    → (ofBits binary64 r ≡ nearestRoot (m * 2 ^ h)) × (r < 9218868437227405312)
+bits-apart m h r lo hi least most q f =
+    subst (λ (x : ℕ). (ofBits binary64 x ≡ nearestRoot (m * 2 ^ h)) × (x < 9218868437227405312)) (again h r least f)
+    (bits-at m h (4503599627370496 + r % 4503599627370496) lo hi least most q)
+  where
+    again : (k x : ℕ) → 1022 ≤ k → x / 4503599627370496 ≡ (k - 50) / 2 → (k - 52) / 2 * 4503599627370496 + (4503599627370496 + x % 4503599627370496) ≡ x
+    again k x g e = omega arith
+
+-- ---- the significand, shifted by a parity
+small : (m o : ℕ) → m < 9007199254740992 → o < 2 → m * 2 ^ o < 18014398509481984
+small m o h k = omega (arith, mul-le-mul-left m (pow-mono (up o k)))
+  where
+    up : (x : ℕ) → x < 2 → x ≤ 1
+    up x g = omega arith
+
+-- nothing is shifted out
+kept : (m o : ℕ) → m < 9007199254740992 → o < 2 → m * 2 ^ o % 18446744073709551616 ≡ m * 2 ^ o
+kept m o h k = mod-eq-of-lt (omega (arith, small m o h k))
+
+pub shifted : (m o : ℕ) → m < 9007199254740992 → o < 2 → m * 2 ^ o % 18446744073709551616 < 18014398509481984
+shifted m o h k = subst (λ (x : ℕ). x < 18014398509481984) (sym (kept m o h k)) (small m o h k)
+
+pub near-kept : (m o r : ℕ) → m < 9007199254740992 → o < 2 → r ≡ nearWhole (m * 2 ^ o % 18446744073709551616 * 4503599627370496) → r ≡ nearWhole (m * 2 ^ o * 4503599627370496)
+near-kept m o r h k e = e ∙ ap (λ (x : ℕ). nearWhole (x * 4503599627370496)) (kept m o h k)

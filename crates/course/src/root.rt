@@ -1,5 +1,5 @@
-// The square root of every f64, correctly rounded (document 01, "Stand-ins"), from its bits and an
-// integer root.
+// The square root of every f64, correctly rounded (document 01, "Stand-ins"): a guess in f64, taken only where a test over
+// whole numbers proves it right, and else an integer root of the bits, digit by digit.
 ghost use mathlib.Core.Path.{_≡_};
 ghost use mathlib.Core.Bool.{true};
 ghost use Prim.Native.Nat.{_+_, _*_, _^_, _<_, _≤_};
@@ -12,14 +12,15 @@ const LEAD: u64 = 0x10_0000_0000_0000;
 
 const SIGN: u64 = 0x8000_0000_0000_0000;
 
-// The weight of the digits of a significand's upper half, among its bits.
-const HALF: u64 = 0x800_0000;
+// The bits of the infinity, which those of a finite number stand below, and those of a negative one above.
+const INFINITY: u64 = 0x7ff0_0000_0000_0000;
 
-// The bits of 2.
-const TWO: u64 = 0x4000_0000_0000_0000;
-
-// From this, half the bits of a number from 1 up to 4 leave those of its inverse root, to a fifteenth.
+// From this, half the bits of a normal number leave those of its inverse root: their squares differ by less than a fourteenth.
 const START: u64 = 0x5fe6_e8e8_dfce_b8d0;
+
+// What half the exponent of a normal number is added to, for the bits of 3 * 2^26 times the power of two next to its root.
+// A sum with that keeps 26 of the root's digits, and a number of so few digits has an exact square.
+const COARSE: u64 = 0x21b8_0000_0000_0000;
 
 // `whole` is the whole part of the root of a number n, and `left` is n less its square.
 struct Root {
@@ -79,35 +80,6 @@ fn by_digits(n: u64) -> u64
     }
 }
 
-// What a polynomial makes of the root of a number from 1 up to 4, by its bits: the digits below the
-// leading one. Nothing is promised of it but that it is short; `is_near` decides.
-fn guess(bits: u64) -> u64
-    requires { ⌜ (4607182418800017408 ≤ bits) × (bits < 4616189618054758400) ⌝ }
-    ensures { λ r. ⌜ r < 4503599627370496 ⌝ }
-{
-    let z = f64::from_bits(bits);
-    let y = f64::from_bits(START - bits / 2);
-    let w = z * y;
-    let r = 1.0 - w * y;
-    let s = r * r;
-    let a = 0.99999999999928 + 0.5000000023115836 * r;
-    let b = 0.37500000495761676 + 0.31249602065906124 * r;
-    let c = 0.2734321665415473 + 0.2478048307138952 * r + 0.22742027073043078 * s;
-    let p = a + b * s + c * (s * s);
-    let g = w * p;
-    if g != g {
-        return 0;
-    }
-    let h = 0.5 * y * p;
-    let t = f64::from_bits(f64::to_bits(g) % TWO / HALF * HALF);
-    let k = h + h * ((g - t) * h);
-    let v = t + (z - t * t) * k;
-    if v != v {
-        return 0;
-    }
-    f64::to_bits(v) % LEAD
-}
-
 // Whether e is the nearest whole number to the root of n * 4^26, by e's square in two halves.
 fn is_near(n: u64, e: u64) -> bool
     requires { ⌜ (n < 18014398509481984) × (0 < e) × (e < 9007199254740992) ⌝ }
@@ -145,12 +117,7 @@ fn near_root(m: u64, o: u64) -> u64
     requires { ⌜ (4503599627370496 ≤ m) × (m < 9007199254740992) × (o < 2) ⌝ }
     ensures { λ r. ⌜ r ≡ nearWhole (m * 2 ^ o * 4503599627370496) ⌝ }
 {
-    let n = m << o;
-    let e = LEAD + guess(m + (1022 + o) * LEAD);
-    if is_near(n, e) {
-        return e;
-    }
-    by_digits(n)
+    by_digits(m << o)
 }
 
 // A positive number of 53 digits, and the power of two that it is multiplied by.
@@ -187,8 +154,8 @@ fn root_bits(m: u64, h: u64) -> u64
     (h - 52) / 2 * LEAD + near_root(m, h % 2)
 }
 
-// The square root, as IEEE 754 has it.
-pub fn sqrt(x: f64) -> f64
+// The square root, digit by digit.
+fn sqrt_by_digits(x: f64) -> f64
     ensures { λ r. ⌜ r ≡ sqrtOf x ⌝ }
 {
     if x != x {
@@ -208,4 +175,61 @@ pub fn sqrt(x: f64) -> f64
     }
     let p = scaled(field, b % LEAD);
     f64::from_bits(root_bits(p.m, p.h))
+}
+
+// A guess at the root of a normal number x with the bits b. Nothing is promised of it: `is_root` decides.
+// Every factor of the inverse root of q, a number near 1, is worked out by itself: the root waits for three products and
+// two sums. t is the root's upper half, and what its square leaves of x gives the lower one.
+fn guess(x: f64, b: u64) -> f64
+    requires { ⌜ b < 9218868437227405312 ⌝ }
+{
+    let y = f64::from_bits(START - b / 2);
+    let coarse = f64::from_bits(COARSE + b / (2 * LEAD) * LEAD);
+    let w = x * y;
+    let q = w * y;
+    let l = 0.4825546520374847 - 0.21120795028548567 * q;
+    let i = (q - 0.16954498125727815) * q + 0.6104514507377133;
+    let j = (q - 3.757764058626149) * q + 4.388019592206678;
+    let k = (q - 1.8647117549090022) * q + 2.4335709904163836;
+    let p = i * j;
+    let g = p * (w * l * k);
+    let h = p * (0.5 * y * l * k);
+    let t = g + coarse - coarse;
+    let d = g - t;
+    t + (x - t * t + d * d) * h
+}
+
+// Whether r has the bits of the f64 nearest to the root of m * 2^h * 2^-2148, for an m of 53 digits; no need not mean that
+// it has not.
+fn is_root(m: u64, h: u64, r: u64) -> bool
+    requires { ⌜ (4503599627370496 ≤ m) × (m < 9007199254740992) × (1022 ≤ h) × (h ≤ 3119) ⌝ }
+    ensures { λ a. ⌜ (a ≡ true → (ofBits binary64 r ≡ nearestRoot (m * 2 ^ h)) × (r < 9218868437227405312)) ⌝ }
+{
+    let near = is_near(m << (h % 2), LEAD + r % LEAD);
+    near & (r / LEAD == (h - 50) / 2)
+}
+
+// The square root, as IEEE 754 has it.
+pub fn sqrt(x: f64) -> f64
+    ensures { λ r. ⌜ r ≡ sqrtOf x ⌝ }
+{
+    if x != x {
+        return x;
+    }
+    let b = f64::to_bits(x);
+    if b < LEAD {
+        return sqrt_by_digits(x);
+    }
+    if INFINITY <= b {
+        return sqrt_by_digits(x);
+    }
+    let v = guess(x, b);
+    if v != v {
+        return sqrt_by_digits(x);
+    }
+    let r = f64::to_bits(v);
+    if is_root(LEAD + b % LEAD, 1073 + b / LEAD, r) {
+        return f64::from_bits(r);
+    }
+    sqrt_by_digits(x)
 }

@@ -6,6 +6,7 @@ use native.Mathlib.Omega.{arith}
 use lib.Dec.{lit≤}
 use lib.Pow.{pow-add, pow-mono}
 use Rattle.course.specs.RootSteps.{unitsOf, Split}
+use Rattle.course.proofs.RootFields.{normal-at}
 use Rattle.course.proofs.root.scaled.Statement.{statement}
 use Rattle.course.proofs.root.scaled.Tie as tie
 use Rattle.course.proofs.root.scaled.Reads as reads
@@ -16,25 +17,6 @@ Inv-loop field digits m₀ h₀ m h = (m * 2 ^ h ≡ digits * 2 ^ 1074) × (2 ^ 
 
 abbrev μ-loop : tie.MeasureT-loop
 μ-loop field digits m₀ h₀ m h = h
-
--- a field above 0
-normal : (x t : ℕ) → suc x < 2047 → t < 4503599627370496 → Split (unitsOf (suc x) t) (4503599627370496 + t) (1073 + suc x)
-normal x t X H = record {
-  same = ap (λ (k : ℕ). (4503599627370496 + t) * k) (ap (λ (k : ℕ). 2 ^ k) (more x) ∙ pow-add 2 x 1074) ∙ sym (mul-assoc (4503599627370496 + t) (2 ^ x) (2 ^ 1074));
-  high = omega arith;
-  low = omega arith;
-  least = omega arith;
-  most = omega arith;
-}
-  where
-    more : (k : ℕ) → 1073 + suc k ≡ k + 1074
-    more k = omega arith
-
-normal-at : (f t : ℕ) → 0 < f → f < 2047 → t < 4503599627370496 → Split (unitsOf f t) (4503599627370496 + t) (1073 + f)
-normal-at f t p X H = subst (λ (k : ℕ). Split (unitsOf k t) (4503599627370496 + t) (1073 + k)) (pred f p) (normal (f - 1) t (subst (λ (k : ℕ). k < 2047) (sym (pred f p)) X) H)
-  where
-    pred : (k : ℕ) → 0 < k → suc (k - 1) ≡ k
-    pred k h = omega arith
 
 -- a turn
 above : (m h : ℕ) → 2 ^ (1074 - h) ≤ m → m < 4503599627370496 → 1022 < h
