@@ -210,7 +210,7 @@ above m o h = go (m * 2 ^ o) (le-trans h (le-trans (le-of-eq (sym (mul-one m))) 
     go : (x : ℕ) → 4503599627370496 ≤ x → 2 ^ 104 ≤ x * 4503599627370496
     go x g = omega arith
 
-pub below : (m o : ℕ) → m < 9007199254740992 → o < 2 → m * 2 ^ o * 4503599627370496 < 2 ^ 106
+below : (m o : ℕ) → m < 9007199254740992 → o < 2 → m * 2 ^ o * 4503599627370496 < 2 ^ 106
 below m o h k = go (m * 2 ^ o) (omega (arith, mul-le-mul-left m (pow-mono (up o k))))
   where
     up : (x : ℕ) → x < 2 → x ≤ 1

@@ -15,7 +15,7 @@ const SIGN: u64 = 0x8000_0000_0000_0000;
 // The bits of the infinity, which those of a finite number stand below, and those of a negative one above.
 const INFINITY: u64 = 0x7ff0_0000_0000_0000;
 
-// From this, half the bits of a normal number leave those of its inverse root: their squares differ by less than a fourteenth.
+// From this, half the bits of a normal number x leave those of a y near its inverse root: x * y * y is within a fourteenth of 1.
 const START: u64 = 0x5fe6_e8e8_dfce_b8d0;
 
 // What half the exponent of a normal number is added to, for the bits of 3 * 2^26 times the power of two next to its root.
@@ -112,14 +112,6 @@ fn is_near(n: u64, e: u64) -> bool
     q < p + e
 }
 
-// The nearest whole number to the root of m * 2^o * 4^26, for an m of 53 digits.
-fn near_root(m: u64, o: u64) -> u64
-    requires { ⌜ (4503599627370496 ≤ m) × (m < 9007199254740992) × (o < 2) ⌝ }
-    ensures { λ r. ⌜ r ≡ nearWhole (m * 2 ^ o * 4503599627370496) ⌝ }
-{
-    by_digits(m << o)
-}
-
 // A positive number of 53 digits, and the power of two that it is multiplied by.
 struct Parts {
     m: u64,
@@ -151,7 +143,7 @@ fn root_bits(m: u64, h: u64) -> u64
     requires { ⌜ (4503599627370496 ≤ m) × (m < 9007199254740992) × (1022 ≤ h) × (h ≤ 3119) ⌝ }
     ensures { λ r. ⌜ (ofBits binary64 r ≡ nearestRoot (m * 2 ^ h)) × (r < 9218868437227405312) ⌝ }
 {
-    (h - 52) / 2 * LEAD + near_root(m, h % 2)
+    (h - 52) / 2 * LEAD + by_digits(m << (h % 2))
 }
 
 // The square root, digit by digit.
@@ -178,8 +170,8 @@ fn sqrt_by_digits(x: f64) -> f64
 }
 
 // A guess at the root of a normal number x with the bits b. Nothing is promised of it: `is_root` decides.
-// Every factor of the inverse root of q, a number near 1, is worked out by itself: the root waits for three products and
-// two sums. t is the root's upper half, and what its square leaves of x gives the lower one.
+// l * i * j * k is the polynomial of degree 7 that is nearest to the inverse root of q, to 2^-40; in factors, since none of
+// them waits for another. So g is near the root s, and h near 1 / 2s. t is g's upper half, and s = t + (x - t^2 + (s - t)^2) / 2s.
 fn guess(x: f64, b: u64) -> f64
     requires { ⌜ b < 9218868437227405312 ⌝ }
 {
@@ -217,10 +209,7 @@ pub fn sqrt(x: f64) -> f64
         return x;
     }
     let b = f64::to_bits(x);
-    if b < LEAD {
-        return sqrt_by_digits(x);
-    }
-    if INFINITY <= b {
+    if (b < LEAD) | (INFINITY <= b) {
         return sqrt_by_digits(x);
     }
     let v = guess(x, b);

@@ -7,7 +7,7 @@ use lib.Ieee.{binary64, fits, toBits}
 use lib.Ieee.Compare.{differs-from-itself}
 use borrow.Author.Needs.{needs}
 use Rattle.course.specs.Root.{nearestRoot}
-use Rattle.course.proofs.RootFields.{way-nan, no-nan, way-root, normal-at, below-inf}
+use Rattle.course.proofs.RootFields.{way-nan, no-nan, way-root, is-normal, normal-at, below-inf}
 use Rattle.course.proofs.root.sqrt.Statement.{statement}
 use Rattle.course.proofs.root.sqrt.Tie as tie
 use Rattle.course.proofs.root.sqrt.Reads as reads
@@ -32,49 +32,48 @@ sqrt-by-digits-requires c κs = search needs
 returns-2 : tie.Need-returns-2
 returns-2 c = search needs
 
+guess-requires : tie.Need-guess-requires
+guess-requires c κs = is-normal _ (c .if2 .left) .1
+
 sqrt-by-digits-requires-2 : tie.Need-sqrt-by-digits-requires-2
 sqrt-by-digits-requires-2 c κs = search needs
 
 returns-3 : tie.Need-returns-3
 returns-3 c = search needs
 
-guess-requires : tie.Need-guess-requires
-guess-requires c κs = search needs
-
-sqrt-by-digits-requires-3 : tie.Need-sqrt-by-digits-requires-3
-sqrt-by-digits-requires-3 c κs = search needs
-
-returns-4 : tie.Need-returns-4
-returns-4 c = search needs
-
 float-to-bits-r : tie.Need-float-to-bits-r
-float-to-bits-r c = no-nan _ (c .if4 .left)
+float-to-bits-r c = no-nan _ (c .if3 .left)
 
 add-is-root : tie.Need-add-is-root
 add-is-root c = search needs
 
 add-is-root-2 : tie.Need-add-is-root-2
-add-is-root-2 c = search needs
+add-is-root-2 c =
+    let n = is-normal (toBits binary64 (c .before .before .before .before .args .x)) (c .before .before .if2 .left) in
+    omega (arith, n)
 
 is-root-requires : tie.Need-is-root-requires
-is-root-requires c κs = search needs
+is-root-requires c κs =
+    let n = is-normal (toBits binary64 (c .before .before .before .before .args .x)) (c .before .before .if2 .left) in
+    (omega arith, omega arith, omega (arith, n), omega (arith, n))
 
 float-from-bits-result : tie.Need-float-from-bits-result
-float-from-bits-result c = below-inf _ (c .before .is-root .ensures (c .if5 .taken) .1)
+float-from-bits-result c = below-inf _ (c .before .is-root .ensures (c .if4 .taken) .1)
+
+returns-4 : tie.Need-returns-4
+returns-4 c =
+    let s = c .before .before .before .before .before .before in
+    let b = toBits binary64 (s .args .x) in
+    let n = is-normal b (c .before .before .before .before .if2 .left) in
+    c .before .is-root .ensures (c .if4 .taken) .0
+    ∙ ap nearestRoot (normal-at (b / 4503599627370496) (b % 4503599627370496) (omega (arith, n)) (omega (arith, n)) (omega arith) .same)
+    ∙ sym (way-root (s .args .x) (held s) b refl (omega (arith, n)) (omega (arith, n)) (omega (arith, n)))
+
+sqrt-by-digits-requires-3 : tie.Need-sqrt-by-digits-requires-3
+sqrt-by-digits-requires-3 c κs = search needs
 
 returns-5 : tie.Need-returns-5
-returns-5 c =
-    let s = c .before .before .before .before .before .before .before in
-    let b = toBits binary64 (s .args .x) in
-    c .before .is-root .ensures (c .if5 .taken) .0
-    ∙ ap nearestRoot (normal-at (b / 4503599627370496) (b % 4503599627370496) (omega arith) (omega arith) (omega arith) .same)
-    ∙ sym (way-root (s .args .x) (held s) b refl (omega arith) (omega arith) (omega arith))
-
-sqrt-by-digits-requires-4 : tie.Need-sqrt-by-digits-requires-4
-sqrt-by-digits-requires-4 c κs = search needs
-
-returns-6 : tie.Need-returns-6
-returns-6 c = search needs
+returns-5 c = search needs
 
 pub sqrt-spec : {M : Type 1} → statement M
 sqrt-spec =
@@ -84,16 +83,14 @@ sqrt-spec =
     float-to-bits-b
     sqrt-by-digits-requires
     returns-2
+    guess-requires
     sqrt-by-digits-requires-2
     returns-3
-    guess-requires
-    sqrt-by-digits-requires-3
-    returns-4
     float-to-bits-r
     add-is-root
     add-is-root-2
     is-root-requires
     float-from-bits-result
-    returns-5
-    sqrt-by-digits-requires-4
-    returns-6)
+    returns-4
+    sqrt-by-digits-requires-3
+    returns-5)

@@ -1,4 +1,4 @@
--- `course::root::sqrt_by_digits` meets its contract. Each way out of the code is a law of `specs/Shell.antt`. Assumes nothing.
+-- `course::root::sqrt_by_digits` meets its contract. Each way out of the code is a law of `RootFields`. Assumes nothing.
 use mathlib.Core.Path.{_≡_, refl, sym, ap, _∙_, subst}
 use Prim.Native.Nat.{ℕ, _+_, _*_, _/_, _%_, _^_, _≤_, _<_}
 use native.Mathlib.Omega.{arith}
