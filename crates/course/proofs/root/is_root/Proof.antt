@@ -1,7 +1,6 @@
 -- `course::root::is_root` meets its contract: r's digits are the nearest whole number, and its exponent is m's power halved. Assumes nothing.
-use mathlib.Core.Path.{_≡_, sym, subst}
-use mathlib.Core.Bool.{true}
-use Prim.Native.Nat.{_+_, _-_, _*_, _/_, _%_, _^_}
+use mathlib.Core.Path.{sym, subst}
+use Prim.Native.Nat.{_-_, _/_, _%_}
 use native.Mathlib.Omega.{arith}
 use lib.Dec.{T, eqb, eqb→eq}
 use lib.Ieee.Bits.{is-true}

@@ -4,7 +4,7 @@ use Prim.Native.Nat.{ℕ, suc, _+_, _-_, _*_, _/_, _%_, _^_, _≤_, _<_}
 use native.Mathlib.Nat.{mul-assoc, mul-left-comm, mul-comm, pow-succ', lt-of-not-le, lt-irrefl, lt-of-lt-of-le, lt-of-le-of-lt, mul-one}
 use native.Mathlib.Omega.{arith}
 use lib.Dec.{lit≤}
-use lib.Pow.{pow-add, pow-mono}
+use lib.Pow.{pow-mono}
 use Rattle.course.specs.RootSteps.{unitsOf, Split}
 use Rattle.course.proofs.RootFields.{normal-at}
 use Rattle.course.proofs.root.scaled.Statement.{statement}

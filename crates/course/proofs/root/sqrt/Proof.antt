@@ -1,6 +1,6 @@
 -- `course::root::sqrt` meets its contract: a guess is returned only where it is the root, and else the digits are worked out. Assumes nothing.
-use mathlib.Core.Path.{_≡_, refl, sym, ap, _∙_, subst}
-use Prim.Native.Nat.{_+_, _*_, _/_, _%_, _^_, _≤_, _<_}
+use mathlib.Core.Path.{refl, sym, ap, _∙_, subst}
+use Prim.Native.Nat.{_/_, _%_}
 use native.Mathlib.Omega.{arith}
 use lib.Dec.{T}
 use lib.Ieee.{binary64, fits, toBits}
