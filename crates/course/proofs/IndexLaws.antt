@@ -197,16 +197,17 @@ module _ (h : ℕ → ℕ → Bool) (n : ℕ) where
       more : (t : List ℕ) × (indexOf h n q ≡ indexOf h n c ++ (listed h n c ++ t)) → (t : List ℕ) × (indexOf h n q ++ listed h n q ≡ indexOf h n c ++ (listed h n c ++ t))
       more s = (s .0 ++ listed h n q, ap (λ (z : List ℕ). z ++ listed h n q) (s .1) ∙ simp append-assoc)
 
+  -- where the lists of the cells below k end, whatever stands past the offsets
+  pub offset-at : (cells : ℕ) (past : List ℕ) (k : ℕ) → k < cells + 1 → getD (offsetsOf h n cells ++ past) k 0 ≡ start h n k
+  offset-at cells past k m = List·getD-append (offsetsOf h n cells) past 0 k (omega (arith, table-length (start h n) (cells + 1))) ∙ table-at (start h n) (cells + 1) k m
+
   -- ---- the law of the lookup: on a laid index, whatever stands past it, the lookup of cell c is what cell c lists
   module _ (cells c : ℕ) (past past′ : List ℕ) (l : c < cells) where
-    offset-at : (k : ℕ) → k < cells + 1 → getD (offsetsOf h n cells ++ past) k 0 ≡ start h n k
-    offset-at k m = List·getD-append (offsetsOf h n cells) past 0 k (omega (arith, table-length (start h n) (cells + 1))) ∙ table-at (start h n) (cells + 1) k m
-
     from-at : getD (offsetsOf h n cells ++ past) c 0 ≡ start h n c
-    from-at = offset-at c (omega arith)
+    from-at = offset-at cells past c (omega arith)
 
     to-at : getD (offsetsOf h n cells ++ past) (c + 1) 0 ≡ start h n c + length (listed h n c)
-    to-at = offset-at (c + 1) (omega arith) ∙ start-more c
+    to-at = offset-at cells past (c + 1) (omega arith) ∙ start-more c
 
     abbrev rest : List ℕ
     rest = index-split c cells l .0 ++ past′

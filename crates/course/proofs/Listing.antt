@@ -15,7 +15,7 @@ use borrow.Author.Tests.{le-ltb}
 use Rattle.course.specs.Index.{addIf, listed, partOk, lookup, offsetsOf, indexOf, pickList}
 use Rattle.course.specs.Rect.{holdsOf, needed}
 use Rattle.course.specs.IndexSteps.{Built}
-use Rattle.course.proofs.IndexLaws.{order, listed-at, part-laid, lookup-laid}
+use Rattle.course.proofs.IndexLaws.{order, listed-at, offset-at, index-length, part-laid, lookup-laid}
 
 -- what stands at k after one element more
 snoc-at : (l : List ℕ) (x k : ℕ) → k < length (l ++ (x ∷ [])) → (k < length l) ⊎ (k ≡ length l)
@@ -62,6 +62,10 @@ built-lookup tiles n o l o′ l′ short need b a c m =
     ap (λ (z : List ℕ). lookup z l′ c) p
     ∙ ap (λ (z : List ℕ). lookup (offsetsOf (holdsOf tiles) n 4489 ++ drop 4490 o) z c) q
     ∙ lookup-laid (holdsOf tiles) n 4489 c (drop 4490 o) (drop (needed tiles n) l) m
+
+-- the last offset is the list's length
+pub last-offset : (h : ℕ → ℕ → Bool) (n cells : ℕ) (past : List ℕ) → getD (offsetsOf h n cells ++ past) cells 0 ≡ length (indexOf h n cells)
+last-offset h n cells past = offset-at h n cells past cells (omega arith) ∙ sym (index-length h n cells)
 
 -- t stands in the list
 abbrev pub Lists : List ℕ → ℕ → Type 0

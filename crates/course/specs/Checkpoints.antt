@@ -1,5 +1,5 @@
 -- Document 01, "Lay" (Random numbers, `try_generate`): the twelve checkpoints of an attempt, two draws for each. Assumes nothing.
-use Prim.Native.Nat.{ℕ, zero, suc, _+_, _*_}
+use Prim.Native.Nat.{ℕ, zero, suc, _+_, _-_, _*_}
 use mathlib.Core.Bool.{cond}
 use mathlib.Core.List.{List, [], _∷_, _++_}
 use lib.Dec.{eqb}
@@ -8,7 +8,7 @@ use Rattle.rng.specs.declared.SplitMix64.{SplitMix64}
 use Rattle.rng.specs.SplitMix.{after}
 use Rattle.rng.specs.Unit.{uniformDrawOf}
 use Rattle.course.specs.Arithmetic.{_⊕_, _⊗_, _⊘_, natural, decimal, nought}
-use Rattle.course.specs.Constants.{tau, trackRad}
+use Rattle.course.specs.Constants.{tau, trackRad, checkpointCount}
 use Rattle.course.specs.Trig.{sineOf, cosineOf}
 use Rattle.course.specs.declared.checkpoints.Checkpoint.{Checkpoint}
 
@@ -18,7 +18,7 @@ spotOf angle rad = record { angle = angle; x = rad ⊗ cosineOf angle; y = rad �
 
 -- tau * c / CHECKPOINTS
 unfoldable pub baseOf : ℕ → Float
-baseOf c = tau ⊗ natural c ⊘ natural 12
+baseOf c = tau ⊗ natural c ⊘ natural checkpointCount
 
 -- 1.5 * TRACK_RAD
 unfoldable pub farRad : Float
@@ -28,14 +28,14 @@ farRad = decimal 15 10 ⊗ trackRad
 unfoldable pub checkpointOf : ℕ → Float → Float → Checkpoint
 checkpointOf c noise rad =
     cond (eqb c 0) (spotOf nought farRad)
-    (cond (eqb c 11) (spotOf (baseOf c) farRad)
+    (cond (eqb c (checkpointCount - 1)) (spotOf (baseOf c) farRad)
     (spotOf (baseOf c ⊕ noise) rad))
 
 -- checkpoint c of a generator: its draws 2c and 2c + 1, counted from 0
 unfoldable pub checkpointAt : ℕ → SplitMix64 → Checkpoint
 checkpointAt c g =
     checkpointOf c
-    (uniformDrawOf (after (2 * c) g) nought (tau ⊘ natural 12) .value)
+    (uniformDrawOf (after (2 * c) g) nought (tau ⊘ natural checkpointCount) .value)
     (uniformDrawOf (after (2 * c + 1) g) (trackRad ⊘ natural 3) trackRad .value)
 
 -- the first n

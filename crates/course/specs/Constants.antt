@@ -40,15 +40,11 @@ unfoldable pub gridCell : Float
 gridCell = natural 10
 
 -- GRID_DIM: the cells of a row, and the rows
-unfoldable pub gridDim : ℕ
+abbrev pub gridDim : ℕ
 gridDim = 67
 
--- BORDER_MIN_COUNT
-unfoldable pub borderMinCount : ℕ
-borderMinCount = 4
-
 -- CHECKPOINTS
-unfoldable pub checkpointCount : ℕ
+abbrev pub checkpointCount : ℕ
 checkpointCount = 12
 
 -- MAX_ATTEMPTS

@@ -8,6 +8,7 @@ use mathlib.Core.Logic.{_⊎_}
 use lib.ListN.{length, getD, drop}
 use lib.Dec.{ltb}
 use lib.Ieee.{Float}
+use Rattle.course.specs.Lengths.{cellCount, offsetCount}
 use Rattle.course.specs.Index.{listed, start, pickList, offsetsOf, indexOf}
 use Rattle.course.specs.Rect.{holds, holdsOf, needed}
 use Rattle.course.specs.declared.index.Rect.{Rect}
@@ -31,7 +32,7 @@ pub record RunCounted (o o′ : List ℕ) (a b : ℕ) : Type 0 where
 -- every cell that the rectangle holds counts one more
 pub record RectCounted (o o′ : List ℕ) (r : Rect) : Type 0 where
   pub same : length o′ ≡ length o
-  pub cells : (c : ℕ) → c < 4489 → getD o′ c 0 ≡ getD o c 0 + one (holds r c)
+  pub cells : (c : ℕ) → c < cellCount → getD o′ c 0 ≡ getD o c 0 + one (holds r c)
 
 -- the sum of the first k elements
 unfoldable pub sumBelow : List ℕ → ℕ → ℕ
@@ -41,13 +42,13 @@ sumBelow o (suc k) = sumBelow o k + getD o k 0
 -- each cell has the sum up to and with its own, and the entry past the cells the sum of all
 pub record Summed (o o′ : List ℕ) : Type 0 where
   pub same : length o′ ≡ length o
-  pub cells : (c : ℕ) → c < 4489 → getD o′ c 0 ≡ sumBelow o (c + 1)
-  pub end : getD o′ 4489 0 ≡ sumBelow o 4489
+  pub cells : (c : ℕ) → c < cellCount → getD o′ c 0 ≡ sumBelow o (c + 1)
+  pub end : getD o′ cellCount 0 ≡ sumBelow o cellCount
 
 -- each cell counts the ids below i that it lists
 pub record Counts (h : ℕ → ℕ → Bool) (i : ℕ) (o : List ℕ) : Type 0 where
-  pub size : length o ≡ 4490
-  pub cells : (c : ℕ) → c < 4489 → getD o c 0 ≡ length (listed h i c)
+  pub size : length o ≡ offsetCount
+  pub cells : (c : ℕ) → c < cellCount → getD o c 0 ≡ length (listed h i c)
 
 -- every cell of a run steps back by one, and id stands where it then points; nothing else changes
 pub record RunPlaced (o l o′ l′ : List ℕ) (id a b : ℕ) : Type 0 where
@@ -63,18 +64,18 @@ pub record RunPlaced (o l o′ l′ : List ℕ) (id a b : ℕ) : Type 0 where
 pub record RectPlaced (o l o′ l′ : List ℕ) (id : ℕ) (r : Rect) : Type 0 where
   pub same : length o′ ≡ length o
   pub same-list : length l′ ≡ length l
-  pub end : getD o′ 4489 0 ≡ getD o 4489 0
-  pub cells : (c : ℕ) → c < 4489 → getD o′ c 0 + one (holds r c) ≡ getD o c 0
-  pub placed : (c j : ℕ) → c < 4489 → holds r c ≡ true → j + 1 ≡ getD o c 0 → getD l′ j 0 ≡ id
-  pub other : (j : ℕ) → ((c : ℕ) → c < 4489 → holds r c ≡ true → j + 1 ≡ getD o c 0 → ⊥) → getD l′ j 0 ≡ getD l j 0
+  pub end : getD o′ cellCount 0 ≡ getD o cellCount 0
+  pub cells : (c : ℕ) → c < cellCount → getD o′ c 0 + one (holds r c) ≡ getD o c 0
+  pub placed : (c j : ℕ) → c < cellCount → holds r c ≡ true → j + 1 ≡ getD o c 0 → getD l′ j 0 ≡ id
+  pub other : (j : ℕ) → ((c : ℕ) → c < cellCount → holds r c ≡ true → j + 1 ≡ getD o c 0 → ⊥) → getD l′ j 0 ≡ getD l j 0
 
 -- the ids from i up to below n are placed at the ends of their cells' parts, and the offsets point at what is placed
 pub record Placed (h : ℕ → ℕ → Bool) (n i : ℕ) (o l : List ℕ) : Type 0 where
-  pub size : length o ≡ 4490
-  pub room : length l ≡ start h n 4489
-  pub end : getD o 4489 0 ≡ start h n 4489
-  pub cells : (c : ℕ) → c < 4489 → getD o c 0 ≡ start h n c + length (listed h i c)
-  pub ids : (c k : ℕ) → c < 4489 → length (listed h i c) ≤ k → k < length (listed h n c) → getD l (start h n c + k) 0 ≡ getD (listed h n c) k 0
+  pub size : length o ≡ offsetCount
+  pub room : length l ≡ start h n cellCount
+  pub end : getD o cellCount 0 ≡ start h n cellCount
+  pub cells : (c : ℕ) → c < cellCount → getD o c 0 ≡ start h n c + length (listed h i c)
+  pub ids : (c k : ℕ) → c < cellCount → length (listed h i c) ≤ k → k < length (listed h n c) → getD l (start h n c + k) 0 ≡ getD (listed h n c) k 0
 
 -- the rectangle ends within the 67 rows and columns
 pub record Small (r : Rect) : Type 0 where
@@ -87,5 +88,5 @@ pub record Small (r : Rect) : Type 0 where
 pub record Built (tiles : List Float) (n : ℕ) (o l o′ l′ : List ℕ) (short : Bool) (need : ℕ) : Type 0 where
   pub length-needed : need ≡ needed tiles n
   pub too-short : short ≡ ltb (length l) (needed tiles n)
-  pub offsets : o′ ≡ pickList (ltb (length l) (needed tiles n)) o (offsetsOf (holdsOf tiles) n 4489 ++ drop 4490 o)
-  pub entries : l′ ≡ pickList (ltb (length l) (needed tiles n)) l (indexOf (holdsOf tiles) n 4489 ++ drop (needed tiles n) l)
+  pub offsets : o′ ≡ pickList (ltb (length l) (needed tiles n)) o (offsetsOf (holdsOf tiles) n cellCount ++ drop offsetCount o)
+  pub entries : l′ ≡ pickList (ltb (length l) (needed tiles n)) l (indexOf (holdsOf tiles) n cellCount ++ drop (needed tiles n) l)

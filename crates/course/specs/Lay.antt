@@ -1,11 +1,11 @@
 -- Document 01, "Lay": a seed becomes a course. Its points, and what a call of lay does with the lent columns (causes 2 and 3). Assumes nothing.
-use Prim.Native.Nat.{ℕ, zero, suc}
+use Prim.Native.Nat.{ℕ, zero, suc, _*_}
 use mathlib.Core.Bool.{Bool, true, false, cond}
 use mathlib.Core.List.{List, [], _∷_, _++_, map}
 use Rattle.rng.specs.declared.SplitMix64.{SplitMix64}
 use Rattle.rng.specs.SplitMix.{after, seeded}
 use Rattle.course.specs.Arithmetic.{_⊗_, _⊘_, natural}
-use Rattle.course.specs.Constants.{tau, trackRad, maxAttempts}
+use Rattle.course.specs.Constants.{tau, trackRad, checkpointCount, maxAttempts}
 use Rattle.course.specs.Trig.{sineOf, cosineOf}
 use Rattle.course.specs.Checkpoints.{checkpointsOf}
 use Rattle.course.specs.Walk.{Trail, walkOf}
@@ -62,7 +62,7 @@ courseOn cs = orElse (attemptOn cs) ringCourse
 -- at most n attempts, each 24 draws on from the one before; then the ring
 unfoldable pub courseFrom : ℕ → SplitMix64 → CoursePoints
 courseFrom zero g = ringCourse
-courseFrom (suc n) g = orElse (attemptOn (checkpointsOf 12 g)) (courseFrom n (after 24 g))
+courseFrom (suc n) g = orElse (attemptOn (checkpointsOf checkpointCount g)) (courseFrom n (after (2 * checkpointCount) g))
 
 unfoldable pub courseWithin : ℕ → ℕ → CoursePoints
 courseWithin attempts seed = courseFrom attempts (seeded seed)

@@ -1,5 +1,5 @@
 -- Definitions that only private functions of `checkpoints`, `walk`, `track` and `lay` cite. Assumes nothing.
-use Prim.Native.Nat.{ℕ, _≤_}
+use Prim.Native.Nat.{ℕ, _*_, _≤_}
 use mathlib.Core.Path.{_≡_}
 use mathlib.Core.Bool.{Bool}
 use mathlib.Core.List.{List, _++_}
@@ -7,6 +7,8 @@ use lib.ListN.{length, take, drop}
 use lib.Ieee.{Float}
 use Rattle.rng.specs.declared.SplitMix64.{SplitMix64}
 use Rattle.rng.specs.SplitMix.{after}
+use Rattle.course.specs.Constants.{checkpointCount}
+use Rattle.course.specs.Lengths.{mostPoints}
 use Rattle.course.specs.Checkpoints.{checkpointsOf}
 use Rattle.course.specs.Walk.{walkOf}
 use Rattle.course.specs.Track.{stepAlphas, stepBetas, stepXs, stepYs, trackOf}
@@ -18,13 +20,13 @@ use Rattle.course.specs.declared.tiles.TrackPoint.{TrackPoint}
 
 -- an attempt's checkpoints, and the generator after their 24 draws
 unfoldable pub drawnOf : SplitMix64 → Drawn
-drawnOf g = record { checkpoints = checkpointsOf 12 g; rng = after 24 g }
+drawnOf g = record { checkpoints = checkpointsOf checkpointCount g; rng = after (2 * checkpointCount) g }
 
 -- the columns after the walk: its steps, and then what stood there before
 pub record Trod (cs : List Checkpoint) (a b u v a′ b′ u′ v′ : List Float) (n : ℕ) (ok : Bool) : Type 0 where
   pub result : ok ≡ walkOf cs .ok
   pub count : n ≡ length (walkOf cs .steps)
-  pub few : n ≤ 2500
+  pub few : n ≤ mostPoints
   pub alpha : a′ ≡ stepAlphas (walkOf cs .steps) ++ drop n a
   pub beta : b′ ≡ stepBetas (walkOf cs .steps) ++ drop n b
   pub x : u′ ≡ stepXs (walkOf cs .steps) ++ drop n u
@@ -53,7 +55,7 @@ pub record InFront (ps : List TrackPoint) (a b u v a′ b′ u′ v′ : List Fl
   pub beta : take n b′ ≡ betas ps
   pub x : take n u′ ≡ xs ps
   pub y : take n v′ ≡ ys ps
-  pub kept-a : drop 2500 a′ ≡ drop 2500 a
-  pub kept-b : drop 2500 b′ ≡ drop 2500 b
-  pub kept-x : drop 2500 u′ ≡ drop 2500 u
-  pub kept-y : drop 2500 v′ ≡ drop 2500 v
+  pub kept-a : drop mostPoints a′ ≡ drop mostPoints a
+  pub kept-b : drop mostPoints b′ ≡ drop mostPoints b
+  pub kept-x : drop mostPoints u′ ≡ drop mostPoints u
+  pub kept-y : drop mostPoints v′ ≡ drop mostPoints v

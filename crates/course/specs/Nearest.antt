@@ -1,6 +1,6 @@
 -- Document 01, "Stand-ins", of `sqrt`: the nearest f64, ties to even, stated over whole numbers: the operand beside the squares of the halfway points, all brought to one power of two. Definitions only.
 -- In units of 2 ^ -1074 let x be n, r be a, and another f64 y be b. Halfway between r and y is (a + b) / 2, and its square is (a + b) * (a + b) / 4 in units of 2 ^ -2148, in which x is n * 2 ^ 1074.
--- So r is as near to the root of x as y is where 4 * (n * 2 ^ 1074) lies on r's side of (a + b) * (a + b). `Law.sqrt-nearest` says it of `sqrtOf`.
+-- So r is as near to the root of x as y is where 4 * (n * 2 ^ 1074) lies on r's side of (a + b) * (a + b). `sqrt-nearest` in proofs/RootLaw.antt says it of `sqrtOf`.
 use mathlib.Core.Path.{_≡_}
 use Prim.Native.Nat.{ℕ, _+_, _*_, _%_, _^_, _≤_, _<_}
 use mathlib.Core.Bool.{Bool, false, not}

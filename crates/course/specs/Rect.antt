@@ -6,6 +6,7 @@ use lib.ListN.{getD}
 use lib.Dec.{leb}
 use lib.Ieee.{Float, nan}
 use Rattle.course.specs.Numeric.{leastOf, greatestOf}
+use Rattle.course.specs.Constants.{gridDim}
 use Rattle.course.specs.Cell.{cellOf}
 use Rattle.course.specs.declared.index.Rect.{Rect}
 
@@ -25,7 +26,7 @@ rectOf tiles i =
 
 -- cell c stands in row c / 67 and column c % 67: its number is row times 67 plus column
 unfoldable pub holds : Rect → ℕ → Bool
-holds r c = (leb (r .y0) (c / 67) && leb (c / 67) (r .y1)) && (leb (r .x0) (c % 67) && leb (c % 67) (r .x1))
+holds r c = (leb (r .y0) (c / gridDim) && leb (c / gridDim) (r .y1)) && (leb (r .x0) (c % gridDim) && leb (c % gridDim) (r .x1))
 
 -- whether the rectangle of tile i holds cell c
 abbrev pub holdsOf : List Float → ℕ → ℕ → Bool

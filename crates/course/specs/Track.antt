@@ -6,14 +6,14 @@ use lib.Dec.{eqb}
 use lib.ListN.{length, getD, take, drop}
 use lib.Ieee.{Float, nan, lt, le, neg}
 use Rattle.course.specs.Arithmetic.{_⊕_, _⊖_, _⊗_, _⊘_, natural, decimal}
-use Rattle.course.specs.Constants.{tau, trackDetailStep}
+use Rattle.course.specs.Constants.{tau, trackDetailStep, checkpointCount}
 use Rattle.course.specs.Trig.{sineOf, cosineOf}
 use Rattle.course.specs.Root.{sqrtOf}
 use Rattle.course.specs.declared.step.TrackStep.{TrackStep}
 
 -- the Rust's start_alpha
 unfoldable pub startAlpha : Float
-startAlpha = tau ⊗ neg (decimal 1 2) ⊘ natural 12
+startAlpha = tau ⊗ neg (decimal 1 2) ⊘ natural checkpointCount
 
 -- the angles pass through the start at i: above it, and not above it just before
 unfoldable pub passesAt : List Float → ℕ → Bool

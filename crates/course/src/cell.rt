@@ -2,6 +2,7 @@
 ghost use mathlib.Core.Path.{_≡_};
 ghost use Rattle.course.specs.Cell.{cellOf, cellAt};
 use crate::constants::GRID_CELL;
+use crate::constants::GRID_DIM;
 use crate::constants::PLAYFIELD;
 
 // The grid cell of a coordinate: 0 to 66.
@@ -22,5 +23,5 @@ pub fn cell_of(v: f64) -> usize
 pub fn cell_at(x: f64, y: f64) -> usize
     ensures { λ r. ⌜ r ≡ cellAt x y ⌝ }
 {
-    cell_of(y) * 67 + cell_of(x)
+    cell_of(y) * GRID_DIM + cell_of(x)
 }

@@ -35,9 +35,14 @@ pub const PI: f64 = 3.14159265358979323846264338327950288;
 
 pub const TAU: f64 = 2.0 * PI;
 
+// The grid's cells in a row, its rows, and all its cells.
+pub const GRID_DIM: usize = 67;
+
+pub const CELL_COUNT: usize = GRID_DIM * GRID_DIM;
+
 // The lengths of lent columns (document 01, "Lay": Lent): points, numbers of tiles or curbs, offsets.
 pub const MOST_POINTS: usize = 2500;
 
-pub const MOST_NUMBERS: usize = 20000;
+pub const MOST_NUMBERS: usize = 8 * MOST_POINTS;
 
-pub const OFFSET_COUNT: usize = 4490;
+pub const OFFSET_COUNT: usize = CELL_COUNT + 1;

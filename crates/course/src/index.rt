@@ -5,12 +5,16 @@ ghost use mathlib.Core.Bool.{true};
 ghost use mathlib.Core.List.{List, _++_};
 ghost use Prim.Native.Nat.{ℕ, _+_, _*_, _-_, _<_, _≤_};
 ghost use lib.ListN.{length, getD, take, drop, replicate};
+ghost use Rattle.course.specs.Lengths.{cellCount, mostPoints, offsetCount};
 ghost use Rattle.course.specs.Cell.{cellAt};
 ghost use Rattle.course.specs.Rect.{rectOf, holds, holdsOf, areaOf, needed};
 ghost use Rattle.course.specs.Index.{listed, start, indexOf, offsetsOf, partOk, lookup};
 ghost use Rattle.course.specs.IndexSteps.{Small, Built, Inside, RunCounted, RectCounted, Counts, Summed, RunPlaced, RectPlaced, Placed};
 use crate::cell::cell_at;
 use crate::cell::cell_of;
+use crate::constants::CELL_COUNT;
+use crate::constants::GRID_DIM;
+use crate::constants::OFFSET_COUNT;
 use crate::numeric::greatest;
 use crate::numeric::least;
 
@@ -24,7 +28,7 @@ pub(crate) struct Rect {
 
 // The cells from the least to the greatest coordinates of tile i.
 fn rect_of(tiles: &[f64], i: usize) -> Rect
-    requires { ⌜ (i < 2500) × (i * 8 + 8 ≤ length (now tiles)) ⌝ }
+    requires { ⌜ (i < mostPoints) × (i * 8 + 8 ≤ length (now tiles)) ⌝ }
     ensures { λ r. ⌜ r ≡ rectOf (now (tiles .entry)) i ⌝ }
 {
     let q = i * 8;
@@ -63,7 +67,7 @@ fn area(r: Rect) -> usize
 
 // The rectangles' cells, summed.
 fn total(tiles: &[f64], n: usize) -> usize
-    requires { ⌜ (n ≤ 2500) × (n * 8 ≤ length (now tiles)) ⌝ }
+    requires { ⌜ (n ≤ mostPoints) × (n * 8 ≤ length (now tiles)) ⌝ }
     ensures { λ r. ⌜ r ≡ needed (now (tiles .entry)) n ⌝ }
 {
     let mut sum: usize = 0;
@@ -89,7 +93,7 @@ fn clear(o: &mut [u32])
 // One more for each cell of a run.
 fn count_run(o: &mut [u32], a: usize, b: usize)
     requires { ⌜ b ≤ length (now o) ⌝ }
-    requires { ⌜ ((c : ℕ) → Inside a b c → getD (now o) c 0 < 2500) ⌝ }
+    requires { ⌜ ((c : ℕ) → Inside a b c → getD (now o) c 0 < mostPoints) ⌝ }
     ensures { λ r. ⌜ RunCounted (now (o .entry)) (now (o .exit)) a b ⌝ }
 {
     let mut c = a;
@@ -102,8 +106,8 @@ fn count_run(o: &mut [u32], a: usize, b: usize)
 // One more for each cell of a rectangle.
 fn count_rect(o: &mut [u32], r: Rect)
     requires { ⌜ Small r ⌝ }
-    requires { ⌜ length (now o) ≡ 4490 ⌝ }
-    requires { ⌜ ((c : ℕ) → c < 4489 → getD (now o) c 0 < 2500) ⌝ }
+    requires { ⌜ length (now o) ≡ offsetCount ⌝ }
+    requires { ⌜ ((c : ℕ) → c < cellCount → getD (now o) c 0 < mostPoints) ⌝ }
     ensures { λ u. ⌜ RectCounted (now (o .entry)) (now (o .exit)) r ⌝ }
 {
     let x0 = r.x0;
@@ -111,14 +115,14 @@ fn count_rect(o: &mut [u32], r: Rect)
     let y1 = r.y1;
     let mut y = r.y0;
     while y <= y1 {
-        count_run(o, y * 67 + x0, y * 67 + x1 + 1);
+        count_run(o, y * GRID_DIM + x0, y * GRID_DIM + x1 + 1);
         y += 1;
     }
 }
 
 // How many tiles each cell lists.
 fn count_all(tiles: &[f64], n: usize, o: &mut [u32])
-    requires { ⌜ (n ≤ 2500) × (n * 8 ≤ length (now tiles)) ⌝ }
+    requires { ⌜ (n ≤ mostPoints) × (n * 8 ≤ length (now tiles)) ⌝ }
     requires { ⌜ Counts (holdsOf (now tiles)) 0 (now o) ⌝ }
     ensures { λ r. ⌜ Counts (holdsOf (now (tiles .entry))) n (now (o .exit)) ⌝ }
 {
@@ -131,18 +135,18 @@ fn count_all(tiles: &[f64], n: usize, o: &mut [u32])
 
 // Counts become the ends of the cells' parts.
 fn sum_up(o: &mut [u32])
-    requires { ⌜ length (now o) ≡ 4490 ⌝ }
-    requires { ⌜ ((c : ℕ) → c < 4489 → getD (now o) c 0 ≤ 2500) ⌝ }
+    requires { ⌜ length (now o) ≡ offsetCount ⌝ }
+    requires { ⌜ ((c : ℕ) → c < cellCount → getD (now o) c 0 ≤ mostPoints) ⌝ }
     ensures { λ r. ⌜ Summed (now (o .entry)) (now (o .exit)) ⌝ }
 {
     let mut sum: u32 = 0;
     let mut c = 0;
-    while c < 4489 {
+    while c < CELL_COUNT {
         sum += o[c];
         o[c] = sum;
         c += 1;
     }
-    o[4489] = sum;
+    o[CELL_COUNT] = sum;
 }
 
 fn wide(x: u32) -> usize
@@ -170,8 +174,8 @@ fn place_run(o: &mut [u32], l: &mut [u32], id: u32, a: usize, b: usize)
 // The id before the part of each cell of a rectangle.
 fn place_rect(o: &mut [u32], l: &mut [u32], id: u32, r: Rect)
     requires { ⌜ Small r ⌝ }
-    requires { ⌜ length (now o) ≡ 4490 ⌝ }
-    requires { ⌜ ((c : ℕ) → c < 4489 → holds r c ≡ true → (0 < getD (now o) c 0) × (getD (now o) c 0 ≤ length (now l))) ⌝ }
+    requires { ⌜ length (now o) ≡ offsetCount ⌝ }
+    requires { ⌜ ((c : ℕ) → c < cellCount → holds r c ≡ true → (0 < getD (now o) c 0) × (getD (now o) c 0 ≤ length (now l))) ⌝ }
     ensures { λ u. ⌜ RectPlaced (now (o .entry)) (now (l .entry)) (now (o .exit)) (now (l .exit)) id r ⌝ }
 {
     let x0 = r.x0;
@@ -179,14 +183,14 @@ fn place_rect(o: &mut [u32], l: &mut [u32], id: u32, r: Rect)
     let y1 = r.y1;
     let mut y = r.y0;
     while y <= y1 {
-        place_run(o, l, id, y * 67 + x0, y * 67 + x1 + 1);
+        place_run(o, l, id, y * GRID_DIM + x0, y * GRID_DIM + x1 + 1);
         y += 1;
     }
 }
 
 // All ids, the last one first: the ends become starts, and each part ascends.
 fn place_all(tiles: &[f64], n: usize, o: &mut [u32], l: &mut [u32])
-    requires { ⌜ (n ≤ 2500) × (n * 8 ≤ length (now tiles)) ⌝ }
+    requires { ⌜ (n ≤ mostPoints) × (n * 8 ≤ length (now tiles)) ⌝ }
     requires { ⌜ Placed (holdsOf (now tiles)) n n (now o) (now l) ⌝ }
     ensures { λ r. ⌜ Placed (holdsOf (now (tiles .entry))) n 0 (now (o .exit)) (now (l .exit)) ⌝ }
 {
@@ -199,11 +203,11 @@ fn place_all(tiles: &[f64], n: usize, o: &mut [u32], l: &mut [u32])
 
 // The index of the tiles below n, in columns of just the lengths that it has.
 fn lay_index(tiles: &[f64], n: usize, o: &mut [u32], l: &mut [u32])
-    requires { ⌜ (n ≤ 2500) × (n * 8 ≤ length (now tiles)) ⌝ }
-    requires { ⌜ length (now o) ≡ 4490 ⌝ }
+    requires { ⌜ (n ≤ mostPoints) × (n * 8 ≤ length (now tiles)) ⌝ }
+    requires { ⌜ length (now o) ≡ offsetCount ⌝ }
     requires { ⌜ length (now l) ≡ needed (now tiles) n ⌝ }
-    ensures { λ r. ⌜ now (o .exit) ≡ offsetsOf (holdsOf (now (tiles .entry))) n 4489 ⌝ }
-    ensures { λ r. ⌜ now (l .exit) ≡ indexOf (holdsOf (now (tiles .entry))) n 4489 ⌝ }
+    ensures { λ r. ⌜ now (o .exit) ≡ offsetsOf (holdsOf (now (tiles .entry))) n cellCount ⌝ }
+    ensures { λ r. ⌜ now (l .exit) ≡ indexOf (holdsOf (now (tiles .entry))) n cellCount ⌝ }
 {
     clear(o);
     count_all(tiles, n, o);
@@ -224,15 +228,15 @@ pub(crate) fn build_index(
     offsets: &mut [u32],
     list: &mut [u32],
 ) -> IndexRoom
-    requires { ⌜ (n ≤ 2500) × (n * 8 ≤ length (now tiles)) ⌝ }
-    requires { ⌜ 4490 ≤ length (now offsets) ⌝ }
+    requires { ⌜ (n ≤ mostPoints) × (n * 8 ≤ length (now tiles)) ⌝ }
+    requires { ⌜ offsetCount ≤ length (now offsets) ⌝ }
     ensures { λ r. ⌜ Built (now (tiles .entry)) n (now (offsets .entry)) (now (list .entry)) (now (offsets .exit)) (now (list .exit)) (r .short) (r .need) ⌝ }
 {
     let need = total(tiles, n);
     if list.len() < need {
         return IndexRoom { short: true, need };
     }
-    lay_index(tiles, n, &mut offsets[..4490], &mut list[..need]);
+    lay_index(tiles, n, &mut offsets[..OFFSET_COUNT], &mut list[..need]);
     IndexRoom { short: false, need }
 }
 

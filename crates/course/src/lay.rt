@@ -4,6 +4,7 @@ ghost use mathlib.Core.List.{_++_};
 ghost use Prim.Native.Nat.{_≤_};
 ghost use lib.ListN.{length, drop};
 ghost use Rattle.rng.specs.SplitMix.{after};
+ghost use Rattle.course.specs.Lengths.{mostPoints};
 ghost use Rattle.course.specs.Constants.{maxAttempts};
 ghost use Rattle.course.specs.Tiles.{betas, xs, ys};
 ghost use Rattle.course.specs.Lent.{lent, outcome};
@@ -44,10 +45,10 @@ fn attempt(
     x: &mut [f64],
     y: &mut [f64],
 ) -> usize
-    requires { ⌜ 2500 ≤ length (now alpha) ⌝ }
-    requires { ⌜ 2500 ≤ length (now beta) ⌝ }
-    requires { ⌜ 2500 ≤ length (now x) ⌝ }
-    requires { ⌜ 2500 ≤ length (now y) ⌝ }
+    requires { ⌜ mostPoints ≤ length (now alpha) ⌝ }
+    requires { ⌜ mostPoints ≤ length (now beta) ⌝ }
+    requires { ⌜ mostPoints ≤ length (now x) ⌝ }
+    requires { ⌜ mostPoints ≤ length (now y) ⌝ }
     ensures { λ r. ⌜ InFront (attemptOn cs) (now (alpha .entry)) (now (beta .entry)) (now (x .entry)) (now (y .entry)) (now (alpha .exit)) (now (beta .exit)) (now (x .exit)) (now (y .exit)) r ⌝ }
 {
     let w = walk::walk_round(cs, alpha, beta, x, y);
@@ -72,10 +73,10 @@ fn try_generate(
     x: &mut [f64],
     y: &mut [f64],
 ) -> Tried
-    requires { ⌜ 2500 ≤ length (now alpha) ⌝ }
-    requires { ⌜ 2500 ≤ length (now beta) ⌝ }
-    requires { ⌜ 2500 ≤ length (now x) ⌝ }
-    requires { ⌜ 2500 ≤ length (now y) ⌝ }
+    requires { ⌜ mostPoints ≤ length (now alpha) ⌝ }
+    requires { ⌜ mostPoints ≤ length (now beta) ⌝ }
+    requires { ⌜ mostPoints ≤ length (now x) ⌝ }
+    requires { ⌜ mostPoints ≤ length (now y) ⌝ }
     ensures { λ r. ⌜ InFront (attemptOn (checkpointsOf 12 g)) (now (alpha .entry)) (now (beta .entry)) (now (x .entry)) (now (y .entry)) (now (alpha .exit)) (now (beta .exit)) (now (x .exit)) (now (y .exit)) (r .n) ⌝ }
     ensures { λ r. ⌜ r .rng ≡ after 24 g ⌝ }
 {
@@ -101,9 +102,9 @@ fn ring_point(i: u32) -> TrackPoint
 
 // The ring's 100 points stand in front.
 fn ring_points(beta: &mut [f64], x: &mut [f64], y: &mut [f64])
-    requires { ⌜ 2500 ≤ length (now beta) ⌝ }
-    requires { ⌜ 2500 ≤ length (now x) ⌝ }
-    requires { ⌜ 2500 ≤ length (now y) ⌝ }
+    requires { ⌜ mostPoints ≤ length (now beta) ⌝ }
+    requires { ⌜ mostPoints ≤ length (now x) ⌝ }
+    requires { ⌜ mostPoints ≤ length (now y) ⌝ }
     ensures { λ r. ⌜ now (beta .exit) ≡ betas (ringOf 100) ++ drop 100 (now (beta .entry)) ⌝ }
     ensures { λ r. ⌜ now (x .exit) ≡ xs (ringOf 100) ++ drop 100 (now (x .entry)) ⌝ }
     ensures { λ r. ⌜ now (y .exit) ≡ ys (ringOf 100) ++ drop 100 (now (y .entry)) ⌝ }
@@ -128,10 +129,10 @@ fn generate_with_attempts(
     x: &mut [f64],
     y: &mut [f64],
 ) -> Generated
-    requires { ⌜ 2500 ≤ length (now alpha) ⌝ }
-    requires { ⌜ 2500 ≤ length (now beta) ⌝ }
-    requires { ⌜ 2500 ≤ length (now x) ⌝ }
-    requires { ⌜ 2500 ≤ length (now y) ⌝ }
+    requires { ⌜ mostPoints ≤ length (now alpha) ⌝ }
+    requires { ⌜ mostPoints ≤ length (now beta) ⌝ }
+    requires { ⌜ mostPoints ≤ length (now x) ⌝ }
+    requires { ⌜ mostPoints ≤ length (now y) ⌝ }
     ensures { λ r. ⌜ InFront (courseWithin attempts seed .points) (now (alpha .entry)) (now (beta .entry)) (now (x .entry)) (now (y .entry)) (now (alpha .exit)) (now (beta .exit)) (now (x .exit)) (now (y .exit)) (r .n) ⌝ }
     ensures { λ r. ⌜ r .fallback ≡ courseWithin attempts seed .fallback ⌝ }
 {
@@ -161,10 +162,10 @@ fn generate_on(
     x: &mut [f64],
     y: &mut [f64],
 ) -> Generated
-    requires { ⌜ 2500 ≤ length (now alpha) ⌝ }
-    requires { ⌜ 2500 ≤ length (now beta) ⌝ }
-    requires { ⌜ 2500 ≤ length (now x) ⌝ }
-    requires { ⌜ 2500 ≤ length (now y) ⌝ }
+    requires { ⌜ mostPoints ≤ length (now alpha) ⌝ }
+    requires { ⌜ mostPoints ≤ length (now beta) ⌝ }
+    requires { ⌜ mostPoints ≤ length (now x) ⌝ }
+    requires { ⌜ mostPoints ≤ length (now y) ⌝ }
     ensures { λ r. ⌜ InFront (courseOn cs .points) (now (alpha .entry)) (now (beta .entry)) (now (x .entry)) (now (y .entry)) (now (alpha .exit)) (now (beta .exit)) (now (x .exit)) (now (y .exit)) (r .n) ⌝ }
     ensures { λ r. ⌜ r .fallback ≡ courseOn cs .fallback ⌝ }
 {

@@ -2,6 +2,7 @@
 ghost use mathlib.Core.Path.{_≡_};
 ghost use Prim.Native.Nat.{_≤_};
 ghost use lib.ListN.{length};
+ghost use Rattle.course.specs.Lengths.{mostPoints};
 ghost use Rattle.course.specs.Walk.{walkStart};
 ghost use Rattle.course.specs.LaySteps.{Trod};
 use crate::checkpoints::Checkpoint;
@@ -39,10 +40,10 @@ pub(crate) fn walk_round(
     x: &mut [f64],
     y: &mut [f64],
 ) -> Walked
-    requires { ⌜ 2500 ≤ length (now alpha) ⌝ }
-    requires { ⌜ 2500 ≤ length (now beta) ⌝ }
-    requires { ⌜ 2500 ≤ length (now x) ⌝ }
-    requires { ⌜ 2500 ≤ length (now y) ⌝ }
+    requires { ⌜ mostPoints ≤ length (now alpha) ⌝ }
+    requires { ⌜ mostPoints ≤ length (now beta) ⌝ }
+    requires { ⌜ mostPoints ≤ length (now x) ⌝ }
+    requires { ⌜ mostPoints ≤ length (now y) ⌝ }
     ensures { λ r. ⌜ Trod cs (now (alpha .entry)) (now (beta .entry)) (now (x .entry)) (now (y .entry)) (now (alpha .exit)) (now (beta .exit)) (now (x .exit)) (now (y .exit)) (r .n) (r .ok) ⌝ }
 {
     let mut w = start();

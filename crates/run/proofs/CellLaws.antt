@@ -13,7 +13,7 @@ use Rattle.run.specs.Below.{someOf, everyOf, everyBelow}
 use Rattle.run.specs.Overlap.{leastOn, greatestOn, apartOn, apartAlong, apartByEdges, overlapOf}
 use Rattle.run.specs.Wheel.{quadOf, boxCells}
 use Rattle.run.specs.Touch.{soundCell, soundQuad, soundPoses}
-use Rattle.run.specs.TouchSteps.{sideAlong, firstSide, beyond, cellsOf, again}
+use Rattle.run.specs.TouchSteps.{sideAlong, firstSide, beyond, sixteenCells, again}
 use Rattle.run.specs.declared.state.Pose.{Pose}
 use Rattle.run.specs.declared.quad.Side.{Side}
 use Rattle.run.proofs.TouchLaws.{some-take, every-take}
@@ -77,8 +77,8 @@ every-next p ks i h n b = go (again ks i) refl
 -- ---- the cells of four wheels
 pub cells-are : (a b c d : List ℕ) (ps : List Pose) → a ≡ boxCells (quadOf ps 0) → b ≡ boxCells (quadOf ps 1) → c ≡ boxCells (quadOf ps 2) → d ≡ boxCells (quadOf ps 3)
     → (getD a 0 0 ∷ getD a 1 0 ∷ getD a 2 0 ∷ getD a 3 0 ∷ getD b 0 0 ∷ getD b 1 0 ∷ getD b 2 0 ∷ getD b 3 0
-    ∷ getD c 0 0 ∷ getD c 1 0 ∷ getD c 2 0 ∷ getD c 3 0 ∷ getD d 0 0 ∷ getD d 1 0 ∷ getD d 2 0 ∷ getD d 3 0 ∷ []) ≡ cellsOf ps
-unfolding cellsOf boxCells
+    ∷ getD c 0 0 ∷ getD c 1 0 ∷ getD c 2 0 ∷ getD c 3 0 ∷ getD d 0 0 ∷ getD d 1 0 ∷ getD d 2 0 ∷ getD d 3 0 ∷ []) ≡ sixteenCells ps
+unfolding sixteenCells boxCells
 cells-are a b c d ps ea eb ec ed = λ i.
     getD (ea i) 0 0 ∷ getD (ea i) 1 0 ∷ getD (ea i) 2 0 ∷ getD (ea i) 3 0 ∷ getD (eb i) 0 0 ∷ getD (eb i) 1 0 ∷ getD (eb i) 2 0 ∷ getD (eb i) 3 0
     ∷ getD (ec i) 0 0 ∷ getD (ec i) 1 0 ∷ getD (ec i) 2 0 ∷ getD (ec i) 3 0 ∷ getD (ed i) 0 0 ∷ getD (ed i) 1 0 ∷ getD (ed i) 2 0 ∷ getD (ed i) 3 0 ∷ []
@@ -93,8 +93,8 @@ unfolding everyOf
 every-append p [] ys = refl
 every-append p (x ∷ xs) ys = ap (λ (b : Bool). p x && b) (every-append p xs ys) ∙ and-assoc (p x) (everyOf p xs) (everyOf p ys)
 
-pub sound-cells : (offs l : List ℕ) (n : ℕ) (ps : List Pose) → everyOf (soundCell offs l n) (cellsOf ps) ≡ soundPoses offs l n ps
-unfolding cellsOf soundPoses soundQuad everyBelow
+pub sound-cells : (offs l : List ℕ) (n : ℕ) (ps : List Pose) → everyOf (soundCell offs l n) (sixteenCells ps) ≡ soundPoses offs l n ps
+unfolding sixteenCells soundPoses soundQuad everyBelow
 sound-cells offs l n ps =
     let p = soundCell offs l n in
     let k : ℕ → List ℕ = λ w. boxCells (quadOf ps w) in
@@ -103,18 +103,18 @@ sound-cells offs l n ps =
     ∙ ap (λ (b : Bool). e 0 && b) (every-append p (k 1) (k 2 ++ k 3) ∙ ap (λ (b : Bool). e 1 && b) (every-append p (k 2) (k 3)))
     ∙ and-assoc (e 0) (e 1) (e 2 && e 3) ∙ and-assoc (e 0 && e 1) (e 2) (e 3)
 
-pub cells-long : (ps : List Pose) (ks : List ℕ) → ks ≡ cellsOf ps → length ks ≡ 16
-unfolding cellsOf boxCells
+pub cells-long : (ps : List Pose) (ks : List ℕ) → ks ≡ sixteenCells ps → length ks ≡ 16
+unfolding sixteenCells boxCells
 cells-long ps ks e = ap length e
 
 -- those of wheel w
-own-cells : (ps : List Pose) (w : ℕ) → w < 4 → take (w * 4 + 4 - w * 4) (drop (w * 4) (cellsOf ps)) ≡ boxCells (quadOf ps w)
-unfolding cellsOf boxCells
+own-cells : (ps : List Pose) (w : ℕ) → w < 4 → take (w * 4 + 4 - w * 4) (drop (w * 4) (sixteenCells ps)) ≡ boxCells (quadOf ps w)
+unfolding sixteenCells boxCells
 own-cells ps zero b = refl
 own-cells ps (suc zero) b = refl
 own-cells ps (suc (suc zero)) b = refl
 own-cells ps (suc (suc (suc zero))) b = refl
 own-cells ps (suc (suc (suc (suc w)))) b = absurd (omega arith)
 
-pub wheel-cells : (ps : List Pose) (w : ℕ) (ks : List ℕ) (q : List (List Float)) → ks ≡ cellsOf ps → w < 4 → q ≡ quadOf ps w → take (w * 4 + 4 - w * 4) (drop (w * 4) ks) ≡ boxCells q
+pub wheel-cells : (ps : List Pose) (w : ℕ) (ks : List ℕ) (q : List (List Float)) → ks ≡ sixteenCells ps → w < 4 → q ≡ quadOf ps w → take (w * 4 + 4 - w * 4) (drop (w * 4) ks) ≡ boxCells q
 wheel-cells ps w ks q e b eq = ap (λ (x : List ℕ). take (w * 4 + 4 - w * 4) (drop (w * 4) x)) e ∙ own-cells ps w b ∙ ap boxCells (sym eq)

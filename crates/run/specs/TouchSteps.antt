@@ -28,8 +28,8 @@ unfoldable pub beyond : Side → List (List Float) → Bool
 beyond s q = lt (s .high) (leastOn (s .nx) (s .ny) q) || lt (greatestOn (s .nx) (s .ny) q) (s .low)
 
 -- the cells of four wheels' boxes, one wheel after the other
-unfoldable pub cellsOf : List Pose → List ℕ
-cellsOf ps = boxCells (quadOf ps 0) ++ (boxCells (quadOf ps 1) ++ (boxCells (quadOf ps 2) ++ boxCells (quadOf ps 3)))
+unfoldable pub sixteenCells : List Pose → List ℕ
+sixteenCells ps = boxCells (quadOf ps 0) ++ (boxCells (quadOf ps 1) ++ (boxCells (quadOf ps 2) ++ boxCells (quadOf ps 3)))
 
 -- cell i of the list is the same as the cell before it
 unfoldable pub again : List ℕ → ℕ → Bool

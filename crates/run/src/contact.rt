@@ -7,7 +7,7 @@ ghost use lib.ListN.{length};
 ghost use Rattle.run.specs.Words.{member, setOf};
 ghost use Rattle.run.specs.Below.{howMany};
 ghost use Rattle.run.specs.Wheel.{quadOf, boxCells};
-ghost use Rattle.run.specs.TouchSteps.{cellsOf};
+ghost use Rattle.run.specs.TouchSteps.{sixteenCells};
 ghost use Rattle.run.specs.Touch.{touchedBy, soundQuad, soundPoses};
 ghost use Rattle.run.specs.Contact.{contacted, contactOf};
 ghost use Rattle.run.specs.Widths.{fullWords, mostTiles};
@@ -67,7 +67,7 @@ fn contact_by_cells(
 ) -> Contact
     requires { ⌜ (length (now wheels) ≡ 4 * length (now credited)) × (length (now tested) ≡ length (now credited)) × (length (now touched) ≡ length (now credited)) ⌝ }
     requires { ⌜ (64 * length (now credited) < 4294967296) × (0 < n) × (n ≤ 64 * length (now credited)) ⌝ }
-    requires { ⌜ (n * 8 ≤ length (now tiles)) × (soundPoses (now offsets) (now list) n poses ≡ true) × (now cells ≡ cellsOf poses) ⌝ }
+    requires { ⌜ (n * 8 ≤ length (now tiles)) × (soundPoses (now offsets) (now list) n poses ≡ true) × (now cells ≡ sixteenCells poses) ⌝ }
     ensures { λ r. ⌜ now (credited .exit) ≡ contactOf (length (now (credited .entry))) (now (credited .entry)) (now (wheels .entry)) (λ w. touchedBy (now (tiles .entry)) (now (offsets .entry)) (now (list .entry)) (quadOf poses w)) .credited ⌝ }
     ensures { λ r. ⌜ now (wheels .exit) ≡ contactOf (length (now (credited .entry))) (now (credited .entry)) (now (wheels .entry)) (λ w. touchedBy (now (tiles .entry)) (now (offsets .entry)) (now (list .entry)) (quadOf poses w)) .wheels ⌝ }
     ensures { λ r. ⌜ r .fresh ≡ contactOf (length (now (credited .entry))) (now (credited .entry)) (now (wheels .entry)) (λ w. touchedBy (now (tiles .entry)) (now (offsets .entry)) (now (list .entry)) (quadOf poses w)) .fresh ⌝ }

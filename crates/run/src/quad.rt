@@ -5,7 +5,7 @@ ghost use lib.ListN.{length};
 ghost use Rattle.course.specs.Tiles.{corner};
 ghost use Rattle.run.specs.Overlap.{leastOn, greatestOn, apartOn, apartAlong, apartByEdges, overlapOf};
 ghost use Rattle.run.specs.Wheel.{placed, wheelQuad, boxCells};
-ghost use Rattle.run.specs.TouchSteps.{firstSide, beyond, cellsOf};
+ghost use Rattle.run.specs.TouchSteps.{firstSide, beyond, sixteenCells};
 use crate::dynamics::SIZE;
 use crate::dynamics::WHEEL_R;
 use crate::state::Pose;
@@ -134,7 +134,7 @@ pub fn box_cells(q: [[f64; 2]; 4]) -> [usize; 4]
 // The cells of four wheels' boxes, four to a wheel. Made before any of them is looked up: the wheels do
 // not wait for each other.
 pub(crate) fn wheel_cells(poses: [Pose; 4]) -> [usize; 16]
-    ensures { λ r. ⌜ r ≡ cellsOf poses ⌝ }
+    ensures { λ r. ⌜ r ≡ sixteenCells poses ⌝ }
 {
     let a = box_cells(wheel_quad(poses[0]));
     let b = box_cells(wheel_quad(poses[1]));
