@@ -1,8 +1,11 @@
 //! Compares the port with the Rust, bit for bit (all NaNs alike): courses, index, curbs, numbers, starts, drives, settles, sheets,
 //! rewards. What the Rust has no counterpart for, the refusals, is held to document 01 as written out in model.rs and courses.rs.
 //! Run by host/compare/run, which builds the oracle and the port's static library first.
+mod both;
 #[path = "../vectors/shared/car.rs"]
 mod car;
+#[path = "../vectors/shared/checkpoints.rs"]
+mod checkpoints;
 mod courses;
 #[path = "../vectors/shared/edges.rs"]
 mod edges;
@@ -11,8 +14,10 @@ mod lent;
 #[path = "../vectors/shared/model.rs"]
 mod model;
 mod numbers;
+mod points;
 mod port;
 mod runs;
+mod sets;
 mod tally;
 
 use reinfors_core::SplitMix64;
@@ -20,8 +25,10 @@ use tally::{Tally, Unit};
 
 const HELP: &str = "usage: host/compare/run [--seed S] [--courses N] [--ticks N] [--only SECTION:NUMBER]
   --seed S        random inputs from this seed (default 1)
-  --courses N     courses of seeds; a fourth as many of given points, of few attempts and of given checkpoints (default 4000)
-  --ticks N       ticks of runs, a drive and a settle each (default 400000)
+  --courses N     courses of seeds; a fourth as many of given points, of few attempts and of given checkpoints, and the
+                  checkpoints that a search has found (default 4000)
+  --ticks N       ticks of runs (default 400000): a tick is one drive and one settle; more than nine in ten of each are accepted, and
+                  further calls that are refused, starts and sheets stand among them
   --only S:N      unit N of section S alone: numbers, seeds, points, attempts, checkpoints, runs, beside
 Exit status 0 where port and Rust agree everywhere, 1 where they differ, 2 for a wrong argument.";
 
@@ -76,9 +83,9 @@ fn main() {
     let sections: [(&'static str, u64, Compare); 7] = [
         ("numbers", 100 + s.courses / 40, numbers::numbers),
         ("seeds", s.courses, courses::seed),
-        ("points", s.courses / 4, courses::points),
+        ("points", s.courses / 4, points::points),
         ("attempts", s.courses / 4, courses::attempts),
-        ("checkpoints", s.courses / 4, courses::checkpoints),
+        ("checkpoints", sets::KNOWN.len() as u64 + s.courses / 4, courses::checkpoints),
         ("runs", s.ticks.div_ceil(TICKS), |t, g, u| runs::run(t, g, u, TICKS)),
         ("beside", 50 + s.ticks / 20_000, runs::beside),
     ];

@@ -7,9 +7,12 @@
 //! refuses nothing and lends nothing; which call is refused by what number, and what stands in a lent column around
 //! the Rust's numbers, is written out in shared/lent.rs from document 01 ("Lent", "Refusals by cause"). After each
 //! call the answer holds a hash of every whole column, so a number written where none belongs shows.
+#[path = "shared/checkpoints.rs"]
+mod checkpoints;
 #[path = "shared/lent.rs"]
 mod lent;
 
+use checkpoints::{drawn, lowered, made_up, Set, FOUND, TAU};
 use lent::{between, roomy, stated, Lent, STATED};
 use oracle::limits::{HIT, TURNED};
 use oracle::oracle::{probe, Track};
@@ -26,11 +29,6 @@ const ROOM: usize = 262_144;
 
 /// The lengths of the program's columns: alpha, beta, x, y, tiles, offsets, index list.
 const LONG: [usize; 7] = [2_600, 2_600, 2_600, 2_600, 20_100, 4_600, 30_000];
-
-const TAU: f64 = 2.0 * PI;
-
-/// An attempt's checkpoints: angle, x, y.
-type Set = [(f64, f64, f64); 12];
 
 /// The list and its answers as they grow.
 struct Replay {
@@ -82,59 +80,6 @@ fn need(track: &Track) -> usize {
 /// How often limits were met so far: third pass, fifth turn, beta beyond 16; and steps of two and of three turns.
 fn met() -> [u64; 5] {
     [&HIT[0], &HIT[1], &HIT[2], &TURNED[1], &TURNED[2]].map(|count| count.load(Relaxed))
-}
-
-/// Number `number` of a family of made-up sets.
-fn made_up(family: u64, number: u64) -> Set {
-    let g = &mut SplitMix64::new(number * 7 + family);
-    std::array::from_fn(|c| {
-        let twelfth = TAU / 12.0;
-        let at = |angle: f64, r: f64, place: f64| (angle, r * libm::cos(place), r * libm::sin(place));
-        match family {
-            // anything
-            0 => (between(g, -8.0, 8.0), between(g, -300.0, 300.0), between(g, -300.0, 300.0)),
-            // as drawn, but nearer and farther
-            1 => {
-                let angle = twelfth * between(g, c as f64, c as f64 + 1.0);
-                at(angle, between(g, 10.0, 400.0), angle)
-            }
-            // as drawn, but elsewhere than at their angles
-            2 => {
-                let angle = twelfth * between(g, c as f64, c as f64 + 1.0);
-                at(angle, between(g, 10.0, 400.0), angle + between(g, 0.0, 6.0))
-            }
-            // some a tau too low
-            3 => {
-                let angle = twelfth * c as f64;
-                let low = if between(g, 0.0, 1.0) < 0.3 { TAU } else { 0.0 };
-                at(angle - low, between(g, 10.0, 200.0), angle)
-            }
-            // near the middle, round which angles change fast
-            4 => {
-                let low = between(g, 0.0, 1.0) < 0.5;
-                let angle = if low { between(g, -6.3, 0.0) } else { between(g, -1.0, 7.0) };
-                (angle, between(g, -30.0, 30.0), between(g, -30.0, 30.0))
-            }
-            // the other way round
-            _ => at(-twelfth * c as f64, between(g, 10.0, 400.0), -twelfth * c as f64),
-        }
-    })
-}
-
-/// The checkpoints that a seed's first attempt draws.
-fn drawn(seed: u32) -> Set {
-    let g = &mut SplitMix64::new(0xCA75_EED0 ^ u64::from(seed));
-    std::array::from_fn(|c| {
-        let noise = between(g, 0.0, TAU / 12.0);
-        let rad = between(g, 150.0 / 3.0, 150.0);
-        let base = TAU * c as f64 / 12.0;
-        let (angle, rad) = match c {
-            0 => (0.0, 225.0),
-            11 => (base, 225.0),
-            _ => (base + noise, rad),
-        };
-        (angle, rad * libm::cos(angle), rad * libm::sin(angle))
-    })
 }
 
 /// Seeds by the attempts that they need. Of the first 250,000 seeds 232,897 need one attempt, 15,973 two, 1,057
@@ -236,14 +181,6 @@ fn drawn_sets(r: &mut Replay) {
     }
 }
 
-/// The checkpoints that a seed draws, each a tau lower, so that the second pass finds them; the first of them is the
-/// last, at an angle of its own.
-fn lowered(seed: u32, last: f64) -> Set {
-    let cs = drawn(seed);
-    let lower = |(angle, x, y): (f64, f64, f64)| (angle - TAU, x, y);
-    std::array::from_fn(|c| if c == 11 { (last, cs[0].1, cs[0].2) } else { lower(cs[c + 1]) })
-}
-
 /// Sets on which the third pass decides: with the last angle at 0 the attempt is accepted; with it a little lower, the
 /// walk passes it before its lap is done, and a third pass would go on from there to the same course or a similar one.
 fn deciding_passes(r: &mut Replay) {
@@ -289,17 +226,6 @@ fn far_sets(r: &mut Replay) {
         }
     }
 }
-
-/// Made-up sets, by family, of each kind that the first 12,000 of the family hold: accepted and refused; with no, one
-/// and two turns of beta in a step; a third pass met; with the fewest points and the most.
-const FOUND: [&[u64]; 6] = [
-    &[60, 171, 9_898, 9_859, 0, 1, 408, 572, 2_829],
-    &[5, 15, 10_124, 1_081, 11_481, 0, 5_265],
-    &[244, 9_647, 6_029, 10, 5_813, 10_743, 1, 0, 235, 372],
-    &[10_828, 8_567, 1, 4, 0, 2],
-    &[9_910, 4_567, 8_249, 9_137, 6, 1_851, 0, 7, 2_457, 4_335, 1_358, 1_930],
-    &[693, 943, 2, 7, 0, 1],
-];
 
 fn found_sets(r: &mut Replay) {
     let (mut third, mut twice) = (0, [0; 2]);

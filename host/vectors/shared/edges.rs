@@ -1,5 +1,5 @@
 //! What run.rs and ../compare share: floats, poses and motions at edges.
-use crate::car::{pick, step, FAR, P};
+use crate::car::{near, pick, step, FAR, P};
 use crate::lent::between;
 use oracle::{Motion, Pose};
 use reinfors_core::SplitMix64;
@@ -33,4 +33,16 @@ pub fn edge_pose(g: &mut SplitMix64) -> Pose {
 
 pub fn edge_motion(g: &mut SplitMix64) -> Motion {
     Motion { joint_angle: edge(g), sin: edge(g), cos: edge(g), vx: edge(g), vy: edge(g) }
+}
+
+/// 0 of either sign.
+pub fn nought(g: &mut SplitMix64) -> f64 {
+    pick(g, &[0.0, -0.0])
+}
+
+/// The motion with its joint at the angle wished for, beside it by one float, or at a 0 of either sign: the difference of the two
+/// angles is then 0, its smallest, or, of noughts, -0.
+pub fn met_motion(g: &mut SplitMix64, m: Motion, wished: f64) -> Motion {
+    let angle = pick(g, &[wished, wished, step(wished, 1), step(wished, -1), 0.0, -0.0]);
+    Motion { joint_angle: if near(angle) { angle } else { 0.0 }, ..m }
 }

@@ -1,0 +1,128 @@
+//! Courses of given points, and curbs: the answer and every lent column, whole. Causes are written out here from document 01.
+use crate::car::{pick, step};
+use crate::courses::{laid, same_floats, same_lent, LONG};
+use crate::lent::{between, put, roomy, Lent, STATED};
+use crate::port;
+use crate::tally::{Tally, Unit};
+use oracle::oracle::{probe, TrackPoint};
+use reinfors_core::SplitMix64;
+
+/// A beta of a row of points that turn the same way by 0.1 and more, but in the middle by just the bound of a curb, a fifth of the
+/// walk's turn rate: no curb, for the bound must be passed.
+fn turned_by_the_bound(i: usize) -> f64 {
+    [-0.3, -0.2, -0.1, 0.0, 0.31 * 0.2, 0.2, 0.3, 0.4][i % 8]
+}
+
+/// Given points: a walk, one place, or corner to corner with cells beyond the field. Number 7 is the most points between
+/// two corners: the longest index list of all, 11,222,500 entries.
+pub fn made_up(g: &mut SplitMix64, number: u64) -> Vec<TrackPoint> {
+    let n = match number % 8 {
+        _ if number == 7 => 2_500,
+        0 => 1,
+        1 => 2,
+        2 => 3,
+        3 => 2_500,
+        _ => 1 + g.next_u64() as usize % 400,
+    };
+    let (mut beta, mut x, mut y) = (between(g, -6.0, 6.0), between(g, -300.0, 300.0), between(g, -300.0, 300.0));
+    let far = [0.0, 2.0, 5.0, 60.0][number as usize / 8 % 4];
+    let corners = number == 7 || (number % 16 == 12 && n < 60);
+    let bound = number % 16 == 13;
+    (0..n)
+        .map(|i| {
+            beta = (beta + between(g, -0.3, 0.3)).clamp(-16.0, 16.0);
+            x = (x + between(g, -far, far)).clamp(-1000.0, 1000.0);
+            y = (y + between(g, -far, far)).clamp(-1000.0, 1000.0);
+            let edge = if i % 2 == 0 { -1000.0 } else { 1000.0 };
+            match (corners, bound) {
+                (true, _) => TrackPoint { beta, x: edge, y: edge },
+                (_, true) => TrackPoint { beta: turned_by_the_bound(i), x, y },
+                _ => TrackPoint { beta, x, y },
+            }
+        })
+        .collect()
+}
+
+fn good(p: &TrackPoint) -> bool {
+    (-16.0..=16.0).contains(&p.beta) && (-1000.0..=1000.0).contains(&p.x) && (-1000.0..=1000.0).contains(&p.y)
+}
+
+fn columns(points: &[TrackPoint]) -> [Vec<f64>; 3] {
+    [points.iter().map(|p| p.beta).collect(), points.iter().map(|p| p.x).collect(), points.iter().map(|p| p.y).collect()]
+}
+
+/// The first of the causes 9, 2 and 8 of given points, else 0.
+fn given_cause(points: &[TrackPoint], count: u32, given: usize, room: bool) -> u32 {
+    if count == 0 || count > 2_500 {
+        9
+    } else if !room || given < count as usize {
+        2
+    } else if !points[..count as usize].iter().all(good) {
+        8
+    } else {
+        0
+    }
+}
+
+/// One number of the point, of any of its columns, becomes one that is refused, or the last that is not.
+fn damage(g: &mut SplitMix64, p: &mut TrackPoint) {
+    let (number, bound) = match g.next_u64() % 3 {
+        0 => (&mut p.beta, 16.0),
+        1 => (&mut p.x, 1000.0),
+        _ => (&mut p.y, 1000.0),
+    };
+    *number = pick(g, &[f64::NAN, step(bound, 1), -step(bound, 1), f64::INFINITY, bound, -bound]);
+}
+
+/// A course of given points, a few of them refused, and its curbs.
+pub fn points(t: &mut Tally, g: &mut SplitMix64, unit: Unit) {
+    let mut points = made_up(g, unit.number);
+    let largest = unit.number == 7;
+    if !largest && g.next_u64() % 4 == 0 {
+        let at = g.next_u64() as usize % points.len();
+        damage(g, &mut points[at]);
+    }
+    let count = match g.next_u64() % 16 {
+        0 if !largest => 0,
+        1 if !largest => 2_501,
+        2 if !largest => points.len() as u32 + 1,
+        _ => points.len() as u32,
+    };
+    let [b, x, y] = columns(&points);
+    let fine = given_cause(&points, count, points.len(), true) == 0;
+    if fine {
+        let track = probe::given(points.clone(), false);
+        laid(t, g, unit, "points", &track, format!("{} points", points.len()), |lent, long| port::points([&b, &x, &y], count, lent, long));
+    } else {
+        let mut long = LONG;
+        if g.next_u64() % 4 == 0 {
+            long[g.next_u64() as usize % 6] = 100;
+        }
+        let mut lent = Lent::untouched(&LONG);
+        let cause = given_cause(&points, count, points.len(), roomy(&long, &STATED));
+        let answer = port::points([&b, &x, &y], count, &mut lent, &long);
+        let same = answer.cause == cause && same_lent(&lent, &Lent::untouched(&LONG));
+        t.check("points, refused", same, unit, points.len(), || format!("count {count}, lent {long:?}: {answer:?}, not {cause}"));
+    }
+    curbs(t, g, unit, &points, g.clone().next_u64() % 4);
+}
+
+/// The curbs of points: quads and white marks, zeros up to their lengths, and nothing beyond.
+pub fn curbs(t: &mut Tally, g: &mut SplitMix64, unit: Unit, points: &[TrackPoint], short: u64) {
+    let (quads_long, white_long) = (if short == 1 { 19_999 } else { 20_020 }, if short == 2 { 2_499 } else { 2_510 });
+    let [b, x, y] = columns(points);
+    let count = if g.next_u64() % 32 == 0 { points.len() as u32 + 1 } else { points.len() as u32 };
+    let (mut quads, mut white) = (vec![1e7; quads_long], vec![7u8; white_long]);
+    let (mut left_quads, mut left_white) = (quads.clone(), white.clone());
+    let cause = given_cause(points, count, points.len(), quads_long >= 20_000 && white_long >= 2_500);
+    let mut found = 0;
+    if cause == 0 {
+        let curbs = probe::curbs(points);
+        found = curbs.len() as u32;
+        put(&mut left_quads, curbs.iter().flat_map(|c| c.quad.into_iter().flatten()), 20_000);
+        put(&mut left_white, curbs.iter().map(|c| c.white.into()), 2_500);
+    }
+    let answer = port::curbs([&b, &x, &y], count, &mut quads, &mut white);
+    let same = (answer.cause, answer.count) == (cause, found) && same_floats(&quads, &left_quads) && white == left_white;
+    t.check("curbs", same, unit, points.len(), || format!("{} points, count {count}: {answer:?}, not {cause} {found}", points.len()));
+}
