@@ -30,7 +30,8 @@ const HELP: &str = "usage: host/compare/run [--seed S] [--courses N] [--ticks N]
   --ticks N       ticks of runs (default 400000): a tick is one drive and one settle; more than nine in ten of each are accepted, and
                   further calls that are refused, starts and sheets stand among them
   --only S:N      unit N of section S alone: numbers, seeds, points, attempts, checkpoints, runs, beside
-Exit status 0 where port and Rust agree everywhere, 1 where they differ, 2 for a wrong argument.";
+Exit status 0 where port and Rust agree everywhere, 1 where they differ, 2 for a wrong argument, 77 where the comparison is skipped for
+want of the reference or of rustc.";
 
 /// The ticks of a unit of runs.
 const TICKS: u64 = 200;

@@ -22,7 +22,7 @@ fn made_state(b: &mut Both, g: &mut SplitMix64, n: u32) {
     (s.tick, s.limit) = (pick(g, &[0, 1, 5, u32::MAX]), pick(g, &[2, 1_000_000, u32::MAX]));
     let flags = g.next_u64();
     (s.lap, s.ended, s.driven) = (flags % 4 == 0, flags % 16 == 5, flags % 3 != 0);
-    let noughts = flags % 5 == 0;
+    let noughts = flags % 7 < 2;
     s.ctl = s.ctl.map(|c| {
         c.map(|x| match g.next_u64() % 3 {
             _ if noughts => nought(g),
@@ -53,29 +53,70 @@ fn damage(m: &mut Model, g: &mut SplitMix64, n: u32) {
     }
 }
 
-/// A few of the calls are such as are refused, or of another length.
-fn odd_calls(b: &mut Both, g: &mut SplitMix64, poses: &[Pose; 4]) {
-    let still = [Motion::default(); 4];
+fn half(g: &mut SplitMix64) -> bool {
+    g.next_u64() % 2 == 0
+}
+
+/// Motions with one number out of range, of any wheel.
+fn bad_motions(g: &mut SplitMix64) -> [Motion; 4] {
+    let mut motions = [Motion::default(); 4];
+    let m = &mut motions[g.next_u64() as usize % 4];
+    let number = match g.next_u64() % 5 {
+        0 => &mut m.joint_angle,
+        1 => &mut m.sin,
+        2 => &mut m.cos,
+        3 => &mut m.vx,
+        _ => &mut m.vy,
+    };
+    *number = beyond(g);
+    motions
+}
+
+/// The poses with one number out of range, of any wheel.
+fn bad_poses(g: &mut SplitMix64, mut poses: [Pose; 4]) -> [Pose; 4] {
+    let p = &mut poses[g.next_u64() as usize % 4];
+    let number = match g.next_u64() % 4 {
+        0 => &mut p.x,
+        1 => &mut p.y,
+        2 => &mut p.cos,
+        _ => &mut p.sin,
+    };
+    *number = beyond(g);
+    poses
+}
+
+/// A call that is refused by one cause or by the first of several, out of turn, or lent another length; or a sheet.
+fn odd_call(b: &mut Both, g: &mut SplitMix64, poses: &[Pose; 4]) {
     let whole = b.whole();
-    match g.next_u64() % 10 {
-        0 => b.drive(5 + g.next_u64() as u32 % 3, &still),
-        1 => b.drive(0, &[Motion { vx: beyond(g), ..Motion::default() }, still[1], still[2], still[3]]),
-        2 => b.settle(whole, beyond(g), 0.0, poses),
-        3 => b.settle([STATED[0] - 1, whole[1], whole[2]], 0.0, 0.0, poses),
-        4 => b.settle([whole[0], STATED[1] - 1, whole[2]], 0.0, 0.0, poses),
-        5 => b.settle(whole, 0.0, 0.0, &[Pose { cos: beyond(g), ..poses[0] }, poses[1], poses[2], poses[3]]),
-        6 => b.settle([STATED[0], STATED[1], g.next_u64() as usize % whole[2]], 0.0, 0.0, poses),
-        7 => b.settle(whole, 0.0, 0.0, poses),
-        8 => b.drive(g.next_u64() as u32 % 5, &still),
+    match g.next_u64() % 8 {
+        0 | 1 => {
+            let action = g.next_u64() as u32 % 5 + if half(g) { 5 } else { 0 };
+            let motions = if half(g) { bad_motions(g) } else { [Motion::default(); 4] };
+            b.drive(action, &motions)
+        }
+        2 | 3 | 4 => {
+            let (mut lent, mut hull) = (whole, [0.0, 0.0]);
+            if half(g) {
+                let k = g.next_u64() as usize % 2;
+                lent[k] = STATED[k] - 1;
+            }
+            if half(g) {
+                hull[g.next_u64() as usize % 2] = beyond(g);
+            }
+            let poses = if half(g) { bad_poses(g, *poses) } else { *poses };
+            b.settle(lent, hull[0], hull[1], &poses)
+        }
+        5 => b.settle([STATED[0], STATED[1], g.next_u64() as usize % whole[2]], 0.0, 0.0, poses),
+        6 => b.settle(whole, 0.0, 0.0, poses),
         _ => b.sheet(),
     }
 }
 
-/// A start, mostly a good one.
+/// A start, good or with one or two of its arguments bad.
 fn begin(g: &mut SplitMix64, n: u32, lent: [usize; 3], bad: bool) -> Begin {
     let share = pick(g, &[0.95, 1.0, 0.5, 0.0, 0.25]);
     let mut b = Begin { lent, n, fallback: n == 100, share, limit: pick(g, &[1_000_000, 1_000, 40]) };
-    if bad {
+    for _ in 0..if bad { 1 + g.next_u64() % 2 } else { 0 } {
         match g.next_u64() % 5 {
             0 => b.share = pick(g, &[f64::NAN, -0.1, 1.0000000000000002, f64::INFINITY]),
             1 => b.limit = pick(g, &[0, 1_000_001, u32::MAX]),
@@ -153,7 +194,8 @@ fn start_anew(b: &mut Both, g: &mut SplitMix64, ground: &Ground, first: bool, po
         if bad || !wrong {
             let lent = if g.next_u64() % 2 == 0 { ground.exact } else { b.whole() };
             let asked = begin(g, ground.points.len() as u32, lent, wrong);
-            b.start(&asked, poses);
+            let poses = if wrong && half(g) { bad_poses(g, *poses) } else { *poses };
+            b.start(&asked, &poses);
         }
     }
 }
@@ -164,13 +206,13 @@ fn tick(b: &mut Both, g: &mut SplitMix64, ground: &Ground, place: usize, first: 
     let poses = ground.poses(g, p);
     start_anew(b, g, ground, first, &poses);
     if g.next_u64() % 12 == 0 {
-        odd_calls(b, g, &poses);
+        odd_call(b, g, &poses);
     }
     let action = (g.next_u64() % 5) as u32;
     let motions = ground.motions(g, action, &b.model.state);
     b.drive(action, &motions);
     if g.next_u64() % 24 == 0 {
-        odd_calls(b, g, &poses);
+        odd_call(b, g, &poses);
     }
     let (x, y) = if g.next_u64() % 200 == 0 { (edge(g), edge(g)) } else { (p.x.clamp(-P, P), p.y.clamp(-P, P)) };
     let lent = if g.next_u64() % 2 == 0 { ground.exact } else { b.whole() };

@@ -6,7 +6,7 @@
 //! for a drive and for a settle, over the lent tiles and index as they stand, damaged or not; its `step_reward`,
 //! `quad_overlap` and `wheel_quad`. The Rust refuses nothing, takes no turns and has no tick limit: which call is
 //! refused by what number, what state it leaves, and the sheet, is written out here from document 01 ("Refusals by
-//! cause", "Beside the run"). The braking rule alone is the Rust's lines, held to what the Rust's phase shows of it.
+//! cause", "Beside the run"). The braking rule alone is the Rust's lines too, and held to what the Rust's phase shows of it.
 //! In whole runs the Rust also goes its own way, from the start on, and must come to the same state at every tick.
 //!
 //! Random values come from the reference's SplitMix64 at a fixed seed, so the files come out the same each time.
@@ -26,7 +26,7 @@ use car::{beyond, bits, car, five, near, near_car, numbers, pick, road_motion, s
 use edges::{edge, edge_motion, edge_pose, wild};
 use lent::{between, hash};
 use model::{box_cells, Begin, Model, State, STATED};
-use oracle::oracle::{default_weights, overlap, probe, reward, Run, Track, TrackPoint};
+use oracle::oracle::{braked, default_weights, overlap, probe, reward, Run, Track, TrackPoint};
 use oracle::{Motion, Pose, Push};
 use reinfors_core::{Rng, SplitMix64};
 use std::fmt::Write;
@@ -241,20 +241,10 @@ impl Replay {
         self.ask(OVERLAP, a.into_iter().chain(b).flatten().map(f64::to_bits));
         self.whole(overlap(&a, &b));
     }
-    /// The Rust's lines; its tyre pass without gas shows omega after the brake in the phase alone.
+    /// The Rust's rule alone; its tyre pass without gas shows omega after the brake in the phase, which must be the same.
     fn braked(&mut self, brake: f64, omega: f64) {
         self.ask(BRAKED, [brake, omega].map(f64::to_bits));
-        let mut after = omega;
-        if brake >= 0.9 {
-            after = 0.0;
-        } else if brake > 0.0 {
-            let dir = -omega.signum();
-            let mut val = 15.0 * brake;
-            if val > omega.abs() {
-                val = omega.abs();
-            }
-            after += dir * val;
-        }
+        let after = braked(brake, omega);
         self.rust.put_motion(&[Motion::default(); 4]);
         self.rust.put_ctl(0, [0.0, brake, 0.0, omega, 0.0]);
         self.rust.tyres_alone();

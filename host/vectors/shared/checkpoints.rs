@@ -1,5 +1,5 @@
 //! What lay.rs and ../compare share: checkpoints for an attempt, made up, drawn as a seed draws them, and found by search so that
-//! the third pass, a second turn of beta, a beta beyond 10 or the gluing of the ends decides the course.
+//! the third pass, a second turn of beta, a beta beyond 10, the last step or the gluing of the ends decides the course.
 use crate::lent::between;
 use reinfors_core::SplitMix64;
 
@@ -80,8 +80,11 @@ pub const FOUND: [&[u64]; 6] = [
     &[693, 943, 2, 7, 0, 1],
 ];
 
-/// Sets of the last family, accepted, on whose walk beta goes beyond 10.
-pub const FAR_TURNED: [u64; 4] = [25, 358, 828, 4_239];
+/// Made-up sets, by family and number, accepted: on whose walk beta goes beyond 10.
+pub const FAR_TURNED: [(u64, u64); 4] = [(5, 25), (5, 358), (5, 828), (5, 4_239)];
+
+/// Made-up sets, accepted: the 2,500th step of the walk passes the start, or a 2,501st would.
+pub const LAST_STEPS: [(u64, u64); 7] = [(0, 5_550), (1, 4_541), (2, 4_072), (2, 5_016), (4, 5_759), (1, 3_723), (1, 4_574)];
 
 /// Sets that a seed draws but for the x of one checkpoint: seed, checkpoint, x. The ends of the course lie just a step of the walk
 /// apart, the farthest at which they are still glued. Found by halving between an x with the ends nearer and one with them farther.
@@ -104,9 +107,9 @@ pub fn moved(seed: u32, c: usize, x: f64) -> Set {
 /// All sets that were found by search, and those on which the third pass decides (see `deciding_passes` of lay.rs).
 pub fn known() -> Vec<Set> {
     let found = FOUND.iter().zip(0..).flat_map(|(numbers, family)| numbers.iter().map(move |&k| made_up(family, k)));
-    let far = FAR_TURNED.map(|k| made_up(5, k));
+    let more = FAR_TURNED.into_iter().chain(LAST_STEPS).map(|(family, k)| made_up(family, k));
     let glued = GLUED.map(|(seed, c, x)| moved(seed, c, x));
     let seeds = [0, 1, 2, 4, 5, u32::MAX];
     let deciding = seeds.into_iter().flat_map(|s| [0.0, -0.01, -0.05, -0.2].map(|last| lowered(s, last)));
-    found.chain(far).chain(glued).chain(deciding).collect()
+    found.chain(more).chain(glued).chain(deciding).collect()
 }
