@@ -100,3 +100,11 @@ fn failures_have_a_status_and_say_where() {
         assert_eq!(grade(words).status.code(), Some(0), "{words:?}");
     }
 }
+
+#[test]
+fn compare_is_skipped_without_the_reference() {
+    let mut command = Command::new(env!("CARGO_BIN_EXE_grade"));
+    let out = command.arg("compare").env("REFERENCE", "no-such-folder").output().expect("grade runs");
+    assert_eq!(out.status.code(), Some(77));
+    assert!(said(&out).1.contains("compare: skipped, no folder no-such-folder"));
+}

@@ -2,22 +2,24 @@
 use std::io::Write;
 use std::path::{Path, PathBuf};
 
-/// Why a command failed: by its arguments, or by what it found.
+/// Why a command failed: by its arguments, by what it found, or because what it needs is not at hand.
 #[derive(Debug)]
 pub enum Failure {
     Usage(String),
     Work(String),
+    Skipped(String),
 }
 
 impl Failure {
     pub fn message(&self) -> &str {
-        let (Failure::Usage(m) | Failure::Work(m)) = self;
+        let (Failure::Usage(m) | Failure::Work(m) | Failure::Skipped(m)) = self;
         m
     }
     pub fn status(&self) -> u8 {
         match self {
             Failure::Usage(_) => 2,
             Failure::Work(_) => 1,
+            Failure::Skipped(_) => 77,
         }
     }
 }

@@ -9,6 +9,7 @@ pub fn run(given: Vec<String>) -> Done {
     match status {
         Ok(s) if s.success() => Ok(()),
         Ok(s) if s.code() == Some(2) => Err(Failure::Usage("see grade compare --help".into())),
+        Ok(s) if s.code() == Some(77) => Err(Failure::Skipped("nothing was compared; see above".into())),
         Ok(_) => Err(Failure::Work("port and Rust differ, or could not be built; see above".into())),
         Err(e) => Err(Failure::Work(format!("cannot run {}: {e}", script.display()))),
     }

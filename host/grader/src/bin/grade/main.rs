@@ -24,7 +24,7 @@ grade: courses and graded runs
   grade bench [SEED] [--json]               how long the grader's calls take on this machine
   grade compare [..]                        port and Rust side by side (host/compare/run)
 
-`grade COMMAND --help` says more. Status: 0 done, 1 failed, 2 wrong arguments.
+`grade COMMAND --help` says more. Status: 0 done, 1 failed, 2 wrong arguments, 77 skipped (compare without the Rust).
 ";
 
 fn main() -> ExitCode {
