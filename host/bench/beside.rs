@@ -27,16 +27,24 @@ pub fn numbers(rounds: Rounds) {
     let ten = |f: &dyn Fn() -> f64| each(10 * xs.len(), || (0..10).for_each(|_| drop(black_box(f()))));
     versus("square root, independent", rounds, || ten(&|| sum(root)), || ten(&|| sum(port::sqrt)));
     versus("square root, each of the one before", rounds, || ten(&|| chain(root)), || ten(&|| chain(port::sqrt)));
+    overlaps(rounds);
+}
+
+/// A wheel's quad at each point and the six tiles around it. Both sides find the two quads of a pair in memory, side by side, and know
+/// nothing of them; the Rust reads them there, the port takes them by value, as its C function does.
+fn overlaps(rounds: Rounds) {
     let track = Track::generate(0);
-    let (quads, n) = (quads(&track), track.tiles.len());
-    let near = |f: &dyn Fn(&[[f64; 2]; 4], &[[f64; 2]; 4]) -> bool| {
-        let pairs = quads.iter().enumerate().flat_map(|(i, q)| (0..6).map(move |d| (q, (i + n - 3 + d) % n)));
-        pairs.filter(|(q, k)| f(black_box(q), &track.tiles[*k].quad)).count()
-    };
-    let (rust, here) = (|a: &_, b: &_| overlap(a, b), |a: &_, b: &_| port::overlap(*a, *b));
-    same("overlap", near(&rust), near(&here));
-    let pairs = 6 * quads.len();
-    versus("`quad_overlap`, overlap: near pairs", rounds, || each(pairs, || drop(black_box(near(&rust)))), || each(pairs, || drop(black_box(near(&here)))));
+    let n = track.tiles.len();
+    let mut pairs: Vec<[[[f64; 2]; 4]; 2]> = Vec::new();
+    for (i, q) in quads(&track).into_iter().enumerate() {
+        pairs.extend((0..6).map(|d| [q, track.tiles[(i + n - 3 + d) % n].quad]));
+    }
+    let touching = |f: fn(&[[[f64; 2]; 4]; 2]) -> bool| pairs.iter().filter(|&pair| f(black_box(pair))).count();
+    let rust = || touching(|[a, b]| overlap(a, b));
+    let here = || touching(|[a, b]| port::overlap(*a, *b));
+    same("overlap", rust(), here());
+    let timed = |side: &dyn Fn() -> usize| each(pairs.len(), || drop(black_box(side())));
+    versus("`quad_overlap`, overlap: near pairs", rounds, || timed(&rust), || timed(&here));
 }
 
 /// Lay, and the curbs of what is laid.

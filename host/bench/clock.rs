@@ -30,8 +30,8 @@ pub fn head(title: &str, columns: &[&str]) {
     println!("\n{title}\n\n| {} |\n|{}", columns.join(" | "), "---|".repeat(columns.len()));
 }
 
-/// A row of two sides, each a round that says the time of a call: medians, and the median of the ratios port / Rust.
-pub fn versus(name: &str, rounds: Rounds, mut rust: impl FnMut() -> f64, mut port: impl FnMut() -> f64) {
+/// Two sides by turns, each a round that says the time of a call: the medians of Rust and port, and the median of the ratios port / Rust.
+pub fn turns(rounds: Rounds, mut rust: impl FnMut() -> f64, mut port: impl FnMut() -> f64) -> [f64; 3] {
     let (mut a, mut b, mut q) = (vec![], vec![], vec![]);
     rust();
     port();
@@ -41,7 +41,13 @@ pub fn versus(name: &str, rounds: Rounds, mut rust: impl FnMut() -> f64, mut por
         b.push(y);
         q.push(y / x);
     }
-    println!("| {name} | {} | {} | {:.2} |", shown(median(&mut a)), shown(median(&mut b)), median(&mut q));
+    [median(&mut a), median(&mut b), median(&mut q)]
+}
+
+/// A row of two sides.
+pub fn versus(name: &str, rounds: Rounds, rust: impl FnMut() -> f64, port: impl FnMut() -> f64) {
+    let [a, b, q] = turns(rounds, rust, port);
+    println!("| {name} | {} | {} | {q:.2} |", shown(a), shown(b));
 }
 
 /// The median of one side alone.

@@ -1,5 +1,5 @@
 //! How the cost grows with the work: lay over attempts, settle over tiles in one cell, points over the index's entries.
-use crate::clock::{alone, each, head, shown, Rounds};
+use crate::clock::{alone, each, head, shown, turns, Rounds};
 use crate::inputs::{columns, port_poses, Ground, HULL};
 use crate::lent::{stated, Lent};
 use crate::port;
@@ -44,9 +44,10 @@ fn stacked(rounds: Rounds) {
     }
 }
 
-/// Points between two corners of the field: every cell lists every tile.
+/// Points between two corners of the field: every cell lists every tile. The Rust also looks for curbs; none of these points turns, so
+/// that there are none to be worked out.
 fn entries(Rounds(rounds): Rounds) {
-    head("Points over entries of the index", &["points", "entries", "points", "an entry"]);
+    head("Points over entries of the index", &["points", "entries", "`from_points`", "points", "port / Rust", "an entry of the port"]);
     for n in [1, 25, 100, 400, 2_500] {
         let corner = |i: i32| if i % 2 == 0 { 1_000.0 } else { -1_000.0 };
         let points: Vec<_> = (0..n).map(|i| TrackPoint { beta: 0.0, x: corner(i), y: corner(i) }).collect();
@@ -54,7 +55,14 @@ fn entries(Rounds(rounds): Rounds) {
         let long = stated(12_000_000);
         let mut lent = Lent::untouched(&long);
         let mut entries = 0;
-        let t = alone(Rounds(rounds.min(11)), || each(1, || entries = port::points([&b, &x, &y], n as u32, &mut lent, &long).entries));
-        println!("| {n} | {entries} | {} | {} |", shown(t), shown(t / f64::from(entries)));
+        let given = || probe::given(black_box(&points).clone(), false);
+        let [rust, port, ratio] = turns(
+            Rounds(rounds.min(11)),
+            || each(1, || drop(black_box(given()))),
+            || each(1, || entries = port::points([&b, &x, &y], n as u32, &mut lent, &long).entries),
+        );
+        let track = given();
+        assert!(lent.ids[..entries as usize] == *probe::raw_ref(&track).1, "{n} points: the Rust's list and the port's differ");
+        println!("| {n} | {entries} | {} | {} | {ratio:.2} | {} |", shown(rust), shown(port), shown(port / f64::from(entries)));
     }
 }

@@ -16,7 +16,8 @@ use clock::Rounds;
 const HELP: &str = "usage: host/bench/run [--rounds N] [--only TABLE]
   --rounds N      rounds of each row (default 41)
   --only TABLE    one table alone: numbers, course, drive, run, growth
-Exit status 0, or 2 for a wrong argument. A row whose two sides answer differently ends the program.";
+Exit status 0, 2 for a wrong argument, 77 where it is skipped for want of the reference or of rustc. A row whose two sides answer
+differently ends the program.";
 
 fn wrong(text: &str) -> ! {
     eprintln!("bench: {text}\n{HELP}");
