@@ -13,8 +13,20 @@ fn turned_by_the_bound(i: usize) -> f64 {
     [-0.3, -0.2, -0.1, 0.0, 0.31 * 0.2, 0.2, 0.3, 0.4][i % 8]
 }
 
-/// Given points: a walk, one place, or corner to corner with cells beyond the field. Number 7 is the most points between
-/// two corners: the longest index list of all, 11,222,500 entries.
+/// A beta of a row of n points that turn the same way by 0.1 from the one `before` places before point 0 to the one `after` it, and
+/// nowhere else: curbs across the seam.
+fn turned_at_the_seam(i: usize, n: usize, before: usize, after: usize) -> f64 {
+    if i <= after {
+        0.1 * i as f64
+    } else if i + before >= n {
+        -0.1 * (n - i) as f64
+    } else {
+        0.0
+    }
+}
+
+/// Given points: a walk, one place, turned as a curb is judged, or corner to corner with cells beyond the field. Number 7 is the most
+/// points between two corners: the longest index list of all, 11,222,500 entries.
 pub fn made_up(g: &mut SplitMix64, number: u64) -> Vec<TrackPoint> {
     let n = match number % 8 {
         _ if number == 7 => 2_500,
@@ -26,21 +38,21 @@ pub fn made_up(g: &mut SplitMix64, number: u64) -> Vec<TrackPoint> {
     };
     let (mut beta, mut x, mut y) = (between(g, -6.0, 6.0), between(g, -300.0, 300.0), between(g, -300.0, 300.0));
     let far = [0.0, 2.0, 5.0, 60.0][number as usize / 8 % 4];
+    let (before, after) = (g.next_u64() as usize % 8, g.next_u64() as usize % 8);
     let corners = number == 7 || (number % 16 == 12 && n < 60);
-    let bound = number % 16 == 13;
-    (0..n)
-        .map(|i| {
-            beta = (beta + between(g, -0.3, 0.3)).clamp(-16.0, 16.0);
-            x = (x + between(g, -far, far)).clamp(-1000.0, 1000.0);
-            y = (y + between(g, -far, far)).clamp(-1000.0, 1000.0);
-            let edge = if i % 2 == 0 { -1000.0 } else { 1000.0 };
-            match (corners, bound) {
-                (true, _) => TrackPoint { beta, x: edge, y: edge },
-                (_, true) => TrackPoint { beta: turned_by_the_bound(i), x, y },
-                _ => TrackPoint { beta, x, y },
-            }
-        })
-        .collect()
+    let point = |i| {
+        beta = (beta + between(g, -0.3, 0.3)).clamp(-16.0, 16.0);
+        x = (x + between(g, -far, far)).clamp(-1000.0, 1000.0);
+        y = (y + between(g, -far, far)).clamp(-1000.0, 1000.0);
+        let edge = if i % 2 == 0 { -1000.0 } else { 1000.0 };
+        match number % 16 {
+            _ if corners => TrackPoint { beta, x: edge, y: edge },
+            13 => TrackPoint { beta: turned_by_the_bound(i), x, y },
+            14 => TrackPoint { beta: turned_at_the_seam(i, n, before, after), x, y },
+            _ => TrackPoint { beta, x, y },
+        }
+    };
+    (0..n).map(point).collect()
 }
 
 fn good(p: &TrackPoint) -> bool {
