@@ -48,7 +48,7 @@ pub fn made_up(g: &mut SplitMix64, number: u64) -> Vec<TrackPoint> {
         match number % 16 {
             _ if corners => TrackPoint { beta, x: edge, y: edge },
             13 => TrackPoint { beta: turned_by_the_bound(i), x, y },
-            14 => TrackPoint { beta: turned_at_the_seam(i, n, before, after), x, y },
+            6 | 14 => TrackPoint { beta: turned_at_the_seam(i, n, before, after), x, y },
             _ => TrackPoint { beta, x, y },
         }
     };
@@ -76,23 +76,34 @@ fn given_cause(points: &[TrackPoint], count: u32, given: usize, room: bool) -> u
     }
 }
 
-/// One number of the point, of any of its columns, becomes one that is refused, or the last that is not.
-fn damage(g: &mut SplitMix64, p: &mut TrackPoint) {
-    let (number, bound) = match g.next_u64() % 3 {
+/// A number of a point, of any of its columns, and the greatest that is accepted there.
+fn any_number<'a>(g: &mut SplitMix64, points: &'a mut [TrackPoint]) -> (&'a mut f64, f64) {
+    let p = &mut points[g.next_u64() as usize % points.len()];
+    match g.next_u64() % 3 {
         0 => (&mut p.beta, 16.0),
         1 => (&mut p.x, 1000.0),
         _ => (&mut p.y, 1000.0),
-    };
-    *number = pick(g, &[f64::NAN, step(bound, 1), -step(bound, 1), f64::INFINITY, bound, -bound]);
+    }
+}
+
+/// In half of the units one number is at an end of its range, in a fourth one is beyond.
+fn to_the_ends(g: &mut SplitMix64, points: &mut [TrackPoint]) {
+    if g.next_u64() % 2 == 0 {
+        let (number, most) = any_number(g, points);
+        *number = pick(g, &[most, -most]);
+    }
+    if g.next_u64() % 4 == 0 {
+        let (number, most) = any_number(g, points);
+        *number = pick(g, &[f64::NAN, step(most, 1), -step(most, 1), f64::INFINITY]);
+    }
 }
 
 /// A course of given points, a few of them refused, and its curbs.
 pub fn points(t: &mut Tally, g: &mut SplitMix64, unit: Unit) {
     let mut points = made_up(g, unit.number);
     let largest = unit.number == 7;
-    if !largest && g.next_u64() % 4 == 0 {
-        let at = g.next_u64() as usize % points.len();
-        damage(g, &mut points[at]);
+    if !largest {
+        to_the_ends(g, &mut points);
     }
     let count = match g.next_u64() % 16 {
         0 if !largest => 0,
@@ -116,10 +127,11 @@ pub fn points(t: &mut Tally, g: &mut SplitMix64, unit: Unit) {
         let same = answer.cause == cause && same_lent(&lent, &Lent::untouched(&LONG));
         t.check("points, refused", same, unit, points.len(), || format!("count {count}, lent {long:?}: {answer:?}, not {cause}"));
     }
-    curbs(t, g, unit, &points, g.clone().next_u64() % 4);
+    curbs(t, g, unit, &points, g.clone().next_u64() % 16);
 }
 
-/// The curbs of points: quads and white marks, zeros up to their lengths, and nothing beyond.
+/// The curbs of points: quads and white marks, zeros up to their lengths, and nothing beyond. The quads are lent one number short where
+/// `short` is 1, the marks where it is 2.
 pub fn curbs(t: &mut Tally, g: &mut SplitMix64, unit: Unit, points: &[TrackPoint], short: u64) {
     let (quads_long, white_long) = (if short == 1 { 19_999 } else { 20_020 }, if short == 2 { 2_499 } else { 2_510 });
     let [b, x, y] = columns(points);
