@@ -122,12 +122,7 @@ fn drive(name: &str, rounds: Rounds, ground: &Ground, most: f64, [gas, omega]: [
         let t = each(ms.len(), || {
             for m in &ms {
                 r.put_motion(m);
-                for i in 0..4 {
-                    let mut d = r.ctl(i);
-                    d[1] = 0.0;
-                    if i < 2 { d[2] = 0.0 } else { d[0] += (wish - d[0]).min(0.1) }
-                    r.put_ctl(i, d);
-                }
+                r.wish(0.0, wish, 0.0);
                 r.tyres_alone();
             }
         });
