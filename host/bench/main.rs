@@ -6,7 +6,7 @@ mod beside;
 mod clock;
 mod growth;
 mod inputs;
-#[path = "../vectors/shared/lent.rs"]
+#[path = "../compare/lent.rs"]
 mod lent;
 #[path = "../compare/port.rs"]
 mod port;

@@ -2,16 +2,11 @@
 //! rewards. What the Rust has no counterpart for, the refusals, is held to document 01 as written out in model.rs and courses.rs.
 //! Run by host/compare/run, which builds the oracle and the port's static library first.
 mod both;
-#[path = "../vectors/shared/car.rs"]
 mod car;
-#[path = "../vectors/shared/checkpoints.rs"]
 mod checkpoints;
 mod courses;
-#[path = "../vectors/shared/edges.rs"]
 mod edges;
-#[path = "../vectors/shared/lent.rs"]
 mod lent;
-#[path = "../vectors/shared/model.rs"]
 mod model;
 mod numbers;
 mod points;

@@ -1,6 +1,6 @@
 //! Whole runs, call by call: start, drive, settle, sheet and reward, on courses of seeds and of given points, at edge poses and
 //! motions, on damaged tiles and indexes and from hand-made states, with refused calls among them. Every answer and the whole
-//! state after each call are held to the model (../vectors/shared/model.rs): the Rust's where a call is accepted, document 01's
+//! state after each call are held to the model (model.rs): the Rust's where a call is accepted, document 01's
 //! causes where it is not.
 use crate::both::Both;
 use crate::car::{beyond, bits, near_car, pick, road_motion, P};

@@ -1,15 +1,15 @@
 //! Writes the list that crates/lay_vectors replays (its file stdin, whose path is the first argument), and prints
-//! what it must answer. Run by `host/vectors/make lay`.
+//! what it must answer. Run by `host/compare/write lay`.
 //!
 //! The list is 64-bit words, the low byte first: for each record a code, the lengths of the lent columns and the
 //! call's own arguments, floats by their bits. Courses are the Rust's: `generate_with_attempts` of the reference's
 //! track.rs with document 01's limits, and the same with given checkpoints in the place of the drawn ones. The Rust
 //! refuses nothing and lends nothing; which call is refused by what number, and what stands in a lent column around
-//! the Rust's numbers, is written out in shared/lent.rs from document 01 ("Lent", "Refusals by cause"). After each
+//! the Rust's numbers, is written out in ../lent.rs from document 01 ("Lent", "Refusals by cause"). After each
 //! call the answer holds a hash of every whole column, so a number written where none belongs shows.
-#[path = "shared/checkpoints.rs"]
+#[path = "../checkpoints.rs"]
 mod checkpoints;
-#[path = "shared/lent.rs"]
+#[path = "../lent.rs"]
 mod lent;
 
 use checkpoints::{drawn, lowered, made_up, Set, FOUND, TAU};

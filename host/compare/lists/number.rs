@@ -1,5 +1,5 @@
 //! Writes the list that crates/number_vectors replays (its file stdin, whose path is the first argument), and
-//! prints what it must answer. Run by `host/vectors/make number`.
+//! prints what it must answer. Run by `host/compare/write number`.
 //!
 //! The list is 64-bit words, the low byte first: for each record the code of an operation and the bits of its
 //! arguments. The answers are those of the Rust: sine, cosine and atan2 of the oracle's shim `libm` (document 01's

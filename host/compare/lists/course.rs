@@ -1,5 +1,5 @@
 //! Writes the list that crates/course_vectors replays (its file stdin, whose path is the first argument), and
-//! prints what it must answer. Run by `host/vectors/make course`.
+//! prints what it must answer. Run by `host/compare/write course`.
 //!
 //! The list is 64-bit words, the low byte first: for each record a code and its arguments, floats by their bits.
 //! Courses, index lists and curbs are the Rust's: `from_points`, `border_quads` and `candidate_tiles` of the
@@ -7,7 +7,7 @@
 //! stands in a lent column around the Rust's numbers, and what a damaged index answers, is written out here from
 //! document 01 ("Lent", "Refusals by cause", "Tiles and index"). After each call the answer holds a hash of every
 //! whole column, so a number written where none belongs shows.
-#[path = "shared/lent.rs"]
+#[path = "../lent.rs"]
 mod lent;
 
 use lent::{between, hash, hash_floats, hash_ids, put, roomy, stated, Lent, STATED, UNTOUCHED};

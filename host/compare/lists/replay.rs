@@ -1,19 +1,18 @@
 //! Writes the list that crates/replay_vectors replays (its file stdin, whose path is the first argument), and prints
-//! what it must answer. Run by `host/vectors/make replay`.
+//! what it must answer. Run by `host/compare/write replay`.
 //!
 //! The list is 64-bit words, the low byte first: for each record a whole log, that is the arguments of one call of
 //! replay, floats by their bits. Courses are the Rust's `Track::generate`, and what an accepted call answers is the
 //! Rust's too: its `realize_from` for the start, and its `step` for a drive and the settle after it, over one run from
 //! the start to the end. The Rust refuses nothing, lends nothing, takes no turns and has no tick limit: which call is
 //! refused by what number, the sheet, how calls and answers stand in their columns and what is left untouched there, is
-//! written out here from document 01 ("The plain scorer", "Refusals by cause", "Beside the run") and shared/lent.rs.
+//! written out here from document 01 ("The plain scorer", "Refusals by cause", "Beside the run") and ../lent.rs.
 //!
 //! Random values come from the reference's SplitMix64 at a fixed seed, so the files come out the same each time.
-#[path = "shared/blocks.rs"]
 mod blocks;
-#[path = "shared/car.rs"]
+#[path = "../car.rs"]
 mod car;
-#[path = "shared/lent.rs"]
+#[path = "../lent.rs"]
 mod lent;
 
 use blocks::{append, save};

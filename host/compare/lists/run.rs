@@ -1,5 +1,5 @@
 //! Writes the list that crates/run_vectors replays (its file stdin, whose path is the first argument), and prints
-//! what it must answer. Run by `host/vectors/make run`.
+//! what it must answer. Run by `host/compare/write run`.
 //!
 //! The list is 64-bit words, the low byte first: for each record a code and its arguments, floats by their bits.
 //! What an accepted call answers and leaves is the Rust's: the reference's `realize_from` for a start, its `step`
@@ -10,15 +10,14 @@
 //! In whole runs the Rust also goes its own way, from the start on, and must come to the same state at every tick.
 //!
 //! Random values come from the reference's SplitMix64 at a fixed seed, so the files come out the same each time.
-#[path = "shared/blocks.rs"]
 mod blocks;
-#[path = "shared/car.rs"]
+#[path = "../car.rs"]
 mod car;
-#[path = "shared/edges.rs"]
+#[path = "../edges.rs"]
 mod edges;
-#[path = "shared/lent.rs"]
+#[path = "../lent.rs"]
 mod lent;
-#[path = "shared/model.rs"]
+#[path = "../model.rs"]
 mod model;
 
 use blocks::{append, save};
