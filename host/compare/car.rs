@@ -1,5 +1,5 @@
-//! What run.rs and replay.rs share: the range of input floats and the field's edge, the bits by which a float is
-//! printed, and a car's poses and motions.
+//! The range of input floats and the field's edge, the bits by which a float is compared and printed, and a car's poses and
+//! motions.
 use crate::lent::between;
 use oracle::oracle::TrackPoint;
 use oracle::{Motion, Pose};

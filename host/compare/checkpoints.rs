@@ -1,5 +1,5 @@
-//! What lay.rs and ../compare share: checkpoints for an attempt, made up, drawn as a seed draws them, and found by search so that
-//! the third pass, a second turn of beta, a beta beyond 10, the last step or the gluing of the ends decides the course.
+//! Checkpoints for an attempt, made up, drawn as a seed draws them, and found by search so that the third pass, a second turn of
+//! beta, a beta beyond 10, the last step or the gluing of the ends decides the course.
 use crate::lent::between;
 use reinfors_core::SplitMix64;
 
@@ -104,7 +104,7 @@ pub fn moved(seed: u32, c: usize, x: f64) -> Set {
     cs
 }
 
-/// All sets that were found by search, and those on which the third pass decides (see `deciding_passes` of lay.rs).
+/// All sets that were found by search, and those on which the third pass decides (see `deciding_passes` of lists/lay.rs).
 pub fn known() -> Vec<Set> {
     let found = FOUND.iter().zip(0..).flat_map(|(numbers, family)| numbers.iter().map(move |&k| made_up(family, k)));
     let more = FAR_TURNED.into_iter().chain(LAST_STEPS).map(|(family, k)| made_up(family, k));

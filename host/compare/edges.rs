@@ -1,4 +1,4 @@
-//! What run.rs and ../compare share: floats, poses and motions at edges.
+//! Floats, poses and motions at edges.
 use crate::car::{near, pick, step, FAR, P};
 use crate::lent::between;
 use oracle::{Motion, Pose};

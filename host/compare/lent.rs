@@ -1,5 +1,5 @@
-//! What the programs of this folder share: hashes, and the lent columns of a course as document 01 ("Lent",
-//! "Refusals by cause") leaves them, with their lines in the answers.
+//! The lent columns of a course as document 01 ("Lent", "Refusals by cause") leaves them, with their lines in the answers of
+//! a list; and hashes of columns.
 use oracle::oracle::{probe, Track};
 use reinfors_core::{Rng, SplitMix64};
 

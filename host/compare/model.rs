@@ -1,6 +1,6 @@
-//! What run.rs and ../compare share: the state of a run and its calls. What an accepted call answers and leaves is the
-//! Rust's, over lent columns as they stand, damaged or not; which call is refused by what number, turns and the tick limit
-//! are written out here from document 01 ("Refusals by cause").
+//! The state of a run and its calls. What an accepted call answers and leaves is the Rust's, over lent columns as they stand,
+//! damaged or not; which call is refused by what number, turns and the tick limit are written out here from document 01
+//! ("Refusals by cause").
 use crate::car::{bits, five, near, numbers, MOST};
 use crate::lent::{hash, put};
 use oracle::oracle::{probe, Run, Settled, Tile, Track, TrackPoint};

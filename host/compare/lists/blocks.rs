@@ -1,8 +1,10 @@
 //! What run.rs and replay.rs share: a list in blocks, for programs that read it block by block.
 
-/// The list goes in blocks of so many bytes, at most so many of them. No record stands in two: zeros fill a block up.
-pub const BLOCK: usize = 262_144;
-pub const BLOCKS: usize = 16;
+/// The list goes in blocks of so many bytes. No record stands in two: zeros fill a block up.
+const BLOCK: usize = 262_144;
+
+/// The programs read sixteen blocks, in bytes: a longer list would be cut off.
+pub const ROOM: usize = 16 * BLOCK;
 
 /// The record's words at the end of the list.
 pub fn append(list: &mut Vec<u8>, words: impl IntoIterator<Item = u64>) {
@@ -12,10 +14,4 @@ pub fn append(list: &mut Vec<u8>, words: impl IntoIterator<Item = u64>) {
         list.resize(list.len().next_multiple_of(BLOCK), 0);
     }
     list.extend(record);
-}
-
-/// The list, finished, in the file at the path.
-pub fn save(list: &[u8], path: &str) {
-    assert!(list.len() <= BLOCK * BLOCKS, "{} bytes do not fit the program's blocks", list.len());
-    std::fs::write(path, list).expect("the list could not be written");
 }

@@ -1,5 +1,4 @@
-//! Writes the list that crates/course_vectors replays (its file stdin, whose path is the first argument), and
-//! prints what it must answer. Run by `host/compare/write course`.
+//! The list that crates/course_vectors replays, and what it must answer.
 //!
 //! The list is 64-bit words, the low byte first: for each record a code and its arguments, floats by their bits.
 //! Courses, index lists and curbs are the Rust's: `from_points`, `border_quads` and `candidate_tiles` of the
@@ -7,12 +6,11 @@
 //! stands in a lent column around the Rust's numbers, and what a damaged index answers, is written out here from
 //! document 01 ("Lent", "Refusals by cause", "Tiles and index"). After each call the answer holds a hash of every
 //! whole column, so a number written where none belongs shows.
-#[path = "../lent.rs"]
-mod lent;
-
-use lent::{between, hash, hash_floats, hash_ids, put, roomy, stated, Lent, STATED, UNTOUCHED};
+use super::Stored;
+use crate::car::step;
+use crate::lent::{between, hash, hash_floats, hash_ids, put, roomy, stated, Lent, STATED, UNTOUCHED};
 use oracle::oracle::{probe, Track, TrackPoint};
-use reinfors_core::{Rng, SplitMix64};
+use reinfors_core::SplitMix64;
 use std::fmt::Write;
 
 const GIVE: u64 = 1;
@@ -196,14 +194,6 @@ impl Replay {
     fn find(&mut self, x: f64, y: f64) {
         self.lookup(LONG[5], LONG[6], x, y);
     }
-}
-
-/// The float d places after x in the order of the floats, where the two zeros are one place.
-fn step(x: f64, d: i64) -> f64 {
-    let size = (x.to_bits() << 1 >> 1) as i64;
-    let place = if x.is_sign_negative() { d - size } else { d + size };
-    let there = f64::from_bits(place.unsigned_abs());
-    if place < 0 { -there } else { there }
 }
 
 fn at(beta: f64, x: f64, y: f64) -> TrackPoint {
@@ -536,8 +526,7 @@ fn damaged_corners(r: &mut Replay) {
     }
 }
 
-fn main() {
-    let path = std::env::args().nth(1).expect("the path of the list to write");
+pub fn make() -> Stored {
     let mut r = Replay::new();
     let mut g = SplitMix64::new(9);
     few_points(&mut r, &mut g);
@@ -552,10 +541,8 @@ fn main() {
     // An unknown code ends the run: the record behind it has no answer.
     r.ask(0, []);
     r.ask(LOOKUP, [0; 4]);
-    assert!(r.list.len() <= ROOM, "{} bytes do not fit the program's buffer", r.list.len());
     let [points, curbs, lookups] = r.records;
-    eprintln!("{points} of points, {curbs} of curbs, {lookups} of look-up; {} bytes", r.list.len());
+    eprintln!("{points} of points, {curbs} of curbs, {lookups} of look-up");
     eprintln!("refused, by cause from 0: points {:?}, curbs {:?}", r.refused[0], r.refused[1]);
-    std::fs::write(&path, &r.list).expect("the list could not be written");
-    print!("{}", r.lines);
+    Stored::new(r.list, ROOM, r.lines)
 }

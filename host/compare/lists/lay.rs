@@ -1,5 +1,4 @@
-//! Writes the list that crates/lay_vectors replays (its file stdin, whose path is the first argument), and prints
-//! what it must answer. Run by `host/compare/write lay`.
+//! The list that crates/lay_vectors replays, and what it must answer.
 //!
 //! The list is 64-bit words, the low byte first: for each record a code, the lengths of the lent columns and the
 //! call's own arguments, floats by their bits. Courses are the Rust's: `generate_with_attempts` of the reference's
@@ -7,13 +6,9 @@
 //! refuses nothing and lends nothing; which call is refused by what number, and what stands in a lent column around
 //! the Rust's numbers, is written out in ../lent.rs from document 01 ("Lent", "Refusals by cause"). After each
 //! call the answer holds a hash of every whole column, so a number written where none belongs shows.
-#[path = "../checkpoints.rs"]
-mod checkpoints;
-#[path = "../lent.rs"]
-mod lent;
-
-use checkpoints::{drawn, lowered, made_up, Set, FOUND, TAU};
-use lent::{between, roomy, stated, Lent, STATED};
+use super::Stored;
+use crate::checkpoints::{drawn, lowered, made_up, Set, FOUND, TAU};
+use crate::lent::{between, roomy, stated, Lent, STATED};
 use oracle::limits::{HIT, TURNED};
 use oracle::oracle::{probe, Track};
 use reinfors_core::SplitMix64;
@@ -77,7 +72,8 @@ fn need(track: &Track) -> usize {
     probe::raw_ref(track).1.len()
 }
 
-/// How often limits were met so far: third pass, fifth turn, beta beyond 16; and steps of two and of three turns.
+/// How often limits were met so far, by this list and others: third pass, fifth turn, beta beyond 16; and steps of two
+/// and of three turns.
 fn met() -> [u64; 5] {
     [&HIT[0], &HIT[1], &HIT[2], &TURNED[1], &TURNED[2]].map(|count| count.load(Relaxed))
 }
@@ -245,13 +241,13 @@ fn found_sets(r: &mut Replay) {
     assert!(third > 0 && twice[0] > 0 && twice[1] > 0);
 }
 
-fn main() {
-    let path = std::env::args().nth(1).expect("the path of the list to write");
+pub fn make() -> Stored {
+    let before = met();
     let mut r = Replay { list: Vec::new(), lines: String::new(), records: [[0; 4]; 4], third: 0 };
     seeds(&mut r);
     attempts(&mut r);
     // None of these seeds meets a limit, or turns beta twice in a step.
-    assert_eq!(met(), [0; 5]);
+    assert_eq!(met(), before);
     refusals(&mut r);
     drawn_sets(&mut r);
     deciding_passes(&mut r);
@@ -261,15 +257,13 @@ fn main() {
     // The other two limits no checkpoints can meet. A search ends with alpha from -tau to tau, since a third pass
     // refuses. Beta is then turned to within 1.5 pi of alpha and steered by at most 0.31, so a step leaves it within
     // 11.31, short of 16. From there the next alpha is less than 17.6 away, which three turns bring within 1.5 pi.
-    let [_, fifth, beyond, two, three] = met();
+    let now = met();
+    let [_, fifth, beyond, two, three] = std::array::from_fn(|i| now[i] - before[i]);
     assert!(r.third > 0 && fifth == 0 && beyond == 0);
     eprintln!("{} records meet the third pass; steps of two turns {two}, of three {three}", r.third);
     // An unknown code ends the run: the record behind it has no answer.
     r.list.extend([0, LAY].into_iter().chain([0; 8]).flat_map(u64::to_le_bytes));
-    assert!(r.list.len() <= ROOM, "{} bytes do not fit the program's buffer", r.list.len());
     let [_, lay, attempts, checkpoints] = r.records;
     eprintln!("accepted, ring, refused by 2, by 3: lay {lay:?}, attempts {attempts:?}, checkpoints {checkpoints:?}");
-    eprintln!("{} bytes", r.list.len());
-    std::fs::write(&path, &r.list).expect("the list could not be written");
-    print!("{}", r.lines);
+    Stored::new(r.list, ROOM, r.lines)
 }

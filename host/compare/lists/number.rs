@@ -1,5 +1,4 @@
-//! Writes the list that crates/number_vectors replays (its file stdin, whose path is the first argument), and
-//! prints what it must answer. Run by `host/compare/write number`.
+//! The list that crates/number_vectors replays, and what it must answer.
 //!
 //! The list is 64-bit words, the low byte first: for each record the code of an operation and the bits of its
 //! arguments. The answers are those of the Rust: sine, cosine and atan2 of the oracle's shim `libm` (document 01's
@@ -7,8 +6,11 @@
 //! the rest. Random values come from the reference's SplitMix64 at fixed seeds, so the files come out the same
 //! each time. Of min and max, and of clamp, zeros of both signs at once are left out: the Rust leaves open which
 //! of the two it answers.
+use super::Stored;
+use crate::car::{bits, step, P};
+use crate::lent::between;
 use oracle::oracle::probe;
-use reinfors_core::{Rng, SplitMix64};
+use reinfors_core::SplitMix64;
 use std::fmt::Write;
 
 const SINE: u64 = 1;
@@ -26,9 +28,6 @@ const INSIDE: u64 = 11;
 /// The program's buffer, in bytes: a longer list would be cut off.
 const ROOM: usize = 262_144;
 
-/// Half the width of the playfield, P of document 01.
-const P: f64 = 2000.0 / 6.0;
-
 /// The list and its answers as they grow.
 struct Record {
     list: Vec<u8>,
@@ -42,12 +41,8 @@ impl Record {
             self.list.extend(x.to_bits().to_le_bytes());
         }
     }
-    /// A line with the bits of x; every NaN has the same. Optimized, rustc takes one NaN for another where the test
-    /// is `x.is_nan()` and x a root, so the test is of bits that it knows nothing about.
     fn value(&mut self, x: f64) {
-        let bits = std::hint::black_box(x.to_bits());
-        let bits = if bits % (1 << 63) > 0x7ff0_0000_0000_0000 { 0x7ff8_0000_0000_0000 } else { bits };
-        writeln!(self.lines, "{bits:016x}").unwrap();
+        writeln!(self.lines, "{:016x}", bits(x)).unwrap();
     }
     /// A value, or the refusal of arguments that are not within `bound`.
     fn angle(&mut self, arguments: &[f64], bound: f64, f: impl Fn(&[f64]) -> f64) {
@@ -103,22 +98,9 @@ impl Record {
     }
 }
 
-/// The float d places after x in the order of the floats, where the two zeros are one place.
-fn step(x: f64, d: i64) -> f64 {
-    let size = (x.to_bits() << 1 >> 1) as i64;
-    let place = if x.is_sign_negative() { d - size } else { d + size };
-    let there = f64::from_bits(place.unsigned_abs());
-    if place < 0 { -there } else { there }
-}
-
 /// 2^e, e from -1074 to 1023.
 fn power(e: i64) -> f64 {
     if e < -1022 { f64::from_bits(1 << (e + 1074)) } else { f64::from_bits(((e + 1023) as u64) << 52) }
-}
-
-/// From lo to hi.
-fn between(g: &mut SplitMix64, lo: f64, hi: f64) -> f64 {
-    lo + (hi - lo) * g.unit()
 }
 
 /// Zeros, subnormals, the least and the greatest normal numbers, infinities and NaNs.
@@ -399,8 +381,7 @@ fn ranges(r: &mut Record) {
     }
 }
 
-fn main() {
-    let path = std::env::args().nth(1).expect("the path of the list to write");
+pub fn make() -> Stored {
     let mut r = Record { list: Vec::new(), lines: String::new() };
     angles(&mut r);
     directions_at_edges(&mut r);
@@ -414,7 +395,5 @@ fn main() {
     // An unknown code ends the run: the record behind it has no answer.
     r.ask(0, &[]);
     r.ask(ABS, &[1.0]);
-    assert!(r.list.len() <= ROOM, "{} bytes do not fit the program's buffer", r.list.len());
-    std::fs::write(&path, &r.list).expect("the list could not be written");
-    print!("{}", r.lines);
+    Stored::new(r.list, ROOM, r.lines)
 }

@@ -1,23 +1,17 @@
-//! Writes the list that crates/replay_vectors replays (its file stdin, whose path is the first argument), and prints
-//! what it must answer. Run by `host/compare/write replay`.
+//! The list that crates/replay_vectors replays, and what it must answer.
 //!
 //! The list is 64-bit words, the low byte first: for each record a whole log, that is the arguments of one call of
 //! replay, floats by their bits. Courses are the Rust's `Track::generate`, and what an accepted call answers is the
 //! Rust's too: its `realize_from` for the start, and its `step` for a drive and the settle after it, over one run from
 //! the start to the end. The Rust refuses nothing, lends nothing, takes no turns and has no tick limit: which call is
 //! refused by what number, the sheet, how calls and answers stand in their columns and what is left untouched there, is
-//! written out here from document 01 ("The plain scorer", "Refusals by cause", "Beside the run") and ../lent.rs.
+//! written out here from document 01 ("The plain scorer", "Refusals by cause", "Beside the run") and in ../lent.rs.
 //!
 //! Random values come from the reference's SplitMix64 at a fixed seed, so the files come out the same each time.
-mod blocks;
-#[path = "../car.rs"]
-mod car;
-#[path = "../lent.rs"]
-mod lent;
-
-use blocks::{append, save};
-use car::{beyond, bits, car, five, near, near_car, numbers, pick, road_motion, step, FAR, MOST};
-use lent::{between, hash, hash_ids, roomy, stated, Lent, STATED, UNTOUCHED, UNTOUCHED_ID};
+use super::blocks::{append, ROOM};
+use super::Stored;
+use crate::car::{beyond, bits, car, five, near, near_car, numbers, pick, road_motion, step, FAR, MOST};
+use crate::lent::{between, hash, hash_ids, roomy, stated, Lent, STATED, UNTOUCHED, UNTOUCHED_ID};
 use oracle::oracle::{probe, Run, Settled, Track, TrackPoint};
 use oracle::{Motion, Pose, Push};
 use reinfors_core::SplitMix64;
@@ -687,8 +681,7 @@ fn any_logs(r: &mut Replay, g: &mut SplitMix64) {
     }
 }
 
-fn main() {
-    let path = std::env::args().nth(1).expect("the path of the list to write");
+pub fn make() -> Stored {
     let mut r = Replay::default();
     let mut g = SplitMix64::new(17);
     laps(&mut r, &mut g);
@@ -707,7 +700,5 @@ fn main() {
     eprintln!("{} records, {} refused as a whole; the longest log has {} calls", r.records, r.whole, r.longest);
     eprintln!("lay accepted, refused by 2, by 3: {:?}; starts by cause {:?}", [r.lay[0], r.lay[2], r.lay[3]], r.start);
     eprintln!("calls with forces, settled, untouched: {:?}; refused by cause {:?}", r.answered, r.refused);
-    eprintln!("{} bytes", r.list.len());
-    save(&r.list, &path);
-    print!("{}", r.lines);
+    Stored::new(r.list, ROOM, r.lines)
 }

@@ -1,5 +1,4 @@
-//! Writes the list that crates/run_vectors replays (its file stdin, whose path is the first argument), and prints
-//! what it must answer. Run by `host/compare/write run`.
+//! The list that crates/run_vectors replays, and what it must answer.
 //!
 //! The list is 64-bit words, the low byte first: for each record a code and its arguments, floats by their bits.
 //! What an accepted call answers and leaves is the Rust's: the reference's `realize_from` for a start, its `step`
@@ -10,24 +9,15 @@
 //! In whole runs the Rust also goes its own way, from the start on, and must come to the same state at every tick.
 //!
 //! Random values come from the reference's SplitMix64 at a fixed seed, so the files come out the same each time.
-mod blocks;
-#[path = "../car.rs"]
-mod car;
-#[path = "../edges.rs"]
-mod edges;
-#[path = "../lent.rs"]
-mod lent;
-#[path = "../model.rs"]
-mod model;
-
-use blocks::{append, save};
-use car::{beyond, bits, car, five, near, near_car, numbers, pick, road_motion, step, FAR, MOST, P};
-use edges::{edge, edge_motion, edge_pose, wild};
-use lent::{between, hash};
-use model::{box_cells, Begin, Model, State, STATED};
+use super::blocks::{append, ROOM};
+use super::Stored;
+use crate::car::{beyond, bits, car, five, near_car, numbers, pick, road_motion, step, FAR, P};
+use crate::edges::{edge, edge_motion, edge_pose, wild};
+use crate::lent::{between, hash};
+use crate::model::{box_cells, Begin, Model, State, STATED};
 use oracle::oracle::{braked, default_weights, overlap, probe, reward, Run, Track, TrackPoint};
 use oracle::{Motion, Pose, Push};
-use reinfors_core::{Rng, SplitMix64};
+use reinfors_core::SplitMix64;
 use std::fmt::Write;
 use std::ops::{Deref, DerefMut};
 
@@ -62,6 +52,20 @@ struct Tally {
     offs: usize,
     all: usize,
     ticks: Vec<u32>,
+}
+
+impl Tally {
+    fn tell(&self) {
+        let names = [
+            "course", "tile", "offset", "id", "core", "credited", "wheels", "start", "drive", "settle", "sheet", "reward",
+            "overlap", "braked", "quad", "cells", "weights",
+        ];
+        let counts: Vec<String> = names.iter().zip(&self.records[1..]).map(|(name, count)| format!("{name} {count}")).collect();
+        eprintln!("{}", counts.join(", "));
+        eprintln!("refused, by cause from 0: start, drive, settle, sheet {:?}", self.refused);
+        eprintln!("settles that ended a run: by lap {}, off {}, all {}", self.laps, self.offs, self.all);
+        eprintln!("ticks of whole runs: {:?}", self.ticks);
+    }
 }
 
 /// The list and its answers as they grow; and the lent columns and the state, which stand from record to record.
@@ -974,46 +978,38 @@ fn quads(r: &mut Replay, g: &mut SplitMix64) {
     r.box_of([[f64::NAN, 0.0], [f64::NAN, 5.0], [f64::NAN, -5.0], [f64::NAN, 12.0]]);
 }
 
-fn main() {
-    let path = std::env::args().nth(1).expect("the path of the list to write");
-    let mut r = Replay::new();
-    let mut g = SplitMix64::new(13);
-    starts(&mut r, &mut g);
-    laid_runs(&mut r, &mut g);
-    given_runs(&mut r, &mut g);
-    wild_runs(&mut r, &mut g);
-    off_edges(&mut r, &mut g);
-    damaged_index(&mut r, &mut g);
-    tile_zero(&mut r, &mut g);
-    damaged_sets(&mut r, &mut g);
+/// All records, in the order of the list.
+fn records(r: &mut Replay, g: &mut SplitMix64) {
+    starts(r, g);
+    laid_runs(r, g);
+    given_runs(r, g);
+    wild_runs(r, g);
+    off_edges(r, g);
+    damaged_index(r, g);
+    tile_zero(r, g);
+    damaged_sets(r, g);
     let points = seed(801);
     let n = r.course(&points);
-    drive_refusals(&mut r, &mut g, n);
-    settle_refusals(&mut r, &mut g, n, &points);
-    start_refusals(&mut r, &mut g, n, &points);
-    input_ranges(&mut r, &mut g, n, &points);
-    edge_drives(&mut r, &mut g, n);
-    even_drives(&mut r, &mut g, n);
-    action_rows(&mut r, &mut g, n);
-    sheets(&mut r, &mut g);
-    rewards(&mut r, &mut g);
-    overlaps(&mut r, &mut g);
-    brakes(&mut r, &mut g);
-    quads(&mut r, &mut g);
+    drive_refusals(r, g, n);
+    settle_refusals(r, g, n, &points);
+    start_refusals(r, g, n, &points);
+    input_ranges(r, g, n, &points);
+    edge_drives(r, g, n);
+    even_drives(r, g, n);
+    action_rows(r, g, n);
+    sheets(r, g);
+    rewards(r, g);
+    overlaps(r, g);
+    brakes(r, g);
+    quads(r, g);
     // An unknown code ends a block: the record behind it has no answer.
     r.ask(0, []);
     r.list.extend([SHEET, SHEET].iter().flat_map(|w| w.to_le_bytes()));
-    let names = [
-        "", "course", "tile", "offset", "id", "core", "credited", "wheels", "start", "drive", "settle", "sheet",
-        "reward", "overlap", "braked", "quad", "cells", "weights",
-    ];
-    for (name, count) in names.iter().zip(r.tally.records).skip(1) {
-        eprint!("{name} {count}, ");
-    }
-    eprintln!("{} bytes", r.list.len());
-    eprintln!("refused, by cause from 0: start, drive, settle, sheet {:?}", r.tally.refused);
-    eprintln!("settles that ended a run: by lap {}, off {}, all {}", r.tally.laps, r.tally.offs, r.tally.all);
-    eprintln!("ticks of whole runs: {:?}", r.tally.ticks);
-    save(&r.list, &path);
-    print!("{}", r.lines);
+}
+
+pub fn make() -> Stored {
+    let mut r = Replay::new();
+    records(&mut r, &mut SplitMix64::new(13));
+    r.tally.tell();
+    Stored::new(r.list, ROOM, r.lines)
 }
