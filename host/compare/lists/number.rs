@@ -100,7 +100,11 @@ impl Record {
 
 /// 2^e, e from -1074 to 1023.
 fn power(e: i64) -> f64 {
-    if e < -1022 { f64::from_bits(1 << (e + 1074)) } else { f64::from_bits(((e + 1023) as u64) << 52) }
+    if e < -1022 {
+        f64::from_bits(1 << (e + 1074))
+    } else {
+        f64::from_bits(((e + 1023) as u64) << 52)
+    }
 }
 
 /// Zeros, subnormals, the least and the greatest normal numbers, infinities and NaNs.

@@ -301,15 +301,7 @@ fn same(r: &Replay, whole: &Run) {
 
 /// A whole run over the points by these places of it: a drive and a settle at each, until the run ends. Beside it
 /// goes the Rust alone.
-fn whole_run(
-    r: &mut Replay,
-    g: &mut SplitMix64,
-    points: &[TrackPoint],
-    b: &Begin,
-    noise: f64,
-    places: &[usize],
-    off: usize,
-) {
+fn whole_run(r: &mut Replay, g: &mut SplitMix64, points: &[TrackPoint], b: &Begin, noise: f64, places: &[usize], off: usize) {
     let n = points.len();
     let first = near_car(g, &points[0], noise);
     assert_eq!(r.start(b, &first), 0);
@@ -376,9 +368,7 @@ fn laid_runs(r: &mut Replay, g: &mut SplitMix64) {
 
 /// Given courses: one, two and three points, fifty, and the most.
 fn given_runs(r: &mut Replay, g: &mut SplitMix64) {
-    for (n, far, share) in
-        [(1, 0.0, 0.0), (1, 0.0, 1.0), (2, 60.0, 0.5), (3, 60.0, 0.9), (50, 3.0, 0.95), (2_500, 2.0, 0.9)]
-    {
+    for (n, far, share) in [(1, 0.0, 0.0), (1, 0.0, 1.0), (2, 60.0, 0.5), (3, 60.0, 0.9), (50, 3.0, 0.95), (2_500, 2.0, 0.9)] {
         let points = walk(g, n, far);
         let n = r.course(&points);
         for (limit, noise) in [(1_000_000, 0.0), (7, 4.0)] {
@@ -616,10 +606,8 @@ fn damaged_sets(r: &mut Replay, g: &mut SplitMix64) {
         }
         let count = pick(g, &[0, 1, n - 1, n, n / 2]);
         let size = pick(g, &[n, n, n, n + 1, 2_500, n - 1]);
-        let (tick, limit) =
-            pick(g, &[(0, 1), (9, 100), (u32::MAX - 1, u32::MAX), (5, 5), (0, 0), (999_999, 1_000_000)]);
-        let share =
-            pick(g, &[0.5, f64::NAN, -1.0, f64::INFINITY, f64::NEG_INFINITY, 0.0, f64::from(n - 1) / f64::from(n)]);
+        let (tick, limit) = pick(g, &[(0, 1), (9, 100), (u32::MAX - 1, u32::MAX), (5, 5), (0, 0), (999_999, 1_000_000)]);
+        let share = pick(g, &[0.5, f64::NAN, -1.0, f64::INFINITY, f64::NEG_INFINITY, 0.0, f64::from(n - 1) / f64::from(n)]);
         let (lap, driven) = (round % 8 == 3, round % 3 > 0);
         r.core(&State { n: size, count, tick, limit, share, lap, ended: false, driven, ..r.state.clone() });
         if !driven {
@@ -684,10 +672,9 @@ fn drive_refusals(r: &mut Replay, g: &mut SplitMix64, n: u32) {
 fn lengths(g: &mut SplitMix64, short: bool) -> [usize; 3] {
     let [t, o] = STATED;
     match short {
-        true => pick(
-            g,
-            &[[t - 1, o, LONG[2]], [t, o - 1, LONG[2]], [0, 0, 0], [0, o, LONG[2]], [t, 0, LONG[2]], [t - 1, o - 1, 0]],
-        ),
+        true => {
+            pick(g, &[[t - 1, o, LONG[2]], [t, o - 1, LONG[2]], [0, 0, 0], [0, o, LONG[2]], [t, 0, LONG[2]], [t - 1, o - 1, 0]])
+        }
         false => [t, o, LONG[2]],
     }
 }
@@ -699,13 +686,7 @@ fn spoil(g: &mut SplitMix64, poses: &mut [Pose; 4]) {
 }
 
 /// Poses near a point of the course, with cause 8 or 10 where the causes have it; the damaged offset as it was.
-fn poses_for(
-    r: &mut Replay,
-    g: &mut SplitMix64,
-    p: &TrackPoint,
-    causes: &[usize],
-    k: usize,
-) -> ([Pose; 4], usize, u32) {
+fn poses_for(r: &mut Replay, g: &mut SplitMix64, p: &TrackPoint, causes: &[usize], k: usize) -> ([Pose; 4], usize, u32) {
     let mut poses = near_car(g, p, 1.0);
     let cell = r.cells(&poses)[k % 4][k / 4 % 4];
     let keep = r.offsets[cell];
@@ -768,9 +749,7 @@ fn start_refusals(r: &mut Replay, g: &mut SplitMix64, n: u32, points: &[TrackPoi
 
 /// The ends of the input's range, place by place: the last float in, and the next one out.
 fn input_ranges(r: &mut Replay, g: &mut SplitMix64, n: u32, points: &[TrackPoint]) {
-    for (k, v) in
-        (0..20).flat_map(|k| [(k, FAR), (k, -FAR), (k, step(FAR, 1)), (k, -step(FAR, 1)), (k, f64::NAN), (k, -0.0)])
-    {
+    for (k, v) in (0..20).flat_map(|k| [(k, FAR), (k, -FAR), (k, step(FAR, 1)), (k, -step(FAR, 1)), (k, f64::NAN), (k, -0.0)]) {
         let s = state_for(r, g, n, &[], k % 2 == 1);
         r.core(&s);
         let mut m = [0; 4].map(|_| road_motion(g));
@@ -811,18 +790,7 @@ fn edge_drives(r: &mut Replay, g: &mut SplitMix64, n: u32) {
                 }
             }
         }
-        r.core(&State {
-            n,
-            count: 0,
-            tick: 0,
-            limit: 1,
-            lap: false,
-            ended: false,
-            driven: false,
-            ctl,
-            fuel,
-            ..r.state.clone()
-        });
+        r.core(&State { n, count: 0, tick: 0, limit: 1, lap: false, ended: false, driven: false, ctl, fuel, ..r.state.clone() });
         let m = [0; 4].map(|_| if k % 3 == 0 { road_motion(g) } else { edge_motion(g) });
         assert_eq!(r.drive(k % 5, &m).0, 0);
     }
@@ -831,8 +799,7 @@ fn edge_drives(r: &mut Replay, g: &mut SplitMix64, n: u32) {
 /// Drives from states whose floats are all one; and with forces about the limit, on the road and beside it.
 fn even_drives(r: &mut Replay, g: &mut SplitMix64, n: u32) {
     let base = State { n, limit: 1, ..State::zero() };
-    let values =
-        [0.0, -0.0, 5e-324, -5e-324, 0.1, 0.9, 12.0, -12.0, FAR, f64::MAX, f64::INFINITY, f64::NEG_INFINITY, f64::NAN];
+    let values = [0.0, -0.0, 5e-324, -5e-324, 0.1, 0.9, 12.0, -12.0, FAR, f64::MAX, f64::INFINITY, f64::NEG_INFINITY, f64::NAN];
     for (i, v) in values.into_iter().enumerate() {
         for k in 0..3 {
             r.core(&State { ctl: [[v; 5]; 4], fuel: v, ..base.clone() });
@@ -841,9 +808,7 @@ fn even_drives(r: &mut Replay, g: &mut SplitMix64, n: u32) {
     }
     for (limit, word) in [(400.0, 1), (240.0, 0)] {
         r.wheels(0, 160, word);
-        for d in
-            [[-3, -2, -1, 0], [1, 2, 3, 4], [-1000, 1000, 100_000, -100_000], [1_000_000, 10_000_000, 1 << 30, 1 << 31]]
-        {
+        for d in [[-3, -2, -1, 0], [1, 2, 3, 4], [-1000, 1000, 100_000, -100_000], [1_000_000, 10_000_000, 1 << 30, 1 << 31]] {
             // The factor of a tyre's forces is 205000 * 0.02 * 0.02.
             let side = d.map(|d| Motion { cos: 1.0, vx: step(limit / 82.0, d), ..Motion::default() });
             let ahead = d.map(|d| Motion { cos: 1.0, vy: -step(limit / 82.0, d), ..Motion::default() });
@@ -926,21 +891,8 @@ fn overlaps(r: &mut Replay, g: &mut SplitMix64) {
 }
 
 fn brakes(r: &mut Replay, g: &mut SplitMix64) {
-    let brakes = [
-        f64::NAN,
-        -1.0,
-        -0.0,
-        0.0,
-        5e-324,
-        0.1,
-        0.8,
-        step(0.9, -1),
-        0.9,
-        step(0.9, 1),
-        1.0,
-        f64::INFINITY,
-        f64::NEG_INFINITY,
-    ];
+    let brakes =
+        [f64::NAN, -1.0, -0.0, 0.0, 5e-324, 0.1, 0.8, step(0.9, -1), 0.9, step(0.9, 1), 1.0, f64::INFINITY, f64::NEG_INFINITY];
     for brake in brakes {
         for omega in [
             f64::NAN,
