@@ -1,6 +1,6 @@
 //! The state of a run and its calls. What an accepted call answers and leaves is the Rust's, over lent columns as they stand,
 //! damaged or not; which call is refused by what number, turns and the tick limit are written out here from document 01
-//! ("Refusals by cause").
+//! ("Refusals by cause"). Beside it the causes of given points.
 use crate::car::{bits, five, near, numbers, MOST};
 use crate::lent::{hash, put};
 use oracle::oracle::{probe, Run, Settled, Tile, Track, TrackPoint};
@@ -78,6 +78,25 @@ impl State {
     pub fn take_controls(&mut self, run: &Run) {
         self.ctl = [0, 1, 2, 3].map(|i| run.ctl(i));
         self.fuel = run.fuel();
+    }
+}
+
+/// A given point that is not refused.
+fn good(p: &TrackPoint) -> bool {
+    (-16.0..=16.0).contains(&p.beta) && (-1000.0..=1000.0).contains(&p.x) && (-1000.0..=1000.0).contains(&p.y)
+}
+
+/// The first of the causes 9, 2 and 8 of a call that asks for `count` of the given points, where the lent columns have room or
+/// not; else 0.
+pub fn given_cause(points: &[TrackPoint], count: u32, room: bool) -> usize {
+    if count == 0 || count > MOST {
+        9
+    } else if !room || points.len() < count as usize {
+        2
+    } else if !points[..count as usize].iter().all(good) {
+        8
+    } else {
+        0
     }
 }
 

@@ -1,7 +1,8 @@
-//! Courses of given points, and curbs: the answer and every lent column, whole. Causes are written out here from document 01.
+//! Courses of given points, and curbs: the answer and every lent column, whole. Causes are the model's (model.rs).
 use crate::car::{pick, step};
 use crate::courses::{laid, same_floats, same_lent, LONG};
 use crate::lent::{between, put, roomy, Lent, STATED};
+use crate::model::given_cause;
 use crate::port;
 use crate::tally::{Tally, Unit};
 use oracle::oracle::{probe, TrackPoint};
@@ -55,25 +56,8 @@ pub fn made_up(g: &mut SplitMix64, number: u64) -> Vec<TrackPoint> {
     (0..n).map(point).collect()
 }
 
-fn good(p: &TrackPoint) -> bool {
-    (-16.0..=16.0).contains(&p.beta) && (-1000.0..=1000.0).contains(&p.x) && (-1000.0..=1000.0).contains(&p.y)
-}
-
 fn columns(points: &[TrackPoint]) -> [Vec<f64>; 3] {
     [points.iter().map(|p| p.beta).collect(), points.iter().map(|p| p.x).collect(), points.iter().map(|p| p.y).collect()]
-}
-
-/// The first of the causes 9, 2 and 8 of given points, else 0.
-fn given_cause(points: &[TrackPoint], count: u32, given: usize, room: bool) -> u32 {
-    if count == 0 || count > 2_500 {
-        9
-    } else if !room || given < count as usize {
-        2
-    } else if !points[..count as usize].iter().all(good) {
-        8
-    } else {
-        0
-    }
 }
 
 /// A number of a point, of any of its columns, and the greatest that is accepted there.
@@ -112,17 +96,18 @@ pub fn points(t: &mut Tally, g: &mut SplitMix64, unit: Unit) {
         _ => points.len() as u32,
     };
     let [b, x, y] = columns(&points);
-    let fine = given_cause(&points, count, points.len(), true) == 0;
-    if fine {
+    if given_cause(&points, count, true) == 0 {
         let track = probe::given(points.clone(), false);
-        laid(t, g, unit, "points", &track, format!("{} points", points.len()), |lent, long| port::points([&b, &x, &y], count, lent, long));
+        laid(t, g, unit, "points", &track, format!("{} points", points.len()), |lent, long| {
+            port::points([&b, &x, &y], count, lent, long)
+        });
     } else {
         let mut long = LONG;
         if g.next_u64() % 4 == 0 {
             long[g.next_u64() as usize % 6] = 100;
         }
         let mut lent = Lent::untouched(&LONG);
-        let cause = given_cause(&points, count, points.len(), roomy(&long, &STATED));
+        let cause = given_cause(&points, count, roomy(&long, &STATED)) as u32;
         let answer = port::points([&b, &x, &y], count, &mut lent, &long);
         let same = answer.cause == cause && same_lent(&lent, &Lent::untouched(&LONG));
         t.check("points, refused", same, unit, points.len(), || format!("count {count}, lent {long:?}: {answer:?}, not {cause}"));
@@ -138,7 +123,7 @@ pub fn curbs(t: &mut Tally, g: &mut SplitMix64, unit: Unit, points: &[TrackPoint
     let count = if g.next_u64() % 32 == 0 { points.len() as u32 + 1 } else { points.len() as u32 };
     let (mut quads, mut white) = (vec![1e7; quads_long], vec![7u8; white_long]);
     let (mut left_quads, mut left_white) = (quads.clone(), white.clone());
-    let cause = given_cause(points, count, points.len(), quads_long >= 20_000 && white_long >= 2_500);
+    let cause = given_cause(points, count, quads_long >= 20_000 && white_long >= 2_500) as u32;
     let mut found = 0;
     if cause == 0 {
         let curbs = probe::curbs(points);
@@ -148,5 +133,7 @@ pub fn curbs(t: &mut Tally, g: &mut SplitMix64, unit: Unit, points: &[TrackPoint
     }
     let answer = port::curbs([&b, &x, &y], count, &mut quads, &mut white);
     let same = (answer.cause, answer.count) == (cause, found) && same_floats(&quads, &left_quads) && white == left_white;
-    t.check("curbs", same, unit, points.len(), || format!("{} points, count {count}: {answer:?}, not {cause} {found}", points.len()));
+    t.check("curbs", same, unit, points.len(), || {
+        format!("{} points, count {count}: {answer:?}, not {cause} {found}", points.len())
+    });
 }

@@ -3,12 +3,13 @@
 //! The list is 64-bit words, the low byte first: for each record a code and its arguments, floats by their bits.
 //! Courses, index lists and curbs are the Rust's: `from_points`, `border_quads` and `candidate_tiles` of the
 //! reference's track.rs. The Rust refuses nothing and lends nothing; which call is refused by what number, what
-//! stands in a lent column around the Rust's numbers, and what a damaged index answers, is written out here from
-//! document 01 ("Lent", "Refusals by cause", "Tiles and index"). After each call the answer holds a hash of every
-//! whole column, so a number written where none belongs shows.
+//! stands in a lent column around the Rust's numbers, and what a damaged index answers, is written out in ../model.rs,
+//! ../lent.rs and here from document 01 ("Lent", "Refusals by cause", "Tiles and index"). After each call the answer
+//! holds a hash of every whole column, so a number written where none belongs shows.
 use super::Stored;
 use crate::car::step;
 use crate::lent::{between, hash, hash_floats, hash_ids, put, roomy, stated, Lent, STATED, UNTOUCHED};
+use crate::model::given_cause;
 use oracle::oracle::{probe, Track, TrackPoint};
 use reinfors_core::SplitMix64;
 use std::fmt::Write;
@@ -32,9 +33,6 @@ const STATED_CURBS: [usize; 2] = [20_000, 2_500];
 
 /// What stands in each place of the lent marks before a call.
 const UNTOUCHED_MARK: u8 = 7;
-
-/// The most given points.
-const MOST: usize = 2_500;
 
 /// Above how steep a turn a curb may stand: `border_quads`'s expression.
 const STEEP: f64 = 0.31 * 0.2;
@@ -101,24 +99,12 @@ impl Replay {
     fn point(&self, i: usize) -> TrackPoint {
         TrackPoint { beta: self.given[0][i], x: self.given[1][i], y: self.given[2][i] }
     }
-    fn taken(&self, count: u32) -> Vec<TrackPoint> {
-        (0..count as usize).map(|i| self.point(i)).collect()
+    fn taken(&self, count: usize) -> Vec<TrackPoint> {
+        (0..count).map(|i| self.point(i)).collect()
     }
-    /// The first of the causes 9, 2 and 8 that holds, else 0.
-    fn cause(&self, count: u32, given: [usize; 3], room: bool) -> usize {
-        let n = count as usize;
-        let good = |p: &TrackPoint| {
-            (-16.0..=16.0).contains(&p.beta) && (-1000.0..=1000.0).contains(&p.x) && (-1000.0..=1000.0).contains(&p.y)
-        };
-        if n == 0 || n > MOST {
-            9
-        } else if !room || given.iter().any(|&l| l < n) {
-            2
-        } else if !self.taken(count).iter().all(good) {
-            8
-        } else {
-            0
-        }
+    /// The first of the causes 9, 2 and 8 that holds, else 0. A point is given where it stands in all three columns.
+    fn cause(&self, count: u32, [beta, x, y]: [usize; 3], room: bool) -> usize {
+        given_cause(&self.taken(beta.min(x).min(y)), count, room)
     }
 
     fn points(&mut self, count: u32, given: [usize; 3], lent: [usize; 7]) {
@@ -131,7 +117,7 @@ impl Replay {
         if cause > 0 {
             self.refuse(0, cause);
         } else {
-            let track = probe::given(self.taken(count), false);
+            let track = probe::given(self.taken(count as usize), false);
             match self.lent.write(&track, lent[6]) {
                 Ok(lines) => {
                     self.lines += &lines;
@@ -155,7 +141,7 @@ impl Replay {
         if cause > 0 {
             self.refuse(1, cause);
         } else {
-            let curbs = probe::curbs(&self.taken(count));
+            let curbs = probe::curbs(&self.taken(count as usize));
             put(&mut quads, curbs.iter().flat_map(|c| c.quad.into_iter().flatten()), STATED_CURBS[0]);
             put(&mut white, curbs.iter().map(|c| c.white.into()), STATED_CURBS[1]);
             self.whole(curbs.len());

@@ -4,9 +4,10 @@
 //! What an accepted call answers and leaves is the Rust's: the reference's `realize_from` for a start, its `step`
 //! for a drive and for a settle, over the lent tiles and index as they stand, damaged or not; its `step_reward`,
 //! `quad_overlap` and `wheel_quad`. The Rust refuses nothing, takes no turns and has no tick limit: which call is
-//! refused by what number, what state it leaves, and the sheet, is written out here from document 01 ("Refusals by
-//! cause", "Beside the run"). The braking rule alone is the Rust's lines too, and held to what the Rust's phase shows of it.
-//! In whole runs the Rust also goes its own way, from the start on, and must come to the same state at every tick.
+//! refused by what number, what state it leaves, and the sheet, is written out in ../model.rs and here from document 01
+//! ("Refusals by cause", "Beside the run"). The braking rule alone is the Rust's lines too, and held to what the Rust's
+//! phase shows of it. In whole runs the Rust also goes its own way, from the start on, and must come to the same state at
+//! every tick.
 //!
 //! Random values come from the reference's SplitMix64 at a fixed seed, so the files come out the same each time.
 use super::blocks::{append, ROOM};
