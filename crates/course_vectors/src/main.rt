@@ -1,8 +1,8 @@
 // Replays a stored list over the crate course: a course from given points, its curbs, and the look-up in its
 // index.
 //
-// The list is ../stdin and the answers are ../stdout. Both are made by `host/vectors/make course`, whose program
-// host/vectors/course.rs takes the answers from the Rust and, where the Rust has none, from document 01. A record
+// The list is ../stdin and the answers are ../stdout. Both are made by `host/compare/write course`, whose module
+// host/compare/lists/course.rs takes the answers from the Rust and, where the Rust has none, from document 01. A record
 // of the list is a code and its arguments, a word each. An unknown code ends the run. The given columns and the
 // last index stand from record to record.
 ghost use Prim.Native.Nat.{_≤_};

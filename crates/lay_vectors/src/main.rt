@@ -1,10 +1,10 @@
 // Replays a stored list over the crate course: the course of a seed, of a seed with so many attempts, and of one attempt
 // with given checkpoints.
 //
-// The list is ../stdin and the answers are ../stdout. Both are made by `host/vectors/make lay`, whose program
-// host/vectors/lay.rs takes the courses from the Rust and, where the Rust has none, the answers from document 01. A record
-// of the list is a code, the lengths of the seven lent columns, and the call's own arguments, a word each. An unknown code
-// ends the run.
+// The list is ../stdin and the answers are ../stdout. Both are made by `host/compare/write lay`, whose module
+// host/compare/lists/lay.rs takes the courses from the Rust and, where the Rust has none, the answers from document 01. A
+// record of the list is a code, the lengths of the seven lent columns, and the call's own arguments, a word each. An
+// unknown code ends the run.
 ghost use Prim.Native.Nat.{_≤_};
 use course::checkpoints::Checkpoint;
 use course::lay;

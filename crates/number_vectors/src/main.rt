@@ -2,7 +2,7 @@
 // root, the cell of a coordinate, and Rust's methods on f64.
 //
 // The list is ../stdin and the answers, a line each, are ../stdout. Both are made by
-// `host/vectors/make number`, whose program host/vectors/number.rs takes the answers from the Rust: the
+// `host/compare/write number`, whose module host/compare/lists/number.rs takes the answers from the Rust: the
 // oracle's stand-ins and `cell_of`, and Rust's own f64. A record of the list is its operation's code and
 // the bits of its arguments, a word each. An unknown code ends the run.
 ghost use Prim.Native.Nat.{_≤_};

@@ -1,10 +1,10 @@
 // Replays stored logs of whole runs over the crate run: a seed's course, a start on it and a list of drives and settles,
 // in one call.
 //
-// The list is ../stdin and the answers are ../stdout. Both are made by `host/vectors/make replay`, whose program
-// host/vectors/replay.rs takes the answers from the Rust and, where the Rust has none, from document 01. A record of the
-// list is a whole log, laid out as in read.rt. The list comes in blocks of a fixed length; an unknown code ends a block, as
-// the zeros do that fill one up.
+// The list is ../stdin and the answers are ../stdout. Both are made by `host/compare/write replay`, whose module
+// host/compare/lists/replay.rs takes the answers from the Rust and, where the Rust has none, from document 01. A record of
+// the list is a whole log, laid out as in read.rt. The list comes in blocks of a fixed length; an unknown code ends a
+// block, as the zeros do that fill one up.
 //
 // For each record come the answers of lay and start, a line for each call that stands in it, answered or not, and the
 // sheet; then a hash of every lent column, whole, so that a number written where none belongs shows.

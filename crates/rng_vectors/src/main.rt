@@ -1,5 +1,5 @@
 // Replays SplitMix64: the published draws of the seeds 1234567 and 0, and units of four courses' seeds as
-// bit patterns. The expected lines stand in ../stdout; host/vectors/rng.rs makes them from the Rust.
+// bit patterns. The expected lines stand in ../stdout; `host/compare/write rng` makes them from the Rust.
 use rng::SplitMix64;
 
 fn line(n: u64) {

@@ -1,8 +1,8 @@
 // Replays a stored list over the crate run: start, drive, settle, sheet and reward on courses from given points,
 // and the rules for quads and brakes alone.
 //
-// The list is ../stdin and the answers are ../stdout. Both are made by `host/vectors/make run`, whose program
-// host/vectors/run.rs takes the answers from the Rust and, where the Rust has none, from document 01. A record
+// The list is ../stdin and the answers are ../stdout. Both are made by `host/compare/write run`, whose module
+// host/compare/lists/run.rs takes the answers from the Rust and, where the Rust has none, from document 01. A record
 // of the list is a code and its arguments, a word each. The list comes in blocks of a fixed length; an unknown code
 // ends a block, as the zeros do that fill one up. The course's tiles, offsets and index list, and the state of the
 // run, stand from record to record.

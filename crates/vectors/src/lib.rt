@@ -1,7 +1,7 @@
 // What the test programs share: reading a stored list from standard input, lent columns, and printing answers.
 //
 // A program NAME_vectors replays the list crates/NAME_vectors/stdin and prints a line for each answer.
-// The expected lines stand in its stdout. Both files are made from the Rust by host/vectors/make NAME.
+// The expected lines stand in its stdout. Both files are made from the Rust by host/compare/write NAME.
 // A list is 64-bit words, the low byte first; a float stands there by its bits.
 //
 // A lent column is a part of a longer one, which holds numbers before the call that no call writes: its hash
