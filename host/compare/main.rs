@@ -86,7 +86,7 @@ fn check(s: &Settings, flags: &[String]) {
     let writing = s.write.is_some();
     match flags.iter().find(|&flag| (flag == "--write" || flag == "--to") != writing) {
         Some(flag) if writing => wrong(&format!("{flag} does not go with --write")),
-        Some(_) => wrong("--to goes with --write alone"),
+        Some(_) => wrong("--to goes with --write"),
         None if writing && !s.to.is_dir() => wrong(&format!("no folder {:?} to write to", s.to)),
         None => {}
     }
