@@ -21,12 +21,19 @@ fn root(x: f64) -> f64 {
 pub fn numbers(rounds: Rounds) {
     head("Numbers", &BESIDE);
     let xs = roots();
-    let sum = |f: fn(f64) -> f64| xs.iter().map(|&x| f(black_box(x))).sum::<f64>();
+    // each root to a place of its own: a sum would go from call to call through memory, and be what is timed
+    let each_alone = |f: fn(f64) -> f64| {
+        let mut out = [0.0; 1_024];
+        out.iter_mut().zip(&xs).for_each(|(r, &x)| *r = f(x));
+        out
+    };
     let chain = |f: fn(f64) -> f64| xs.iter().fold(0.0, |s, &x| f(s + x));
-    same("sqrt", (sum(root).to_bits(), chain(root).to_bits()), (sum(port::sqrt).to_bits(), chain(port::sqrt).to_bits()));
-    let ten = |f: &dyn Fn() -> f64| each(10 * xs.len(), || (0..10).for_each(|_| drop(black_box(f()))));
-    versus("square root, independent", rounds, || ten(&|| sum(root)), || ten(&|| sum(port::sqrt)));
-    versus("square root, each of the one before", rounds, || ten(&|| chain(root)), || ten(&|| chain(port::sqrt)));
+    same("sqrt", (each_alone(root).map(f64::to_bits), chain(root).to_bits()), (each_alone(port::sqrt).map(f64::to_bits), chain(port::sqrt).to_bits()));
+    let ten = |f: &dyn Fn()| each(10 * xs.len(), || (0..10).for_each(|_| f()));
+    let alone = |f| ten(&|| drop(black_box(&each_alone(f))));
+    versus("square root, independent", rounds, || alone(root), || alone(port::sqrt));
+    let chained = |f| ten(&|| drop(black_box(chain(f))));
+    versus("square root, each of the one before", rounds, || chained(root), || chained(port::sqrt));
     overlaps(rounds);
 }
 
