@@ -17,18 +17,21 @@ use Rattle.run.specs.declared.state.Core.{Core}
 use Rattle.run.specs.declared.state.Run.{Run}
 use Rattle.run.specs.declared.dynamics.Force.{Force}
 use Rattle.run.specs.declared.start.StartAnswer.{StartAnswer}
+use Rattle.run.specs.declared.drive.Drove.{Drove}
 use Rattle.run.specs.declared.drive.CoreDrove.{CoreDrove}
 use Rattle.run.specs.declared.settle.SettleAnswer.{SettleAnswer}
 use Rattle.run.specs.declared.sheet.SheetAnswer.{SheetAnswer}
 use Rattle.run.specs.Drive.{driveCauseOf}
-use Rattle.abi.specs.Flat.{flatLaid, flatCurbs, runOf, flatBegun, flatStarted, flatDriven, flatSettle, flatSettled, flatSheet, flatAnswers, flatReplayed, replayColumns, columnsAfter}
+use Rattle.abi.specs.Flat.{flatLaid, flatCurbs, runOf, flatBegun, flatStarted, flatDriven, flatCoreDriven, flatSettle, flatSettled, flatCoreSettled, flatSheet, flatAnswers, flatReplayed, replayColumns, columnsAfter}
 use Rattle.abi.specs.declared.flat.FlatLaid.{FlatLaid}
 use Rattle.abi.specs.declared.flat.FlatCurbs.{FlatCurbs}
 use Rattle.abi.specs.declared.flat.FlatBegun.{FlatBegun}
 use Rattle.abi.specs.declared.flat.FlatStarted.{FlatStarted}
 use Rattle.abi.specs.declared.flat.FlatDriven.{FlatDriven}
+use Rattle.abi.specs.declared.flat.FlatCoreDriven.{FlatCoreDriven}
 use Rattle.abi.specs.declared.flat.FlatSettle.{FlatSettle}
 use Rattle.abi.specs.declared.flat.FlatSettled.{FlatSettled}
+use Rattle.abi.specs.declared.flat.FlatCoreSettled.{FlatCoreSettled}
 use Rattle.abi.specs.declared.flat.FlatSheet.{FlatSheet}
 use Rattle.abi.specs.declared.flat.FlatReplayed.{FlatReplayed}
 
@@ -60,25 +63,47 @@ started-flat a r = refl
 pub started-whole : (f : FlatBegun) (a : StartAnswer) (r : Run) (b : Begun) → f ≡ flatBegun a → begun a (view r) ≡ b → startedFrom f r ≡ flatStarted b
 started-whole f a r b e p = ap (λ (g : FlatBegun). startedFrom g r) e ∙ started-flat a r ∙ ap flatStarted p
 
-abbrev drivenFrom : ℕ → List Force → Core → FlatDriven
-drivenFrom k fs s = record { cause = k; forces = fs; core = s }
+abbrev drivenFrom : ℕ → List Force → Run → FlatDriven
+drivenFrom k fs r = record { cause = k; forces = fs; run = r }
 
-driven-flat : (d : CoreDrove) → drivenFrom (driveCauseOf (d .answer)) (d .forces) (d .core) ≡ flatDriven d
+driven-flat : (d : Drove) → drivenFrom (driveCauseOf (d .answer)) (d .forces) (d .run) ≡ flatDriven d
 unfolding flatDriven
 driven-flat d = refl
 
-pub driven-whole : (k : ℕ) (d e : CoreDrove) → k ≡ driveCauseOf (d .answer) → d ≡ e → drivenFrom k (d .forces) (d .core) ≡ flatDriven e
-driven-whole k d e q p = ap (λ (j : ℕ). drivenFrom j (d .forces) (d .core)) q ∙ driven-flat d ∙ ap flatDriven p
+pub driven-whole : (k : ℕ) (d e : Drove) → k ≡ driveCauseOf (d .answer) → d ≡ e → drivenFrom k (d .forces) (d .run) ≡ flatDriven e
+driven-whole k d e q p = ap (λ (j : ℕ). drivenFrom j (d .forces) (d .run)) q ∙ driven-flat d ∙ ap flatDriven p
 
-abbrev settledFrom : FlatSettle → Core → FlatSettled
-settledFrom f s = record { cause = f .cause; «new_tiles» = f .«new_tiles»; n = f .n; off = f .off; lap = f .lap; ended = f .ended; core = s }
+abbrev settledFrom : FlatSettle → Run → FlatSettled
+settledFrom f r = record { cause = f .cause; «new_tiles» = f .«new_tiles»; n = f .n; off = f .off; lap = f .lap; ended = f .ended; run = r }
 
-settled-flat : (a : SettleAnswer) (s : State) → settledFrom (flatSettle a) (s .core) ≡ flatSettled (done a s)
-unfolding flatSettle flatSettled
-settled-flat a s = refl
+settled-flat : (a : SettleAnswer) (r : Run) → settledFrom (flatSettle a) r ≡ flatSettled (done a (view r))
+unfolding flatSettle flatSettled runOf view
+settled-flat a r = refl
 
-pub settled-whole : (f : FlatSettle) (a : SettleAnswer) (s : State) (d : Done) → f ≡ flatSettle a → done a s ≡ d → (settledFrom f (s .core) ≡ flatSettled d) × (s ≡ d .state)
-settled-whole f a s d e p = (ap (λ (g : FlatSettle). settledFrom g (s .core)) e ∙ settled-flat a s ∙ ap flatSettled p, ap (λ (z : Done). z .state) p)
+pub settled-whole : (f : FlatSettle) (a : SettleAnswer) (r : Run) (d : Done) → f ≡ flatSettle a → done a (view r) ≡ d → settledFrom f r ≡ flatSettled d
+settled-whole f a r d e p = ap (λ (g : FlatSettle). settledFrom g r) e ∙ settled-flat a r ∙ ap flatSettled p
+
+-- ---- the run where its sets are lent
+
+abbrev coreDrivenFrom : ℕ → List Force → Core → FlatCoreDriven
+coreDrivenFrom k fs s = record { cause = k; forces = fs; core = s }
+
+core-driven-flat : (d : CoreDrove) → coreDrivenFrom (driveCauseOf (d .answer)) (d .forces) (d .core) ≡ flatCoreDriven d
+unfolding flatCoreDriven
+core-driven-flat d = refl
+
+pub core-driven-whole : (k : ℕ) (d e : CoreDrove) → k ≡ driveCauseOf (d .answer) → d ≡ e → coreDrivenFrom k (d .forces) (d .core) ≡ flatCoreDriven e
+core-driven-whole k d e q p = ap (λ (j : ℕ). coreDrivenFrom j (d .forces) (d .core)) q ∙ core-driven-flat d ∙ ap flatCoreDriven p
+
+abbrev coreSettledFrom : FlatSettle → Core → FlatCoreSettled
+coreSettledFrom f s = record { cause = f .cause; «new_tiles» = f .«new_tiles»; n = f .n; off = f .off; lap = f .lap; ended = f .ended; core = s }
+
+core-settled-flat : (a : SettleAnswer) (s : State) → coreSettledFrom (flatSettle a) (s .core) ≡ flatCoreSettled (done a s)
+unfolding flatSettle flatCoreSettled
+core-settled-flat a s = refl
+
+pub core-settled-whole : (f : FlatSettle) (a : SettleAnswer) (s : State) (d : Done) → f ≡ flatSettle a → done a s ≡ d → (coreSettledFrom f (s .core) ≡ flatCoreSettled d) × (s ≡ d .state)
+core-settled-whole f a s d e p = (ap (λ (g : FlatSettle). coreSettledFrom g (s .core)) e ∙ core-settled-flat a s ∙ ap flatCoreSettled p, ap (λ (z : Done). z .state) p)
 
 -- ---- a whole replay
 

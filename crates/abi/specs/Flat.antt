@@ -19,6 +19,7 @@ use Rattle.run.specs.Sheet.{sheetCauseOf, sheetFiguresOf}
 use Rattle.run.specs.Batch.{Replay}
 use Rattle.run.specs.declared.state.Run.{Run}
 use Rattle.run.specs.declared.start.StartAnswer.{StartAnswer}
+use Rattle.run.specs.declared.drive.Drove.{Drove}
 use Rattle.run.specs.declared.drive.CoreDrove.{CoreDrove}
 use Rattle.run.specs.declared.settle.SettleAnswer.{SettleAnswer}
 use Rattle.run.specs.declared.sheet.SheetAnswer.{SheetAnswer}
@@ -27,7 +28,9 @@ use Rattle.abi.specs.declared.flat.FlatCurbs.{FlatCurbs}
 use Rattle.abi.specs.declared.flat.FlatStarted.{FlatStarted}
 use Rattle.abi.specs.declared.flat.FlatBegun.{FlatBegun}
 use Rattle.abi.specs.declared.flat.FlatDriven.{FlatDriven}
+use Rattle.abi.specs.declared.flat.FlatCoreDriven.{FlatCoreDriven}
 use Rattle.abi.specs.declared.flat.FlatSettled.{FlatSettled}
+use Rattle.abi.specs.declared.flat.FlatCoreSettled.{FlatCoreSettled}
 use Rattle.abi.specs.declared.flat.FlatSettle.{FlatSettle}
 use Rattle.abi.specs.declared.flat.FlatSheet.{FlatSheet}
 use Rattle.abi.specs.declared.flat.FlatAngle.{FlatAngle}
@@ -102,9 +105,12 @@ flatBegun a = record { cause = startCauseOf a; count = startCountOf a; lap = sta
 unfoldable pub flatStarted : Begun → FlatStarted
 flatStarted b = record { cause = startCauseOf (b .answer); count = startCountOf (b .answer); lap = startLapOf (b .answer); run = runOf (b .state) }
 
--- the sets of a drive and of a settle are lent: what is passed back is the state but for them
-unfoldable pub flatDriven : CoreDrove → FlatDriven
-flatDriven d = record { cause = driveCauseOf (d .answer); forces = d .forces; core = d .core }
+unfoldable pub flatDriven : Drove → FlatDriven
+flatDriven d = record { cause = driveCauseOf (d .answer); forces = d .forces; run = d .run }
+
+-- where the sets are lent, what is passed back is the state but for them
+unfoldable pub flatCoreDriven : CoreDrove → FlatCoreDriven
+flatCoreDriven d = record { cause = driveCauseOf (d .answer); forces = d .forces; core = d .core }
 
 unfoldable pub flatSettle : SettleAnswer → FlatSettle
 flatSettle a =
@@ -119,6 +125,18 @@ flatSettle a =
 
 unfoldable pub flatSettled : Done → FlatSettled
 flatSettled d =
+    record {
+      cause = settleCauseOf (d .answer);
+      «new_tiles» = settleNewOf (d .answer);
+      n = settleCountOf (d .answer);
+      off = settleOffOf (d .answer);
+      lap = settleLapOf (d .answer);
+      ended = settleEndedOf (d .answer);
+      run = runOf (d .state);
+    }
+
+unfoldable pub flatCoreSettled : Done → FlatCoreSettled
+flatCoreSettled d =
     record {
       cause = settleCauseOf (d .answer);
       «new_tiles» = settleNewOf (d .answer);

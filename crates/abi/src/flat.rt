@@ -45,17 +45,37 @@ pub struct FlatStarted {
     pub run: Run,
 }
 
-// What drive answers, and the state after but for the sets, which it leaves.
+// What drive answers, and the state after.
 #[repr(C)]
 pub struct FlatDriven {
+    pub cause: u32,
+    pub forces: [Force; 4],
+    pub run: Run,
+}
+
+// The same but for the state's sets, where they are lent.
+#[repr(C)]
+pub struct FlatCoreDriven {
     pub cause: u32,
     pub forces: [Force; 4],
     pub core: Core,
 }
 
-// What settle answers, and the state after but for the sets, which it changes where they stand.
+// What settle answers, and the state after.
 #[repr(C)]
 pub struct FlatSettled {
+    pub cause: u32,
+    pub new_tiles: u32,
+    pub n: u32,
+    pub off: bool,
+    pub lap: bool,
+    pub ended: bool,
+    pub run: Run,
+}
+
+// The same but for the state's sets, where they are lent.
+#[repr(C)]
+pub struct FlatCoreSettled {
     pub cause: u32,
     pub new_tiles: u32,
     pub n: u32,

@@ -2,10 +2,10 @@
 ghost use mathlib.Core.Path.{_≡_};
 ghost use Rattle.course.specs.Lent.{lent};
 ghost use Rattle.run.specs.Widths.{fullWords, mostTiles};
-ghost use Rattle.run.specs.State.{stateOf, columns};
+ghost use Rattle.run.specs.State.{view, columns};
 ghost use Rattle.run.specs.Start.{startOf};
-ghost use Rattle.run.specs.Drive.{driveSetsOf};
-ghost use Rattle.run.specs.Settle.{settleSetsOf};
+ghost use Rattle.run.specs.Drive.{driveOf};
+ghost use Rattle.run.specs.Settle.{settleOf};
 ghost use Rattle.run.specs.Sheet.{sheetOf};
 ghost use Rattle.run.specs.Reward.{rewardOf};
 ghost use Rattle.run.specs.Batch.{replayOf};
@@ -25,7 +25,6 @@ use run::reward::Weights;
 use run::settle;
 use run::sheet;
 use run::start;
-use run::state::Core;
 use run::state::Run;
 
 // The figures of a run, ended or not.
@@ -71,36 +70,27 @@ pub extern "C" fn grader_start(
     }
 }
 
-// Forces for the host, and the state but for its sets, which a drive only reads; no forces, and the state as it was, where it
-// is refused.
+// Forces for the host; none, and the state as it was, where it is refused.
 #[no_mangle]
-pub extern "C" fn grader_drive(
-    core: Core,
-    wheels: &[u64],
-    action: u32,
-    motions: Motions,
-) -> FlatDriven
-    ensures { λ r. ⌜ r ≡ flatDriven (driveSetsOf fullWords mostTiles core (now (wheels .entry)) action (motions .wheels)) ⌝ }
+pub extern "C" fn grader_drive(run: Run, action: u32, motions: Motions) -> FlatDriven
+    ensures { λ r. ⌜ r ≡ flatDriven (driveOf fullWords mostTiles run action (motions .wheels)) ⌝ }
 {
     let given = motions.wheels;
-    let d = drive::drive_in_place(core, wheels, action, given);
+    let d = drive::drive(run, action, given);
     let answer = d.answer;
     let forces = d.forces;
-    let next = d.core;
+    let after = d.run;
     FlatDriven {
         cause: flat::drive_cause(answer),
         forces,
-        core: next,
+        run: after,
     }
 }
 
-// The contact after physics, and the state but for its sets, which are changed where they stand; the state as it was where it
-// is refused.
+// The contact after physics; the state as it was where it is refused.
 #[no_mangle]
 pub extern "C" fn grader_settle(
-    core: Core,
-    credited: &mut [u64],
-    wheels: &mut [u64],
+    run: Run,
     tiles: &[f64],
     offsets: &[u32],
     list: &[u32],
@@ -108,13 +98,12 @@ pub extern "C" fn grader_settle(
     y: f64,
     poses: Poses,
 ) -> FlatSettled
-    ensures { λ r. ⌜ r ≡ flatSettled (settleSetsOf fullWords mostTiles (stateOf core (now (credited .entry)) (now (wheels .entry))) (columns (now (tiles .entry)) (now (offsets .entry)) (now (list .entry))) x y (poses .wheels)) ⌝ }
-    ensures { λ r. ⌜ stateOf (r .core) (now (credited .exit)) (now (wheels .exit)) ≡ settleSetsOf fullWords mostTiles (stateOf core (now (credited .entry)) (now (wheels .entry))) (columns (now (tiles .entry)) (now (offsets .entry)) (now (list .entry))) x y (poses .wheels) .state ⌝ }
+    ensures { λ r. ⌜ r ≡ flatSettled (settleOf fullWords mostTiles (view run) (columns (now (tiles .entry)) (now (offsets .entry)) (now (list .entry))) x y (poses .wheels)) ⌝ }
 {
     let given = poses.wheels;
-    let c = settle::settle_in_place(core, credited, wheels, tiles, offsets, list, x, y, given);
-    let answer = c.answer;
-    let next = c.core;
+    let s = settle::settle(run, tiles, offsets, list, x, y, given);
+    let answer = s.answer;
+    let after = s.run;
     let f = flat::settle(answer);
     FlatSettled {
         cause: f.cause,
@@ -123,7 +112,7 @@ pub extern "C" fn grader_settle(
         off: f.off,
         lap: f.lap,
         ended: f.ended,
-        core: next,
+        run: after,
     }
 }
 

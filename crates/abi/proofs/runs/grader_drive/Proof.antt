@@ -6,16 +6,16 @@ use Rattle.abi.proofs.runs.grader_drive.Tie as tie
 use Rattle.abi.proofs.runs.grader_drive.Reads as reads
 use Rattle.abi.proofs.runs.grader_drive.Lts as lts
 use Rattle.abi.proofs.flat.drive_cause.Reads as drive-cause-reads
-use Rattle.run.proofs.drive.drive_in_place.Reads as drive-in-place-reads
+use Rattle.run.proofs.drive.drive.Reads as drive-reads
 
-drive-in-place-requires : tie.Need-drive-in-place-requires
-drive-in-place-requires c κs = search needs
+drive-requires : tie.Need-drive-requires
+drive-requires c κs = search needs
 
 drive-cause-requires : tie.Need-drive-cause-requires
 drive-cause-requires c κs = search needs
 
 returns : tie.Need-returns
-returns c = driven-whole _ _ _ (c .drive-cause .ensures) (c .before .before .before .drive-in-place .ensures)
+returns c = driven-whole _ _ _ (c .drive-cause .ensures) (c .before .before .before .drive .ensures)
 
 pub grader-drive-spec : {M : Type 1} → statement M
-grader-drive-spec = tie.close (tie.spec drive-in-place-requires drive-cause-requires returns)
+grader-drive-spec = tie.close (tie.spec drive-requires drive-cause-requires returns)

@@ -6,22 +6,16 @@ use Rattle.abi.proofs.runs.grader_settle.Tie as tie
 use Rattle.abi.proofs.runs.grader_settle.Reads as reads
 use Rattle.abi.proofs.runs.grader_settle.Lts as lts
 use Rattle.abi.proofs.flat.settle.Reads as flat-settle-reads
-use Rattle.run.proofs.settle.settle_in_place.Reads as settle-in-place-reads
-
-settle-in-place-requires : tie.Need-settle-in-place-requires
-settle-in-place-requires c κs = search needs
+use Rattle.run.proofs.settle.settle.Reads as settle-reads
 
 settle-requires : tie.Need-settle-requires
 settle-requires c κs = search needs
 
-same-length : tie.Need-same-length
-same-length c = search needs
-
-same-length-2 : tie.Need-same-length-2
-same-length-2 c = search needs
+settle-requires-2 : tie.Need-settle-requires-2
+settle-requires-2 c κs = search needs
 
 returns : tie.Need-returns
-returns c = settled-whole _ _ _ _ (c .settle .ensures) (c .before .before .before .before .before .before .settle-in-place .ensures)
+returns c = settled-whole _ _ _ _ (c .settle2 .ensures) (c .before .before .settle .ensures)
 
 pub grader-settle-spec : {M : Type 1} → statement M
-grader-settle-spec = tie.close (tie.spec settle-in-place-requires settle-requires same-length same-length-2 returns)
+grader-settle-spec = tie.close (tie.spec settle-requires settle-requires-2 returns)
