@@ -36,7 +36,7 @@ fn stacked(rounds: Rounds) {
             each(200, || {
                 for _ in 0..200 {
                     run.core.driven = true;
-                    black_box(port::settle(&mut run, ground.course(), HULL.x, HULL.y, car).cause);
+                    black_box(port::settle_in_place(&mut run, ground.course(), HULL.x, HULL.y, car).cause);
                 }
             })
         });

@@ -89,24 +89,35 @@ impl<'a> Both<'a> {
     }
     pub fn drive(&mut self, action: u32, m: &[Motion; 4]) {
         let motions = m.map(|m| port::Motion { joint_angle: m.joint_angle, sin: m.sin, cos: m.cos, vx: m.vx, vy: m.vy });
-        let answer = port::drive(&mut self.run, action, motions);
+        let whole = port::drive(self.run, action, motions);
+        let answer = port::drive_in_place(&mut self.run, action, motions);
         let (cause, push) = self.model.drive(action, m);
         let forces = |(f, p): (&port::Force, &oracle::Push)| [f.motor, f.fx, f.fy].map(bits) == [p.motor, p.fx, p.fy].map(bits);
-        let same = answer.cause == cause as u32 && answer.forces.iter().zip(&push).all(forces) && same_state(&self.run, &self.model.state);
+        let right = |cause_said: u32, said: &[port::Force; 4], after: &port::State| {
+            cause_said == cause as u32 && said.iter().zip(&push).all(forces) && same_state(after, &self.model.state)
+        };
+        let same = right(answer.cause, &answer.forces, &self.run) && right(whole.cause, &whole.forces, &whole.run);
         let what = if cause == 0 { "drive" } else { "drive, refused" };
-        self.check(what, same, || format!("cause {}, not {cause}; action {action} {m:?}", answer.cause));
+        self.check(what, same, || format!("cause {}, by value {}, not {cause}; action {action} {m:?}", answer.cause, whole.cause));
     }
     pub fn settle(&mut self, lent: [usize; 3], x: f64, y: f64, poses: &[Pose; 4]) {
         let Both { model, run, .. } = self;
-        let answer = port::settle(run, lent_part(model, lent), x, y, port_poses(poses));
+        let whole = port::settle(*run, lent_part(model, lent), x, y, port_poses(poses));
+        let answer = port::settle_in_place(run, lent_part(model, lent), x, y, port_poses(poses));
         let (cause, said) = match self.model.settle(lent, x, y, poses) {
             Ok(e) => (0, (e.new_tiles, e.n, e.off, e.lap, e.ended)),
             Err(cause) => (cause as u32, (0, 0, false, false, false)),
         };
         let given = (answer.new_tiles, answer.n, answer.off, answer.lap, answer.ended);
-        let same = answer.cause == cause && given == said && same_state(&self.run, &self.model.state);
+        let by_value = (whole.new_tiles, whole.n, whole.off, whole.lap, whole.ended);
+        let same = (answer.cause, given) == (cause, said)
+            && (whole.cause, by_value) == (cause, said)
+            && [&self.run, &whole.run].into_iter().all(|r| same_state(r, &self.model.state));
         let what = if cause == 0 { "settle" } else { "settle, refused" };
-        self.check(what, same, || format!("cause {} {given:?}, not {cause} {said:?}; hull {x:?} {y:?} lent {lent:?} {poses:?}", answer.cause));
+        let causes = [answer.cause, whole.cause];
+        self.check(what, same, || {
+            format!("causes {causes:?} {given:?}, by value {by_value:?}, not {cause} {said:?}; hull {x:?} {y:?} lent {lent:?} {poses:?}")
+        });
     }
     /// The sheet of the state, which refuses no ended run.
     pub fn sheet(&mut self) {

@@ -76,10 +76,18 @@ pub extern "C" fn grader_drive(run: Run, action: u32, motions: Motions) -> FlatD
     ensures { λ r. ⌜ r ≡ flatDriven (driveOf fullWords mostTiles run action (motions .wheels)) ⌝ }
 {
     let given = motions.wheels;
-    let d = drive::drive(run, action, given);
+    let core = run.core;
+    let credited = run.credited;
+    let wheels = run.wheels;
+    let d = drive::drive_in_place(core, &wheels, action, given);
     let answer = d.answer;
     let forces = d.forces;
-    let after = d.run;
+    let next = d.core;
+    let after = Run {
+        core: next,
+        credited,
+        wheels,
+    };
     FlatDriven {
         cause: flat::drive_cause(answer),
         forces,
@@ -101,10 +109,28 @@ pub extern "C" fn grader_settle(
     ensures { λ r. ⌜ r ≡ flatSettled (settleOf fullWords mostTiles (view run) (columns (now (tiles .entry)) (now (offsets .entry)) (now (list .entry))) x y (poses .wheels)) ⌝ }
 {
     let given = poses.wheels;
-    let s = settle::settle(run, tiles, offsets, list, x, y, given);
-    let answer = s.answer;
-    let after = s.run;
+    let core = run.core;
+    let mut credited = run.credited;
+    let mut wheels = run.wheels;
+    let c = settle::settle_in_place(
+        core,
+        &mut credited,
+        &mut wheels,
+        tiles,
+        offsets,
+        list,
+        x,
+        y,
+        given,
+    );
+    let answer = c.answer;
     let f = flat::settle(answer);
+    let next = c.core;
+    let after = Run {
+        core: next,
+        credited,
+        wheels,
+    };
     FlatSettled {
         cause: f.cause,
         new_tiles: f.new_tiles,

@@ -170,13 +170,13 @@ pub struct Drawn {
 
 // C passes no array by value, so each stands in a struct.
 #[repr(C)]
-struct Poses {
-    wheels: [Pose; 4],
+pub struct Poses {
+    pub wheels: [Pose; 4],
 }
 
 #[repr(C)]
-struct Motions {
-    wheels: [Motion; 4],
+pub struct Motions {
+    pub wheels: [Motion; 4],
 }
 
 type F = *const f64;
@@ -193,8 +193,8 @@ extern "C" {
     fn grader_points(gb: F, gbl: N, gx: F, gxl: N, gy: F, gyl: N, count: u32, a: Fm, al: N, b: Fm, bl: N, x: Fm, xl: N, y: Fm, yl: N, t: Fm, tl: N, o: Im, ol: N, l: Im, ll: N) -> Laid;
     fn grader_curbs(gb: F, gbl: N, gx: F, gxl: N, gy: F, gyl: N, count: u32, q: Fm, ql: N, w: *mut u8, wl: N) -> CurbsFound;
     fn grader_start(t: F, tl: N, o: I, ol: N, l: I, ll: N, n: u32, fallback: bool, share: f64, limit: u32, poses: Poses) -> Started;
-    fn grader_drive(core: Core, w: W, wl: N, action: u32, motions: Motions) -> Driven;
-    fn grader_settle(core: Core, c: Wm, cl: N, w: Wm, wl: N, t: F, tl: N, o: I, ol: N, l: I, ll: N, x: f64, y: f64, poses: Poses) -> Settled;
+    fn grader_drive_in_place(core: Core, w: W, wl: N, action: u32, motions: Motions) -> Driven;
+    fn grader_settle_in_place(core: Core, c: Wm, cl: N, w: Wm, wl: N, t: F, tl: N, o: I, ol: N, l: I, ll: N, x: f64, y: f64, poses: Poses) -> Settled;
     fn grader_sheet(run: State) -> Figures;
     fn grader_reward(weights: Weights, new_tiles: u32, n: u32, off: bool) -> f64;
     fn grader_replay(seed: u32, a: Fm, al: N, b: Fm, bl: N, x: Fm, xl: N, y: Fm, yl: N, t: Fm, tl: N, o: Im, ol: N, l: Im, ll: N, share: f64, limit: u32, poses: Poses, many: u32, c: I, cl: N, g: F, gl: N, w: Im, wl: N, n: Fm, nl: N) -> Replayed;
@@ -270,7 +270,7 @@ pub fn start(c: Columns, n: u32, fallback: bool, opening: Opening) -> Started {
 
 /// The state goes on where it stands: its sets are lent, the rest of it goes in and out by value.
 pub fn drive(run: &mut State, action: u32, motions: [Motion; 4]) -> Driven {
-    let d = unsafe { grader_drive(run.core, run.wheels.as_ptr(), run.wheels.len(), action, Motions { wheels: motions }) };
+    let d = unsafe { grader_drive_in_place(run.core, run.wheels.as_ptr(), run.wheels.len(), action, Motions { wheels: motions }) };
     run.core = d.core;
     d
 }
@@ -279,7 +279,7 @@ pub fn drive(run: &mut State, action: u32, motions: [Motion; 4]) -> Driven {
 #[rustfmt::skip]
 pub fn settle(run: &mut State, c: Columns, x: f64, y: f64, poses: [Pose; 4]) -> Settled {
     let s = unsafe {
-        grader_settle(run.core, run.credited.as_mut_ptr(), run.credited.len(), run.wheels.as_mut_ptr(), run.wheels.len(),
+        grader_settle_in_place(run.core, run.credited.as_mut_ptr(), run.credited.len(), run.wheels.as_mut_ptr(), run.wheels.len(),
             c.tiles.as_ptr(), c.tiles.len(), c.offsets.as_ptr(), c.offsets.len(), c.list.as_ptr(), c.list.len(),
             x, y, Poses { wheels: poses })
     };
