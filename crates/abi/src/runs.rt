@@ -19,6 +19,7 @@ use crate::flat::FlatStarted;
 use crate::flat::Motions;
 use crate::flat::Poses;
 use run::drive;
+use run::dynamics::Force;
 use run::replay;
 use run::reward;
 use run::reward::Weights;
@@ -88,11 +89,20 @@ pub extern "C" fn grader_drive(run: Run, action: u32, motions: Motions) -> FlatD
         credited,
         wheels,
     };
-    FlatDriven {
+    let z = Force {
+        motor: 0.0,
+        fx: 0.0,
+        fy: 0.0,
+    };
+    let mut driven = FlatDriven {
         cause: flat::drive_cause(answer),
-        forces,
+        forces: [z, z, z, z],
         run: after,
-    }
+    };
+    // Over numbers that are set one by one the compiler moves the forces number by number, else as bytes from the
+    // cause on, across the numbers just stored.
+    driven.forces = forces;
+    driven
 }
 
 // The contact after physics; the state as it was where it is refused.
