@@ -10,6 +10,7 @@ use crate::dynamics::SIZE;
 use crate::dynamics::WHEEL_R;
 use crate::state::Pose;
 use course::cell::cell_of;
+use course::constants::GRID_DIM;
 use course::numeric::greatest;
 use course::numeric::least;
 
@@ -126,8 +127,8 @@ pub fn box_cells(q: [[f64; 2]; 4]) -> [usize; 4]
     let y1 = greatest(q[0][1], q[1][1], q[2][1], q[3][1]);
     let c0 = cell_of(x0);
     let c1 = cell_of(x1);
-    let r0 = cell_of(y0) * 67;
-    let r1 = cell_of(y1) * 67;
+    let r0 = cell_of(y0) * GRID_DIM;
+    let r1 = cell_of(y1) * GRID_DIM;
     [r0 + c0, r0 + c1, r1 + c0, r1 + c1]
 }
 
