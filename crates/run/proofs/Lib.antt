@@ -24,5 +24,6 @@ pub mod LentColumns
 pub mod Certificate
 pub mod BatchLaws
 pub mod ReplayLaws
+pub mod LentLaws
 pub mod Worked
 pub mod ReadBack

@@ -24,5 +24,6 @@ pub mod Calls
 pub mod Certificate
 pub mod Replay
 pub mod ReplaySteps
+pub mod LentDrive
 pub mod Batch
 pub mod Examples

@@ -80,7 +80,7 @@ fn rear(w: WheelCtl, action: u32) -> WheelCtl
 }
 
 // The action rule for wheel i: the first two are in front.
-fn control(w: WheelCtl, i: usize, action: u32) -> WheelCtl
+pub(crate) fn control(w: WheelCtl, i: usize, action: u32) -> WheelCtl
     ensures { λ r. ⌜ r ≡ controlOf action i w ⌝ }
 {
     if i < 2 {

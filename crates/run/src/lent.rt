@@ -1,0 +1,206 @@
+// The call `drive` for a host that keeps its state where it stands: controls, motions and forces are lent as numbers, the
+// wheels' sets as words, and nothing large is moved (document 01, "Drive").
+ghost use mathlib.Core.Path.{_≡_};
+ghost use mathlib.Core.List.{[]};
+ghost use Prim.Native.Nat.{_+_, _≤_};
+ghost use lib.ListN.{length, set};
+ghost use Rattle.run.specs.Widths.{fullWords, mostTiles};
+ghost use Rattle.run.specs.Arguments.{motionsOk};
+ghost use Rattle.run.specs.Drive.{driveCause};
+ghost use Rattle.run.specs.Pass.{passOf};
+ghost use Rattle.run.specs.Replay.{motionFrom, motionsFrom, forceNumbers};
+ghost use Rattle.run.specs.LentDrive.{wheelFrom, wheelsFrom, numbersOfWheels, coreFrom, lentWidths, lentDriven, driveLentOf};
+use crate::drive;
+use crate::dynamics;
+use crate::dynamics::Force;
+use crate::dynamics::Motion;
+use crate::state::WheelCtl;
+use crate::widths::FULL_WORDS;
+use crate::widths::MOST_TILES;
+use crate::widths::WHEEL_WORDS;
+
+// A state but for its controls and sets: the fields of `Core` without `ctl`.
+#[repr(C)]
+pub struct Counts {
+    pub n: u32,
+    pub visited_count: u32,
+    pub tick: u32,
+    pub tick_limit: u32,
+    pub lap_share: f64,
+    pub lap: bool,
+    pub ended: bool,
+    pub fallback: bool,
+    pub driven: bool,
+    pub fuel_spent: f64,
+}
+
+// The number of the cause, 0 where the drive is accepted, and the counts after.
+#[repr(C)]
+pub struct DroveLent {
+    pub cause: u32,
+    pub counts: Counts,
+}
+
+// Numbers of a wheel's control, of its motion, and of its force.
+const WHEEL_NUMBERS: usize = 5;
+
+const FORCE_NUMBERS: usize = 3;
+
+// A wheel's control, from number i on.
+fn wheel_at(ctl: &[f64], i: usize) -> WheelCtl
+    requires { do ⌜ i + 5 ≤ (← ⟦ctl.len()⟧) ⌝ }
+    ensures { λ r. ⌜ r ≡ wheelFrom (now (ctl .entry)) i ⌝ }
+{
+    WheelCtl {
+        gas: ctl[i],
+        brake: ctl[i + 1],
+        steer: ctl[i + 2],
+        omega: ctl[i + 3],
+        phase: ctl[i + 4],
+    }
+}
+
+// A wheel's control is written, from number i on.
+fn put_wheel(ctl: &mut [f64], i: usize, w: WheelCtl)
+    requires { ⌜ i + 5 ≤ length (now ctl) ⌝ }
+    ensures { λ _. ⌜ now (ctl .exit) ≡ set (set (set (set (set (now (ctl .entry)) i (w .gas)) (i + 1) (w .brake)) (i + 2) (w .steer)) (i + 3) (w .omega)) (i + 4) (w .phase) ⌝ }
+{
+    ctl[i] = w.gas;
+    ctl[i + 1] = w.brake;
+    ctl[i + 2] = w.steer;
+    ctl[i + 3] = w.omega;
+    ctl[i + 4] = w.phase;
+}
+
+// A wheel's motion, from number i on.
+fn motion_at(motion: &[f64], i: usize) -> Motion
+    requires { do ⌜ i + 5 ≤ (← ⟦motion.len()⟧) ⌝ }
+    ensures { λ r. ⌜ r ≡ motionFrom (now (motion .entry)) i ⌝ }
+{
+    Motion {
+        joint_angle: motion[i],
+        sin: motion[i + 1],
+        cos: motion[i + 2],
+        vx: motion[i + 3],
+        vy: motion[i + 4],
+    }
+}
+
+// A wheel's force is written, from number i on.
+fn put_force(forces: &mut [f64], i: usize, f: Force)
+    requires { ⌜ i + 3 ≤ length (now forces) ⌝ }
+    ensures { λ _. ⌜ now (forces .exit) ≡ set (set (set (now (forces .entry)) i (f .motor)) (i + 1) (f .fx)) (i + 2) (f .fy) ⌝ }
+{
+    forces[i] = f.motor;
+    forces[i + 1] = f.fx;
+    forces[i + 2] = f.fy;
+}
+
+// Action rule and tyre pass over the four wheels, in their order, the fuel going from one to the next: each wheel's
+// control is changed where it stands, and its force is written. It returns the fuel spent after. A loop has one place
+// of the call, so the compiler puts the tyre's code there.
+fn pass_lent(
+    ctl: &mut [f64],
+    action: u32,
+    motion: &[f64],
+    roads: [bool; 4],
+    fuel: f64,
+    forces: &mut [f64],
+) -> f64
+    requires { ⌜ length (now ctl) ≡ 20 ⌝ }
+    requires { do ⌜ 20 ≤ (← ⟦motion.len()⟧) ⌝ }
+    requires { ⌜ length (now forces) ≡ 12 ⌝ }
+    ensures { λ r. ⌜ r ≡ passOf (wheelsFrom (now (ctl .entry))) action (motionsFrom (now (motion .entry))) roads fuel .«fuel_spent» ⌝ }
+    ensures { λ _. ⌜ now (ctl .exit) ≡ numbersOfWheels (passOf (wheelsFrom (now (ctl .entry))) action (motionsFrom (now (motion .entry))) roads fuel .ctl) ⌝ }
+    ensures { λ _. ⌜ now (forces .exit) ≡ forceNumbers (passOf (wheelsFrom (now (ctl .entry))) action (motionsFrom (now (motion .entry))) roads fuel .forces) ⌝ }
+{
+    let mut spent = fuel;
+    let mut i: usize = 0;
+    while i < 4 {
+        let at = WHEEL_NUMBERS * i;
+        let w = drive::control(wheel_at(ctl, at), i, action);
+        let t = dynamics::tyre(w, motion_at(motion, at), roads[i], spent);
+        let v = t.ctl;
+        let f = t.force;
+        put_wheel(ctl, at, v);
+        put_force(forces, FORCE_NUMBERS * i, f);
+        spent = t.fuel_spent;
+        i += 1;
+    }
+    spent
+}
+
+// The four wheels' numbers are in range.
+fn motions_lent_ok(motion: &[f64]) -> bool
+    requires { do ⌜ 20 ≤ (← ⟦motion.len()⟧) ⌝ }
+    ensures { λ r. ⌜ r ≡ motionsOk (motionsFrom (now (motion .entry))) ⌝ }
+{
+    drive::motion_ok(motion_at(motion, 0))
+        & drive::motion_ok(motion_at(motion, 5))
+        & drive::motion_ok(motion_at(motion, 10))
+        & drive::motion_ok(motion_at(motion, 15))
+}
+
+// The number of the first cause that holds, or 0. No cause looks at the controls.
+fn cause_lent(most: u32, counts: Counts, action: u32, motion: &[f64]) -> u32
+    requires { do ⌜ 20 ≤ (← ⟦motion.len()⟧) ⌝ }
+    ensures { λ r. ⌜ r ≡ driveCause most (coreFrom counts []) action (motionsFrom (now (motion .entry))) ⌝ }
+{
+    if (counts.n < 1) | (most < counts.n) | (counts.n < counts.visited_count) | counts.ended {
+        return 4;
+    }
+    if counts.driven {
+        return 5;
+    }
+    if counts.tick_limit <= counts.tick {
+        return 6;
+    }
+    if 4 < action {
+        return 7;
+    }
+    if !motions_lent_ok(motion) {
+        return 8;
+    }
+    0
+}
+
+// The lengths of the lent controls, sets, motions and forces are a drive's.
+fn lent_widths(ctl: usize, wheels: usize, motion: usize, forces: usize) -> bool
+    ensures { λ r. ⌜ r ≡ lentWidths fullWords ctl wheels motion forces ⌝ }
+{
+    (ctl == 20) & (wheels == WHEEL_WORDS) & (motion == 20) & (forces == 12)
+}
+
+// The call where controls (five numbers to a wheel, in the order of `WheelCtl`), motions (five, of `Motion`) and forces
+// (three, of `Force`) are lent as numbers and the wheels' sets as words. The controls after and the forces are written
+// where the drive is accepted; a refusal changes nothing. Other lengths are no run's (cause 4).
+pub fn drive_lent(
+    counts: Counts,
+    ctl: &mut [f64],
+    wheels: &[u64],
+    action: u32,
+    motion: &[f64],
+    forces: &mut [f64],
+) -> DroveLent
+    ensures { λ r. ⌜ lentDriven r (now (ctl .exit)) (now (forces .exit)) ≡ driveLentOf fullWords mostTiles counts (now (ctl .entry)) (now (wheels .entry)) action (now (motion .entry)) (now (forces .entry)) ⌝ }
+{
+    if !lent_widths(ctl.len(), wheels.len(), motion.len(), forces.len()) {
+        return DroveLent { cause: 4, counts };
+    }
+    let number = cause_lent(MOST_TILES, counts, action, motion);
+    if number != 0 {
+        return DroveLent {
+            cause: number,
+            counts,
+        };
+    }
+    let roads = drive::roads_of(wheels, FULL_WORDS);
+    let spent = pass_lent(ctl, action, motion, roads, counts.fuel_spent, forces);
+    let mut next = counts;
+    next.driven = true;
+    next.fuel_spent = spent;
+    DroveLent {
+        cause: 0,
+        counts: next,
+    }
+}
