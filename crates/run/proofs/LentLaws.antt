@@ -1,5 +1,5 @@
--- A drive on lent numbers: controls and forces stand in numbers wheel by wheel, and the pass over the numbers is the pass over the wheels.
--- For any number of words. Assumes nothing.
+-- A drive on lent numbers: controls and forces stand in numbers wheel by wheel, and the pass over the numbers is the pass over the wheels. At the end the law
+-- that a lent drive is the call on the state itself (`lent-is-drive`). For any number of words. Assumes nothing.
 use mathlib.Core.Path.{_≡_, refl, sym, ap, _∙_, subst}
 use mathlib.Core.Bool.{Bool, true, false, cond, _&&_}
 use mathlib.Core.List.{List, [], _∷_}
@@ -26,6 +26,7 @@ use Rattle.run.specs.declared.state.Core.{Core}
 use Rattle.run.specs.declared.dynamics.Force.{Force}
 use Rattle.run.specs.declared.dynamics.Turned.{Turned}
 use Rattle.run.specs.declared.drive.Passed.{Passed}
+use Rattle.run.specs.declared.drive.CoreDrove.{CoreDrove}
 use Rattle.run.specs.declared.lent.Counts.{Counts}
 
 -- ---- a list by its entries
@@ -305,3 +306,67 @@ module _ (m most : ℕ) (c : Counts) (ctl : List Float) (wheels : List ℕ) (act
       ∙ in-numbers-accepted c ctl forces p
       ∙ ap (λ (b : List Bool). inNumbers (driveAt 0 (coreFrom c ctl) (passOf (wheelsFrom ctl) action (motionsFrom motion) b (c .«fuel_spent»))) forces) r
       ∙ ap (λ (j : ℕ). inNumbers (driveAt j (coreFrom c ctl) (passOf (wheelsFrom ctl) action (motionsFrom motion) (roadsOf m wheels) (c .«fuel_spent»))) forces) (sym z ∙ q ∙ same-cause []))
+
+-- ---- a lent drive is the call on the state
+
+-- a state without its sets is its counts and its controls in numbers
+core-back : (s : Core) → length (s .ctl) ≡ 4 → coreFrom (countsOf s) (numbersOfWheels (s .ctl)) ≡ s
+unfolding coreFrom countsOf
+core-back s h =
+    λ i.
+    record {
+      n = s .n;
+      «visited_count» = s .«visited_count»;
+      tick = s .tick;
+      «tick_limit» = s .«tick_limit»;
+      «lap_share» = s .«lap_share»;
+      lap = s .lap;
+      ended = s .ended;
+      fallback = s .fallback;
+      driven = s .driven;
+      ctl = wheels-of-numbers (s .ctl) h i;
+      «fuel_spent» = s .«fuel_spent»;
+    }
+
+-- what a lent drive on the state s answers and leaves, read back: the cause, the state after and, where it is accepted, the forces are those of the drive d; a refusal leaves
+-- counts, controls and forces as they were
+pub record ReadsBack (s : Core) (forces : List Float) (o : LentDriven) (d : CoreDrove) : Type 0 where
+  pub cause : o .cause ≡ driveCauseOf (d .answer)
+  pub core : coreFrom (o .counts) (o .ctl) ≡ d .core
+  pub accepted : o .cause ≡ 0 → forcesFrom (o .forces) ≡ d .forces
+  pub refused : (o .cause ≡ 0 → ⊥) → (o .counts ≡ countsOf s) × ((o .ctl ≡ numbersOfWheels (s .ctl)) × (o .forces ≡ forces))
+
+-- by the cause's number
+reads-back : (k : ℕ) (s : Core) (p : Passed) (forces : List Float) → length (s .ctl) ≡ 4 → length (p .ctl) ≡ 4 → length (p .forces) ≡ 4 → ReadsBack s forces (inNumbers (driveAt k s p) forces) (driveAt k s p)
+unfolding inNumbers driveAt drivenOf driveCauseOf
+reads-back zero s p forces h w f =
+    record {
+      cause = refl;
+      core = core-back (drivenOf s p) w;
+      accepted = λ z. forces-of-numbers (p .forces) f;
+      refused = λ n. absurd (n refl);
+    }
+reads-back (suc k) s p forces h w f =
+    record {
+      cause = refl;
+      core = core-back s h;
+      accepted = λ z. absurd (omega (arith, z));
+      refused = λ n. (refl, (refl, ap (λ (b : Bool). cond b (forceNumbers noForces) forces) (ne-eqb (suc k) 0 n)));
+    }
+
+module _ (m most : ℕ) (s : Core) (wheels : List ℕ) (action : ℕ) (motion forces : List Float) (four-ctl : length (s .ctl) ≡ 4) (full : length wheels ≡ 4 * m) (motion-long : length motion ≡ 20) (twelve : length forces ≡ 12) where
+  -- the call on a state's counts and numbers is the call on the state, in numbers
+  pub lent-in-numbers : driveLentOf m most (countsOf s) (numbersOfWheels (s .ctl)) wheels action motion forces
+      ≡ inNumbers (coreDriveOf most s action (motionsFrom motion) (roadsOf m wheels)) forces
+  unfolding driveLentOf
+  lent-in-numbers =
+      let e = widths-all m (length (numbersOfWheels (s .ctl))) (length wheels) (length motion) (length forces)
+      (record { ctl-long = wheels-long (s .ctl) four-ctl; wheels-long = full; motion-long = motion-long; forces-long = twelve }) in
+      rw e (ap (λ (x : Core). inNumbers (coreDriveOf most x action (motionsFrom motion) (roadsOf m wheels)) forces) (core-back s four-ctl))
+
+  -- and read back it is the certificate's call
+  pub lent-is-drive : ReadsBack s forces (driveLentOf m most (countsOf s) (numbersOfWheels (s .ctl)) wheels action motion forces) (coreDriveOf most s action (motionsFrom motion) (roadsOf m wheels))
+  unfolding coreDriveOf passOf
+  lent-is-drive =
+      subst (λ (o : LentDriven). ReadsBack s forces o (coreDriveOf most s action (motionsFrom motion) (roadsOf m wheels))) (sym lent-in-numbers)
+      (reads-back (driveCause most s action (motionsFrom motion)) s (passOf (s .ctl) action (motionsFrom motion) (roadsOf m wheels) (s .«fuel_spent»)) forces four-ctl refl refl)
