@@ -18,17 +18,15 @@ use Rattle.run.specs.declared.state.Run.{Run}
 use Rattle.run.specs.declared.dynamics.Force.{Force}
 use Rattle.run.specs.declared.start.StartAnswer.{StartAnswer}
 use Rattle.run.specs.declared.drive.Drove.{Drove}
-use Rattle.run.specs.declared.drive.CoreDrove.{CoreDrove}
 use Rattle.run.specs.declared.settle.SettleAnswer.{SettleAnswer}
 use Rattle.run.specs.declared.sheet.SheetAnswer.{SheetAnswer}
 use Rattle.run.specs.Drive.{driveCauseOf}
-use Rattle.abi.specs.Flat.{flatLaid, flatCurbs, runOf, flatBegun, flatStarted, flatDriven, flatCoreDriven, flatSettle, flatSettled, flatCoreSettled, flatSheet, flatAnswers, flatReplayed, replayColumns, columnsAfter}
+use Rattle.abi.specs.Flat.{flatLaid, flatCurbs, runOf, flatBegun, flatStarted, flatDriven, flatSettle, flatSettled, flatCoreSettled, flatSheet, flatAnswers, flatReplayed, replayColumns, columnsAfter}
 use Rattle.abi.specs.declared.flat.FlatLaid.{FlatLaid}
 use Rattle.abi.specs.declared.flat.FlatCurbs.{FlatCurbs}
 use Rattle.abi.specs.declared.flat.FlatBegun.{FlatBegun}
 use Rattle.abi.specs.declared.flat.FlatStarted.{FlatStarted}
 use Rattle.abi.specs.declared.flat.FlatDriven.{FlatDriven}
-use Rattle.abi.specs.declared.flat.FlatCoreDriven.{FlatCoreDriven}
 use Rattle.abi.specs.declared.flat.FlatSettle.{FlatSettle}
 use Rattle.abi.specs.declared.flat.FlatSettled.{FlatSettled}
 use Rattle.abi.specs.declared.flat.FlatCoreSettled.{FlatCoreSettled}
@@ -84,16 +82,6 @@ pub settled-whole : (f : FlatSettle) (a : SettleAnswer) (r : Run) (d : Done) →
 settled-whole f a r d e p = ap (λ (g : FlatSettle). settledFrom g r) e ∙ settled-flat a r ∙ ap flatSettled p
 
 -- ---- the run where its sets are lent
-
-abbrev coreDrivenFrom : ℕ → List Force → Core → FlatCoreDriven
-coreDrivenFrom k fs s = record { cause = k; forces = fs; core = s }
-
-core-driven-flat : (d : CoreDrove) → coreDrivenFrom (driveCauseOf (d .answer)) (d .forces) (d .core) ≡ flatCoreDriven d
-unfolding flatCoreDriven
-core-driven-flat d = refl
-
-pub core-driven-whole : (k : ℕ) (d e : CoreDrove) → k ≡ driveCauseOf (d .answer) → d ≡ e → coreDrivenFrom k (d .forces) (d .core) ≡ flatCoreDriven e
-core-driven-whole k d e q p = ap (λ (j : ℕ). coreDrivenFrom j (d .forces) (d .core)) q ∙ core-driven-flat d ∙ ap flatCoreDriven p
 
 abbrev coreSettledFrom : FlatSettle → Core → FlatCoreSettled
 coreSettledFrom f s = record { cause = f .cause; «new_tiles» = f .«new_tiles»; n = f .n; off = f .off; lap = f .lap; ended = f .ended; core = s }

@@ -20,7 +20,6 @@ use Rattle.run.specs.Batch.{Replay}
 use Rattle.run.specs.declared.state.Run.{Run}
 use Rattle.run.specs.declared.start.StartAnswer.{StartAnswer}
 use Rattle.run.specs.declared.drive.Drove.{Drove}
-use Rattle.run.specs.declared.drive.CoreDrove.{CoreDrove}
 use Rattle.run.specs.declared.settle.SettleAnswer.{SettleAnswer}
 use Rattle.run.specs.declared.sheet.SheetAnswer.{SheetAnswer}
 use Rattle.abi.specs.declared.flat.FlatLaid.{FlatLaid}
@@ -28,7 +27,6 @@ use Rattle.abi.specs.declared.flat.FlatCurbs.{FlatCurbs}
 use Rattle.abi.specs.declared.flat.FlatStarted.{FlatStarted}
 use Rattle.abi.specs.declared.flat.FlatBegun.{FlatBegun}
 use Rattle.abi.specs.declared.flat.FlatDriven.{FlatDriven}
-use Rattle.abi.specs.declared.flat.FlatCoreDriven.{FlatCoreDriven}
 use Rattle.abi.specs.declared.flat.FlatSettled.{FlatSettled}
 use Rattle.abi.specs.declared.flat.FlatCoreSettled.{FlatCoreSettled}
 use Rattle.abi.specs.declared.flat.FlatSettle.{FlatSettle}
@@ -108,10 +106,6 @@ flatStarted b = record { cause = startCauseOf (b .answer); count = startCountOf 
 unfoldable pub flatDriven : Drove → FlatDriven
 flatDriven d = record { cause = driveCauseOf (d .answer); forces = d .forces; run = d .run }
 
--- where the sets are lent, what is passed back is the state but for them
-unfoldable pub flatCoreDriven : CoreDrove → FlatCoreDriven
-flatCoreDriven d = record { cause = driveCauseOf (d .answer); forces = d .forces; core = d .core }
-
 unfoldable pub flatSettle : SettleAnswer → FlatSettle
 flatSettle a =
     record {
@@ -135,6 +129,7 @@ flatSettled d =
       run = runOf (d .state);
     }
 
+-- where the sets are lent, what is passed back is the state but for them
 unfoldable pub flatCoreSettled : Done → FlatCoreSettled
 flatCoreSettled d =
     record {

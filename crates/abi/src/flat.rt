@@ -53,14 +53,6 @@ pub struct FlatDriven {
     pub run: Run,
 }
 
-// The same but for the state's sets, where they are lent.
-#[repr(C)]
-pub struct FlatCoreDriven {
-    pub cause: u32,
-    pub forces: [Force; 4],
-    pub core: Core,
-}
-
 // What settle answers, and the state after.
 #[repr(C)]
 pub struct FlatSettled {

@@ -5,7 +5,7 @@
 // that the contracts cite stand in specs/.
 pub mod courses;
 pub mod flat;
-pub mod in_place;
 pub mod inner;
+pub mod lent;
 pub mod numbers;
 pub mod runs;

@@ -1,47 +1,38 @@
-// Drive and settle on a state that stays where it stands: its sets are lent, the rest goes in and out by value. Sets of other
-// widths are no run's (cause 4).
+// Drive and settle on a state that stays where it stands: its large parts are lent. Parts of other lengths are no run's (cause 4).
 ghost use mathlib.Core.Path.{_≡_};
 ghost use Rattle.run.specs.Widths.{fullWords, mostTiles};
 ghost use Rattle.run.specs.State.{stateOf, columns};
-ghost use Rattle.run.specs.Drive.{driveSetsOf};
+ghost use Rattle.run.specs.LentDrive.{lentDriven, driveLentOf};
 ghost use Rattle.run.specs.Settle.{settleSetsOf};
-ghost use Rattle.abi.specs.Flat.{flatCoreDriven, flatCoreSettled};
+ghost use Rattle.abi.specs.Flat.{flatCoreSettled};
 use crate::flat;
-use crate::flat::FlatCoreDriven;
 use crate::flat::FlatCoreSettled;
-use crate::flat::Motions;
 use crate::flat::Poses;
-use run::drive;
+use run::lent;
+use run::lent::Counts;
+use run::lent::DroveLent;
 use run::settle;
 use run::state::Core;
 
-// Forces for the host, and the state but for its sets, which a drive only reads; no forces, and the state as it was, where it
-// is refused.
+// The controls are changed where they stand and the forces are written; the wheels' sets are read. A refusal changes nothing.
 #[no_mangle]
-pub extern "C" fn grader_drive_in_place(
-    core: Core,
+pub extern "C" fn grader_drive_lent(
+    counts: Counts,
+    ctl: &mut [f64],
     wheels: &[u64],
     action: u32,
-    motions: Motions,
-) -> FlatCoreDriven
-    ensures { λ r. ⌜ r ≡ flatCoreDriven (driveSetsOf fullWords mostTiles core (now (wheels .entry)) action (motions .wheels)) ⌝ }
+    motion: &[f64],
+    forces: &mut [f64],
+) -> DroveLent
+    ensures { λ r. ⌜ lentDriven r (now (ctl .exit)) (now (forces .exit)) ≡ driveLentOf fullWords mostTiles counts (now (ctl .entry)) (now (wheels .entry)) action (now (motion .entry)) (now (forces .entry)) ⌝ }
 {
-    let given = motions.wheels;
-    let d = drive::drive_in_place(core, wheels, action, given);
-    let answer = d.answer;
-    let forces = d.forces;
-    let next = d.core;
-    FlatCoreDriven {
-        cause: flat::drive_cause(answer),
-        forces,
-        core: next,
-    }
+    lent::drive_lent(counts, ctl, wheels, action, motion, forces)
 }
 
 // The contact after physics, and the state but for its sets, which are changed where they stand; the state as it was where it
 // is refused.
 #[no_mangle]
-pub extern "C" fn grader_settle_in_place(
+pub extern "C" fn grader_settle_lent(
     core: Core,
     credited: &mut [u64],
     wheels: &mut [u64],
