@@ -44,8 +44,7 @@ typedef struct { double tile, step, off_playfield; } grader_weights;
 typedef struct { grader_pose wheels[4]; } grader_poses;     /* front left, front right, rear left, rear right */
 typedef struct { grader_motion wheels[4]; } grader_motions;
 
-/* The state of a run. Keep it as it is: a drive or settle is lent its sets where they stand (a drive reads those of the wheels, a
- * settle changes both), and returns the rest, to be stored as its core. Sets of other lengths are no run's and refused by 4. */
+/* The state of a run. Keep it as it is and pass on what the last call returned. */
 typedef struct {
     uint32_t n, visited_count, tick, tick_limit;
     double lap_share;
@@ -62,8 +61,8 @@ typedef struct {
 typedef struct { uint32_t cause, n, entries; bool fallback; double beta, x, y; } grader_laid; /* beta, x, y: the first point */
 typedef struct { uint32_t cause, count; } grader_curbs_found;
 typedef struct { uint32_t cause, count; bool lap; grader_run run; } grader_started;
-typedef struct { uint32_t cause; grader_force forces[4]; grader_core core; } grader_driven;
-typedef struct { uint32_t cause, new_tiles, n; bool off, lap, ended; grader_core core; } grader_settled;
+typedef struct { uint32_t cause; grader_force forces[4]; grader_run run; } grader_driven;
+typedef struct { uint32_t cause, new_tiles, n; bool off, lap, ended; grader_run run; } grader_settled;
 typedef struct { uint32_t cause, tick, credited, n, share; bool lap, ended, fallback; } grader_figures;
 typedef struct { grader_laid laid; uint32_t start_cause, start_count; bool start_lap; grader_figures sheet; } grader_replayed;
 typedef struct { uint32_t cause; double value; } grader_angle;
@@ -83,10 +82,39 @@ grader_curbs_found grader_curbs(IN(double, beta), IN(double, x), IN(double, y), 
 /* A run: start (causes 1, 2, 8, 10), then drive (4, 5, 6, 7, 8) and settle (4, 5, 6, 2, 8, 10) in turn, with the host's
  * physics between them; sheet (4) at any time. */
 grader_started grader_start(COURSE_IN, uint32_t n, bool fallback, double lap_share, uint32_t tick_limit, grader_poses poses);
-grader_driven grader_drive(grader_core core, IN(uint64_t, wheels), uint32_t action, grader_motions motions);
-grader_settled grader_settle(grader_core core, OUT(uint64_t, credited), OUT(uint64_t, wheels), COURSE_IN, double hull_x, double hull_y, grader_poses poses);
+grader_driven grader_drive(grader_run run, uint32_t action, grader_motions motions);
+grader_settled grader_settle(grader_run run, COURSE_IN, double hull_x, double hull_y, grader_poses poses);
 grader_figures grader_sheet(grader_run run);
 double grader_reward(grader_weights weights, uint32_t new_tiles, uint32_t n, bool off);
+
+/* Drive and settle for a host that keeps a run where it stands, which is faster: the same answers and the same state after. Lent are
+ * the controls (five numbers to a wheel), the sets' words, the motions (five to a wheel) and the forces (three), so many as the calls below
+ * say: other lengths are refused by 4. A refused drive writes no forces. */
+typedef struct {
+    uint32_t n, visited_count, tick, tick_limit;
+    double lap_share;
+    bool lap, ended, fallback, driven;
+    double fuel_spent;
+} grader_counts; /* a core but for its controls */
+typedef struct { uint32_t cause; grader_counts counts; } grader_drove_lent;
+typedef struct { uint32_t cause, new_tiles, n; bool off, lap, ended; grader_core core; } grader_settled_lent;
+grader_drove_lent grader_drive_lent(grader_counts counts, OUT(double, controls), IN(uint64_t, wheels), uint32_t action, IN(double, motions), OUT(double, forces));
+grader_settled_lent grader_settle_lent(grader_core core, OUT(uint64_t, credited), OUT(uint64_t, wheels), COURSE_IN, double hull_x, double hull_y, grader_poses poses);
+
+/* The two on a run in place. The drive answers its cause, 0 where the forces are written; the settle all but the state. */
+static inline uint32_t grader_drive_in_place(grader_run *run, uint32_t action, const grader_motions *motions, grader_force forces[4]) {
+    grader_core *c = &run->core;
+    grader_counts counts = {c->n, c->visited_count, c->tick, c->tick_limit, c->lap_share, c->lap, c->ended, c->fallback, c->driven, c->fuel_spent};
+    grader_drove_lent d = grader_drive_lent(counts, (double *)c->ctl, 20, run->wheels, GRADER_WHEELS, action, (const double *)motions, 20, (double *)forces, 12);
+    c->driven = d.counts.driven;
+    c->fuel_spent = d.counts.fuel_spent;
+    return d.cause;
+}
+static inline grader_settled_lent grader_settle_in_place(grader_run *run, COURSE_IN, double hull_x, double hull_y, grader_poses poses) {
+    grader_settled_lent s = grader_settle_lent(run->core, run->credited, GRADER_CREDITED, run->wheels, GRADER_WHEELS, tiles, tiles_len, offsets, offsets_len, list, list_len, hull_x, hull_y, poses);
+    run->core = s.core;
+    return s;
+}
 
 /* A whole run from a list: four words and twenty numbers to a call, four words and twelve numbers to an answer. A call: kind (0 is
  * a drive, any other a settle), action, lent lengths of tiles and offsets; a drive's motions, or a settle's hull x, y and poses. An

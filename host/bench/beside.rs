@@ -28,7 +28,8 @@ pub fn numbers(rounds: Rounds) {
         out
     };
     let chain = |f: fn(f64) -> f64| xs.iter().fold(0.0, |s, &x| f(s + x));
-    same("sqrt", (each_alone(root).map(f64::to_bits), chain(root).to_bits()), (each_alone(port::sqrt).map(f64::to_bits), chain(port::sqrt).to_bits()));
+    let bits = |f| (each_alone(f).map(f64::to_bits), chain(f).to_bits());
+    same("sqrt", bits(root), bits(port::sqrt));
     let ten = |f: &dyn Fn()| each(10 * xs.len(), || (0..10).for_each(|_| f()));
     let alone = |f| ten(&|| drop(black_box(&each_alone(f))));
     versus("square root, independent", rounds, || alone(root), || alone(port::sqrt));
@@ -80,7 +81,13 @@ pub fn courses(rounds: Rounds) {
             &name,
             rounds,
             || each(seeds.len(), || drop(black_box(seeds.iter().map(rust).sum::<u32>()))),
-            || each(seeds.len(), || drop(black_box(seeds.iter().map(|&s| laid(black_box(s), &mut lent, &long, &mut quads, &mut white)).sum::<u32>()))),
+            || {
+                each(seeds.len(), || {
+                    drop(black_box(
+                        seeds.iter().map(|&s| laid(black_box(s), &mut lent, &long, &mut quads, &mut white)).sum::<u32>(),
+                    ))
+                })
+            },
         );
     }
     let tracks: Vec<Track> = (0..32).map(Track::generate).collect();
@@ -105,12 +112,14 @@ type Run = port::State;
 type Motions = [port::Motion; 4];
 type Poses = [port::Pose; 4];
 
-fn drive_in_place(run: &mut Run, action: u32, m: Motions) {
-    black_box(&port::drive_in_place(run, action, m).forces);
+fn drive_in_place(run: &mut Run, action: u32, m: &Motions) {
+    let mut forces = [port::Force::default(); 4];
+    black_box(port::drive_in_place(run, action, m, &mut forces));
+    black_box(&forces);
 }
 
-fn drive_by_value(run: &mut Run, action: u32, m: Motions) {
-    let d = port::drive(*run, action, m);
+fn drive_by_value(run: &mut Run, action: u32, m: &Motions) {
+    let d = port::drive(*run, action, *m);
     *run = d.run;
     black_box(&d.forces);
 }
@@ -154,7 +163,7 @@ fn drive(
     most: f64,
     [gas, omega]: [f64; 2],
     action: u32,
-    drive: impl Fn(&mut Run, u32, Motions),
+    drive: impl Fn(&mut Run, u32, &Motions),
 ) {
     let ms = motions(512, most);
     let here: Vec<_> = ms.iter().map(port_motions).collect();
@@ -178,7 +187,7 @@ fn drive(
         run.core.ctl.iter_mut().for_each(|c| (c.gas, c.omega) = (gas, omega));
         let t = each(here.len(), || {
             for m in &here {
-                drive(&mut run, action, *m);
+                drive(&mut run, action, m);
                 run.core.driven = false;
             }
         });
@@ -232,7 +241,7 @@ fn tick(
     name: &str,
     rounds: Rounds,
     grounds: &[Ground],
-    drive: impl Fn(&mut Run, u32, Motions),
+    drive: impl Fn(&mut Run, u32, &Motions),
     settle: impl Fn(&mut Run, port::Columns, Poses) -> (u32, bool),
 ) {
     let ms = motions(512, 10.0);
@@ -264,7 +273,7 @@ fn tick(
         let t = each(total, || {
             for ((run, g), cars) in runs.iter_mut().zip(grounds).zip(&cars) {
                 for (j, p) in cars.iter().enumerate().skip(1) {
-                    drive(run, (j % 5) as u32, here[j % here.len()]);
+                    drive(run, (j % 5) as u32, &here[j % here.len()]);
                     let (credited, ended) = settle(run, g.course(), *p);
                     new += credited;
                     ticks += 1;

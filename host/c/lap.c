@@ -1,6 +1,7 @@
-/* Lays seed 0, starts a run with the car on its first point, and drives one tick. */
+/* Lays seed 0, starts a run with the car on its first point, and drives one tick: by value, and in place, which must come to the same. */
 #include "../grader.h"
 #include <stdio.h>
+#include <string.h>
 
 static double alpha[GRADER_POINTS], beta[GRADER_POINTS], x[GRADER_POINTS], y[GRADER_POINTS], tiles[GRADER_TILES];
 static uint32_t offsets[GRADER_OFFSETS], list[4096];
@@ -15,12 +16,17 @@ int main(void) {
         still.wheels[i].cos = 1;
     }
     grader_started s = grader_start(tiles, GRADER_TILES, offsets, GRADER_OFFSETS, list, c.entries, c.n, c.fallback, 0.95, 1000, car);
+    grader_driven d = grader_drive(s.run, 3, still);
+    grader_settled t = grader_settle(d.run, tiles, GRADER_TILES, offsets, GRADER_OFFSETS, list, c.entries, c.x, c.y, car);
+    grader_figures f = grader_sheet(t.run);
     grader_run run = s.run;
-    grader_driven d = grader_drive(run.core, run.wheels, GRADER_WHEELS, 3, still);
-    run.core = d.core;
-    grader_settled t = grader_settle(run.core, run.credited, GRADER_CREDITED, run.wheels, GRADER_WHEELS, tiles, GRADER_TILES, offsets, GRADER_OFFSETS, list, c.entries, c.x, c.y, car);
-    run.core = t.core;
-    grader_figures f = grader_sheet(run);
+    grader_force forces[4];
+    uint32_t driven = grader_drive_in_place(&run, 3, &still, forces);
+    grader_settled_lent u = grader_settle_in_place(&run, tiles, GRADER_TILES, offsets, GRADER_OFFSETS, list, c.entries, c.x, c.y, car);
+    grader_figures g = grader_sheet(run);
     printf("%u tiles, %u at the start, force %.3f, %u new, tick %u, share %u\n", c.n, s.count, d.forces[2].fy, t.new_tiles, f.tick, f.share);
-    return s.cause || d.cause || t.cause || f.cause || f.tick != 1;
+    if (s.cause || d.cause || t.cause || f.cause || f.tick != 1) return 1;
+    bool same = !driven && !u.cause && forces[2].fy == d.forces[2].fy && u.new_tiles == t.new_tiles && g.tick == f.tick && g.credited == f.credited
+        && run.core.ctl[2].omega == t.run.core.ctl[2].omega && !memcmp(run.credited, t.run.credited, sizeof run.credited) && !memcmp(run.wheels, t.run.wheels, sizeof run.wheels);
+    return same ? 0 : (printf("in place it comes to something else\n"), 1);
 }

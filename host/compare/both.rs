@@ -84,21 +84,24 @@ impl<'a> Both<'a> {
         let same = (answer.cause, answer.count, answer.lap) == (cause, s.count, s.lap) && same_state(&answer.run, s);
         self.run = answer.run;
         let what = if cause == 0 { "start" } else { "start, refused" };
-        self.check(what, same, || format!("cause {} count {} lap {}, not {cause}; {b:?} {poses:?}", answer.cause, answer.count, answer.lap));
+        self.check(what, same, || {
+            format!("cause {} count {} lap {}, not {cause}; {b:?} {poses:?}", answer.cause, answer.count, answer.lap)
+        });
         cause == 0
     }
     pub fn drive(&mut self, action: u32, m: &[Motion; 4]) {
         let motions = m.map(|m| port::Motion { joint_angle: m.joint_angle, sin: m.sin, cos: m.cos, vx: m.vx, vy: m.vy });
         let whole = port::drive(self.run, action, motions);
-        let answer = port::drive_in_place(&mut self.run, action, motions);
+        let mut answered = [port::Force::default(); 4];
+        let in_place = port::drive_in_place(&mut self.run, action, &motions, &mut answered);
         let (cause, push) = self.model.drive(action, m);
         let forces = |(f, p): (&port::Force, &oracle::Push)| [f.motor, f.fx, f.fy].map(bits) == [p.motor, p.fx, p.fy].map(bits);
         let right = |cause_said: u32, said: &[port::Force; 4], after: &port::State| {
             cause_said == cause as u32 && said.iter().zip(&push).all(forces) && same_state(after, &self.model.state)
         };
-        let same = right(answer.cause, &answer.forces, &self.run) && right(whole.cause, &whole.forces, &whole.run);
+        let same = right(in_place, &answered, &self.run) && right(whole.cause, &whole.forces, &whole.run);
         let what = if cause == 0 { "drive" } else { "drive, refused" };
-        self.check(what, same, || format!("cause {}, by value {}, not {cause}; action {action} {m:?}", answer.cause, whole.cause));
+        self.check(what, same, || format!("cause {}, by value {}, not {cause}; action {action} {m:?}", in_place, whole.cause));
     }
     pub fn settle(&mut self, lent: [usize; 3], x: f64, y: f64, poses: &[Pose; 4]) {
         let Both { model, run, .. } = self;

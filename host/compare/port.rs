@@ -30,6 +30,11 @@ struct CheckpointList {
     checkpoints: [Checkpoint; 12],
 }
 
+#[repr(C)]
+struct Motions {
+    wheels: [Motion; 4],
+}
+
 /// What drive answers by value, and the state after.
 #[repr(C)]
 pub struct Driven {
@@ -52,7 +57,7 @@ pub struct Settled {
 
 #[rustfmt::skip]
 extern "C" {
-    fn grader_drive(run: State, action: u32, motions: ffi::Motions) -> Driven;
+    fn grader_drive(run: State, action: u32, motions: Motions) -> Driven;
     fn grader_settle(run: State, t: F, tl: N, o: I, ol: N, l: I, ll: N, x: f64, y: f64, poses: ffi::Poses) -> Settled;
     fn grader_lay_attempts(attempts: u32, seed: u32, a: Fm, al: N, b: Fm, bl: N, x: Fm, xl: N, y: Fm, yl: N, t: Fm, tl: N, o: Im, ol: N, l: Im, ll: N) -> Laid;
     fn grader_lay_checkpoints(cs: CheckpointList, a: Fm, al: N, b: Fm, bl: N, x: Fm, xl: N, y: Fm, yl: N, t: Fm, tl: N, o: Im, ol: N, l: Im, ll: N) -> Laid;
@@ -113,7 +118,7 @@ pub fn start(c: Columns, n: u32, fallback: bool, lap_share: f64, tick_limit: u32
 }
 
 pub fn drive(run: State, action: u32, motions: [Motion; 4]) -> Driven {
-    unsafe { grader_drive(run, action, ffi::Motions { wheels: motions }) }
+    unsafe { grader_drive(run, action, Motions { wheels: motions }) }
 }
 
 #[rustfmt::skip]

@@ -116,11 +116,26 @@ pub struct Started {
     pub run: State,
 }
 
+/// A state but for its controls and sets.
 #[repr(C)]
-pub struct Driven {
-    pub cause: u32,
-    pub forces: [Force; 4],
-    pub core: Core,
+#[derive(Clone, Copy)]
+struct Counts {
+    n: u32,
+    visited_count: u32,
+    tick: u32,
+    tick_limit: u32,
+    lap_share: f64,
+    lap: bool,
+    ended: bool,
+    fallback: bool,
+    driven: bool,
+    fuel_spent: f64,
+}
+
+#[repr(C)]
+struct DroveLent {
+    cause: u32,
+    counts: Counts,
 }
 
 #[repr(C)]
@@ -168,15 +183,10 @@ pub struct Drawn {
     pub state: u64,
 }
 
-// C passes no array by value, so each stands in a struct.
+// C passes no array by value, so it stands in a struct.
 #[repr(C)]
 pub struct Poses {
     pub wheels: [Pose; 4],
-}
-
-#[repr(C)]
-pub struct Motions {
-    pub wheels: [Motion; 4],
 }
 
 type F = *const f64;
@@ -193,8 +203,8 @@ extern "C" {
     fn grader_points(gb: F, gbl: N, gx: F, gxl: N, gy: F, gyl: N, count: u32, a: Fm, al: N, b: Fm, bl: N, x: Fm, xl: N, y: Fm, yl: N, t: Fm, tl: N, o: Im, ol: N, l: Im, ll: N) -> Laid;
     fn grader_curbs(gb: F, gbl: N, gx: F, gxl: N, gy: F, gyl: N, count: u32, q: Fm, ql: N, w: *mut u8, wl: N) -> CurbsFound;
     fn grader_start(t: F, tl: N, o: I, ol: N, l: I, ll: N, n: u32, fallback: bool, share: f64, limit: u32, poses: Poses) -> Started;
-    fn grader_drive_in_place(core: Core, w: W, wl: N, action: u32, motions: Motions) -> Driven;
-    fn grader_settle_in_place(core: Core, c: Wm, cl: N, w: Wm, wl: N, t: F, tl: N, o: I, ol: N, l: I, ll: N, x: f64, y: f64, poses: Poses) -> Settled;
+    fn grader_drive_lent(counts: Counts, c: Fm, cl: N, w: W, wl: N, action: u32, m: F, ml: N, f: Fm, fl: N) -> DroveLent;
+    fn grader_settle_lent(core: Core, c: Wm, cl: N, w: Wm, wl: N, t: F, tl: N, o: I, ol: N, l: I, ll: N, x: f64, y: f64, poses: Poses) -> Settled;
     fn grader_sheet(run: State) -> Figures;
     fn grader_reward(weights: Weights, new_tiles: u32, n: u32, off: bool) -> f64;
     fn grader_replay(seed: u32, a: Fm, al: N, b: Fm, bl: N, x: Fm, xl: N, y: Fm, yl: N, t: Fm, tl: N, o: Im, ol: N, l: Im, ll: N, share: f64, limit: u32, poses: Poses, many: u32, c: I, cl: N, g: F, gl: N, w: Im, wl: N, n: Fm, nl: N) -> Replayed;
@@ -268,18 +278,28 @@ pub fn start(c: Columns, n: u32, fallback: bool, opening: Opening) -> Started {
     }
 }
 
-/// The state goes on where it stands: its sets are lent, the rest of it goes in and out by value.
-pub fn drive(run: &mut State, action: u32, motions: [Motion; 4]) -> Driven {
-    let d = unsafe { grader_drive_in_place(run.core, run.wheels.as_ptr(), run.wheels.len(), action, Motions { wheels: motions }) };
-    run.core = d.core;
-    d
+/// The state goes on where it stands: its controls and sets are lent, what else there is of it goes in by value. Answers the cause; the
+/// forces are written where it is 0. A wheel's control, motion and force are numbers alone, so four of them are as many numbers in a row.
+#[rustfmt::skip]
+pub fn drive(run: &mut State, action: u32, motions: &[Motion; 4], forces: &mut [Force; 4]) -> u32 {
+    let c = &mut run.core;
+    let counts = Counts {
+        n: c.n, visited_count: c.visited_count, tick: c.tick, tick_limit: c.tick_limit, lap_share: c.lap_share,
+        lap: c.lap, ended: c.ended, fallback: c.fallback, driven: c.driven, fuel_spent: c.fuel_spent,
+    };
+    let d = unsafe {
+        grader_drive_lent(counts, c.ctl.as_mut_ptr().cast(), 20, run.wheels.as_ptr(), run.wheels.len(), action,
+            motions.as_ptr().cast(), 20, forces.as_mut_ptr().cast(), 12)
+    };
+    (c.driven, c.fuel_spent) = (d.counts.driven, d.counts.fuel_spent);
+    d.cause
 }
 
-/// The same for a settle, which changes the sets.
+/// The same for a settle, which changes the sets and is lent no controls: the core goes in and out by value.
 #[rustfmt::skip]
 pub fn settle(run: &mut State, c: Columns, x: f64, y: f64, poses: [Pose; 4]) -> Settled {
     let s = unsafe {
-        grader_settle_in_place(run.core, run.credited.as_mut_ptr(), run.credited.len(), run.wheels.as_mut_ptr(), run.wheels.len(),
+        grader_settle_lent(run.core, run.credited.as_mut_ptr(), run.credited.len(), run.wheels.as_mut_ptr(), run.wheels.len(),
             c.tiles.as_ptr(), c.tiles.len(), c.offsets.as_ptr(), c.offsets.len(), c.list.as_ptr(), c.list.len(),
             x, y, Poses { wheels: poses })
     };
@@ -348,10 +368,13 @@ mod tests {
     #[test]
     fn sizes_are_those_of_the_header() {
         assert_eq!([size_of::<Pose>(), size_of::<Motion>(), size_of::<Force>(), size_of::<Wheel>()], [32, 40, 24, 40]);
-        assert_eq!([size_of::<Weights>(), size_of::<Poses>(), size_of::<Motions>()], [24, 128, 160]);
+        assert_eq!([size_of::<Weights>(), size_of::<Poses>()], [24, 128]);
         assert_eq!([size_of::<Core>(), size_of::<State>()], [200, 1800]);
         assert_eq!([size_of::<Laid>(), size_of::<CurbsFound>(), size_of::<Figures>(), size_of::<Replayed>()], [40, 8, 24, 80]);
-        assert_eq!([size_of::<Started>(), size_of::<Driven>(), size_of::<Settled>()], [1816, 304, 216]);
+        assert_eq!(
+            [size_of::<Started>(), size_of::<Counts>(), size_of::<DroveLent>(), size_of::<Settled>()],
+            [1816, 40, 48, 216]
+        );
         assert_eq!([size_of::<Angle>(), size_of::<Drawn>()], [16, 16]);
     }
 
@@ -371,7 +394,8 @@ mod tests {
         places!(Laid: cause 0, n 4, entries 8, fallback 12, beta 16, x 24, y 32);
         places!(CurbsFound: cause 0, count 4);
         places!(Started: cause 0, count 4, lap 8, run 16);
-        places!(Driven: cause 0, forces 8, core 104);
+        places!(Counts: n 0, visited_count 4, tick 8, tick_limit 12, lap_share 16, lap 24, ended 25, fallback 26, driven 27, fuel_spent 32);
+        places!(DroveLent: cause 0, counts 8);
         places!(Settled: cause 0, new_tiles 4, n 8, off 12, lap 13, ended 14, core 16);
         places!(Figures: cause 0, tick 4, credited 8, n 12, share 16, lap 20, ended 21, fallback 22);
         places!(Replayed: laid 0, start_cause 40, start_count 44, start_lap 48, sheet 52);

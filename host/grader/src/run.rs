@@ -71,9 +71,9 @@ impl Run {
     /// Forces for the host's physics: 0 does nothing, 1 steers right, 2 left, 3 is gas, 4 the brake. Refused by
     /// [`Refusal::NoRun`], [`Refusal::Turn`], [`Refusal::TickLimit`], [`Refusal::Action`] and [`Refusal::Number`].
     pub fn drive(&mut self, action: u32, motions: [Motion; 4]) -> Result<[Force; 4], Refusal> {
-        let d = ffi::drive(&mut self.state, action, motions);
-        Refusal::check(d.cause, 0)?;
-        Ok(d.forces)
+        let mut forces = [Force::default(); 4];
+        Refusal::check(ffi::drive(&mut self.state, action, &motions, &mut forces), 0)?;
+        Ok(forces)
     }
 
     /// The contact after physics: where the hull (x, y) and the wheels are now. `course` must be the one that the run was
