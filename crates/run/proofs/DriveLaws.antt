@@ -5,14 +5,14 @@ use mathlib.Core.Bool.{Bool, cond}
 use mathlib.Core.List.{List}
 use Prim.Native.Nat.{ℕ, zero, suc, _*_}
 use lib.ListN.{length}
-use borrow.Author.Tests.{eq-eqb, ne-eqb}
-use Rattle.run.specs.Drive.{driveCause, refusedDrive, driveAt, drivenOf, coreDriveOf, driveSetsOf, driveOf, driveCauseOf}
+use borrow.Author.Tests.{eq-eqb}
+use Rattle.run.specs.Drive.{driveCause, refusedDrive, driveAt, drivenOf, coreDriveOf, driveSetsOf, driveOf, driveCauseOf, driveAnswerOf}
 use Rattle.run.specs.Grip.{roadsOf}
 use Rattle.run.specs.Pass.{noForces}
 use Rattle.run.specs.declared.state.Core.{Core}
 use Rattle.run.specs.declared.state.Run.{Run}
 use Rattle.run.specs.declared.dynamics.Motion.{Motion}
-use Rattle.run.specs.declared.drive.Passed.{Passed}
+use Rattle.run.specs.Pass.{Passed}
 use Rattle.run.specs.declared.drive.CoreDrove.{CoreDrove}
 use Rattle.run.specs.declared.drive.Drove.{Drove}
 use Rattle.run.specs.declared.drive.DriveAnswer.the-variants.{Refused}
@@ -24,6 +24,12 @@ pub refused-at : (k : ℕ) (s : Core) (p : Passed) → (k ≡ 0 → ⊥) → ref
 unfolding driveAt
 refused-at zero s p z = absurd (z refl)
 refused-at (suc k) s p z = refl
+
+-- the answer of a number that is not 0
+pub answer-refused : (k : ℕ) → (k ≡ 0 → ⊥) → Refused k ≡ driveAnswerOf k
+unfolding driveAnswerOf
+answer-refused zero z = absurd (z refl)
+answer-refused (suc k) z = refl
 
 -- the answer's number is the cause's
 number-at : (k : ℕ) (s : Core) (p : Passed) → driveCauseOf (driveAt k s p .answer) ≡ k
@@ -59,13 +65,6 @@ module _ (m most : ℕ) (s : Core) (wheels : List ℕ) (action : ℕ) (ms : List
   pub sets-full : length wheels ≡ 4 * m → driveSetsOf m most s wheels action ms ≡ coreDriveOf most s action ms (roadsOf m wheels)
   unfolding driveSetsOf
   sets-full l = ap (λ (b : Bool). cond b (coreDriveOf most s action ms (roadsOf m wheels)) (refusedDrive 4 s)) (eq-eqb (length wheels) (4 * m) l)
-
-  pub sets-driven : (d : CoreDrove) (roads : List Bool) → length wheels ≡ 4 * m → roads ≡ roadsOf m wheels → d ≡ coreDriveOf most s action ms roads → d ≡ driveSetsOf m most s wheels action ms
-  sets-driven d roads l r e = e ∙ ap (λ (b : List Bool). coreDriveOf most s action ms b) r ∙ sym (sets-full l)
-
-  pub sets-other : (length wheels ≡ 4 * m → ⊥) → driveSetsOf m most s wheels action ms ≡ refusedDrive 4 s
-  unfolding driveSetsOf
-  sets-other l = ap (λ (b : Bool). cond b (coreDriveOf most s action ms (roadsOf m wheels)) (refusedDrive 4 s)) (ne-eqb (length wheels) (4 * m) l)
 
 -- ---- the call
 

@@ -17,7 +17,7 @@ use Rattle.run.specs.Dynamics.{tyreOf}
 use Rattle.run.specs.Arguments.{motionAt}
 use Rattle.run.specs.Pass.{ctlAt, roadAt, passOf, noForces}
 use Rattle.run.specs.State.{unfitCore}
-use Rattle.run.specs.Drive.{driveCause, drivenOf, driveAt, coreDriveOf, driveCauseOf}
+use Rattle.run.specs.Drive.{driveCause, drivenOf, refusedDrive, driveAt, coreDriveOf, driveSetsOf, driveCauseOf, driveAnswerOf}
 use Rattle.run.specs.DriveSteps.{controlOf, wheelPass, wheelsPass}
 use Rattle.run.specs.Replay.{motionFrom, motionsFrom, forceFrom, forceNumbers}
 use Rattle.run.specs.LentDrive.{wheelFrom, wheelsFrom, numbersOfWheels, forcesFrom, coreFrom, countsOf, LentDriven, lentWidths, inNumbers, driveLentOf}
@@ -25,8 +25,11 @@ use Rattle.run.specs.declared.state.WheelCtl.{WheelCtl}
 use Rattle.run.specs.declared.state.Core.{Core}
 use Rattle.run.specs.declared.dynamics.Force.{Force}
 use Rattle.run.specs.declared.dynamics.Turned.{Turned}
-use Rattle.run.specs.declared.drive.Passed.{Passed}
+use Rattle.run.specs.Pass.{Passed}
+use Rattle.run.specs.declared.dynamics.Motion.{Motion}
 use Rattle.run.specs.declared.drive.CoreDrove.{CoreDrove}
+use Rattle.run.specs.declared.drive.DriveAnswer.{DriveAnswer}
+use Rattle.run.specs.declared.drive.DriveAnswer.the-variants.{Forces, Refused}
 use Rattle.run.specs.declared.lent.Counts.{Counts}
 
 -- ---- a list by its entries
@@ -42,6 +45,10 @@ entries-all zero k d l e = sym (drop-of-length-le l {i = k} (omega (arith, e)))
 entries-all {A} (suc n) k d l e =
     ap (λ (r : List A). getD l k d ∷ r) (entries-all n (suc k) d l (omega (arith, e)))
     ∙ sym (drop-cons l k d (omega (arith, e)))
+
+pub four-entries : {A : Type 0} (d : A) (l : List A) → length l ≡ 4 → getD l 0 d ∷ getD l 1 d ∷ getD l 2 d ∷ getD l 3 d ∷ [] ≡ l
+unfolding entries
+four-entries d l e = entries-all 4 0 d l (sym e)
 
 -- ---- numbers of wheels and forces, and back
 
@@ -370,3 +377,80 @@ module _ (m most : ℕ) (s : Core) (wheels : List ℕ) (action : ℕ) (motion fo
   lent-is-drive =
       subst (λ (o : LentDriven). ReadsBack s forces o (coreDriveOf most s action (motionsFrom motion) (roadsOf m wheels))) (sym lent-in-numbers)
       (reads-back (driveCause most s action (motionsFrom motion)) s (passOf (s .ctl) action (motionsFrom motion) (roadsOf m wheels) (s .«fuel_spent»)) forces four-ctl refl refl)
+
+-- ---- a drive by value is a lent drive on the numbers of its controls and motions
+
+-- what a lent drive leaves, as structs
+abbrev pub inStructs : LentDriven → CoreDrove
+inStructs o = record { answer = driveAnswerOf (o .cause); forces = forcesFrom (o .forces); core = coreFrom (o .counts) (o .ctl) }
+
+-- by the cause's number
+in-structs : (k : ℕ) (s : Core) (p : Passed) (forces : List Float) → forcesFrom forces ≡ noForces → length (s .ctl) ≡ 4 → length (p .ctl) ≡ 4 → length (p .forces) ≡ 4
+    → inStructs (inNumbers (driveAt k s p) forces) ≡ driveAt k s p
+unfolding inNumbers driveAt drivenOf driveCauseOf driveAnswerOf
+in-structs zero s p forces none h w f = λ i. record { answer = Forces; forces = forces-of-numbers (p .forces) f i; core = core-back (drivenOf s p) w i }
+in-structs (suc k) s p forces none h w f =
+    let e = ap (λ (b : Bool). forcesFrom (cond b (forceNumbers noForces) forces)) (ne-eqb (suc k) 0 (λ z. omega (arith, z))) ∙ none in
+    λ i. record { answer = Refused (suc k); forces = e i; core = core-back s h i }
+
+and-true : (b : Bool) → ((b && true) && true) ≡ b
+and-true true = refl
+and-true false = refl
+
+by-width : (b : Bool) (x y : LentDriven) (d r : CoreDrove) → inStructs x ≡ d → inStructs y ≡ r → inStructs (cond b x y) ≡ cond b d r
+by-width true x y d r p q = p
+by-width false x y d r p q = q
+
+module _ (m most : ℕ) (s : Core) (wheels : List ℕ) (action : ℕ) (ms : List Motion) (ctl motion forces : List Float)
+    (twenty : length ctl ≡ 20) (motion-long : length motion ≡ 20) (twelve : length forces ≡ 12)
+    (controls : wheelsFrom ctl ≡ s .ctl) (given : motionsFrom motion ≡ ms) (none : forcesFrom forces ≡ noForces) where
+  core-is : coreFrom (countsOf s) ctl ≡ s
+  unfolding coreFrom countsOf
+  core-is =
+      λ i.
+      record {
+        n = s .n;
+        «visited_count» = s .«visited_count»;
+        tick = s .tick;
+        «tick_limit» = s .«tick_limit»;
+        «lap_share» = s .«lap_share»;
+        lap = s .lap;
+        ended = s .ended;
+        fallback = s .fallback;
+        driven = s .driven;
+        ctl = controls i;
+        «fuel_spent» = s .«fuel_spent»;
+      }
+
+  four-ctl : length (s .ctl) ≡ 4
+  unfolding wheelsFrom
+  four-ctl = ap length (sym controls)
+
+  accepted-is : inStructs (inNumbers (coreDriveOf most (coreFrom (countsOf s) ctl) action (motionsFrom motion) (roadsOf m wheels)) forces) ≡ coreDriveOf most s action ms (roadsOf m wheels)
+  unfolding coreDriveOf passOf
+  accepted-is =
+      (λ i. inStructs (inNumbers (coreDriveOf most (core-is i) action (given i) (roadsOf m wheels)) forces))
+      ∙ in-structs (driveCause most s action ms) s (passOf (s .ctl) action ms (roadsOf m wheels) (s .«fuel_spent»)) forces none four-ctl refl refl
+
+  refused-is : inStructs (record { cause = 4; counts = countsOf s; ctl = ctl; forces = forces }) ≡ refusedDrive 4 s
+  unfolding driveAnswerOf
+  refused-is = λ i. record { answer = Refused 4; forces = none i; core = core-is i }
+
+  widths-are : lentWidths m (length ctl) (length wheels) (length motion) (length forces) ≡ eqb (length wheels) (4 * m)
+  unfolding lentWidths
+  widths-are =
+      (λ i. ((eq-eqb (length ctl) 20 twenty i && eqb (length wheels) (4 * m)) && eq-eqb (length motion) 20 motion-long i) && eq-eqb (length forces) 12 twelve i)
+      ∙ and-true (eqb (length wheels) (4 * m))
+
+  lent-sets : inStructs (driveLentOf m most (countsOf s) ctl wheels action motion forces) ≡ driveSetsOf m most s wheels action ms
+  unfolding driveLentOf driveSetsOf
+  lent-sets =
+      rw widths-are (by-width (eqb (length wheels) (4 * m)) _ _ _ _ accepted-is refused-is)
+
+  -- answer, forces and state after, each made of what the lent drive o leaves
+  pub sets-lent : (a : DriveAnswer) (fs : List Force) (t : Core) (o : LentDriven) (c : Counts) → a ≡ driveAnswerOf (o .cause) → fs ≡ forcesFrom (o .forces) → t ≡ coreFrom (o .counts) (o .ctl)
+      → c ≡ countsOf s → o ≡ driveLentOf m most c ctl wheels action motion forces → record { answer = a; forces = fs; core = t } ≡ driveSetsOf m most s wheels action ms
+  sets-lent a fs t o c ea ef et ec eo =
+      (λ i. record { answer = ea i; forces = ef i; core = et i })
+      ∙ ap inStructs (eo ∙ ap (λ (k : Counts). driveLentOf m most k ctl wheels action motion forces) ec)
+      ∙ lent-sets

@@ -8,7 +8,6 @@ pub mod InPlaceLaws
 pub mod Literals
 pub mod SmallForces
 pub mod MotorLaw
-pub mod PassLaws
 pub mod Tests
 pub mod AnyLaws
 pub mod DriveLaws

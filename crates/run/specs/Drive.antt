@@ -11,7 +11,7 @@ use Rattle.run.specs.Grip.{roadsOf}
 use Rattle.run.specs.declared.state.Core.{Core}
 use Rattle.run.specs.declared.state.Run.{Run}
 use Rattle.run.specs.declared.dynamics.Motion.{Motion}
-use Rattle.run.specs.declared.drive.Passed.{Passed}
+use Rattle.run.specs.Pass.{Passed}
 use Rattle.run.specs.declared.drive.CoreDrove.{CoreDrove}
 use Rattle.run.specs.declared.drive.Drove.{Drove}
 use Rattle.run.specs.declared.drive.DriveAnswer.{DriveAnswer}
@@ -77,3 +77,8 @@ driveSetsOf m most s wheels action ms =
 unfoldable pub driveCauseOf : DriveAnswer → ℕ
 driveCauseOf Forces = 0
 driveCauseOf (Refused k) = k
+
+-- the answer of a cause's number, 0 where it is accepted
+unfoldable pub driveAnswerOf : ℕ → DriveAnswer
+driveAnswerOf zero = Forces
+driveAnswerOf (suc k) = Refused (suc k)

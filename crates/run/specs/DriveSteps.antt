@@ -10,7 +10,7 @@ use Rattle.run.specs.Pass.{frontOf, rearOf, ctlAt, roadAt}
 use Rattle.run.specs.Arguments.{motionAt}
 use Rattle.run.specs.declared.state.WheelCtl.{WheelCtl}
 use Rattle.run.specs.declared.dynamics.Motion.{Motion}
-use Rattle.run.specs.declared.drive.Passed.{Passed}
+use Rattle.run.specs.Pass.{Passed}
 
 -- the controls of wheel i by the action
 unfoldable pub controlOf : ℕ → ℕ → WheelCtl → WheelCtl

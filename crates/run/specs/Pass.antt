@@ -12,7 +12,6 @@ use Rattle.run.specs.Dynamics.{tyreOf}
 use Rattle.run.specs.declared.state.WheelCtl.{WheelCtl}
 use Rattle.run.specs.declared.dynamics.Motion.{Motion}
 use Rattle.run.specs.declared.dynamics.Force.{Force}
-use Rattle.run.specs.declared.drive.Passed.{Passed}
 
 -- ---- the action rule of `step`: 1 steers to −0.6 (clockwise, to the right), 2 to 0.6, 3 gives gas, 4 brakes
 
@@ -41,6 +40,12 @@ unfoldable pub rearOf : ℕ → WheelCtl → WheelCtl
 rearOf action w = record { gas = raisedOf (gasOf action) (w .gas); brake = brakeOf action; steer = w .steer; omega = w .omega; phase = w .phase }
 
 -- ---- the four wheels in their order, the fuel going from one to the next
+
+-- what the pass leaves: controls, forces and the fuel spent
+pub record Passed : Type 0 where
+  pub ctl : List WheelCtl
+  pub forces : List Force
+  pub «fuel_spent» : Float
 
 abbrev pub ctlAt : List WheelCtl → ℕ → WheelCtl
 ctlAt ws i = getD ws i (record { gas = nan; brake = nan; steer = nan; omega = nan; phase = nan })

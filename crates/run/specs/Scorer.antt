@@ -21,7 +21,7 @@ use Rattle.run.specs.Answers.{Answer}
 use Rattle.run.specs.Answers.Answer.{drove, settled, refused}
 use Rattle.run.specs.declared.state.Pose.{Pose}
 use Rattle.run.specs.declared.dynamics.Motion.{Motion}
-use Rattle.run.specs.declared.drive.Passed.{Passed}
+use Rattle.run.specs.Pass.{Passed}
 
 -- ---- what it is told
 

@@ -4,20 +4,19 @@ ghost use Prim.Native.Nat.{ℕ, _+_, _*_, _^_, _≤_, _<_};
 ghost use lib.ListN.{length, getD};
 ghost use Rattle.run.specs.Widths.{fullWords, mostTiles};
 ghost use Rattle.run.specs.Grip.{onRoad, roadsOf};
-ghost use Rattle.run.specs.Drive.{driveCause, refusedDrive, coreDriveOf, driveSetsOf, driveOf};
-ghost use Rattle.run.specs.Pass.{indicator, frontOf, rearOf, passOf};
-ghost use Rattle.run.specs.Arguments.{motionOk, motionsOk};
+ghost use Rattle.run.specs.Drive.{driveAnswerOf, driveSetsOf, driveOf};
+ghost use Rattle.run.specs.Pass.{indicator, frontOf, rearOf};
+ghost use Rattle.run.specs.Arguments.{motionOk};
+ghost use Rattle.run.specs.Replay.{motionsFrom};
+ghost use Rattle.run.specs.LentDrive.{wheelsFrom};
 ghost use Rattle.run.specs.DriveSteps.{controlOf, anyStands};
-use crate::dynamics;
 use crate::dynamics::Force;
 use crate::dynamics::Motion;
+use crate::lent;
 use crate::state;
 use crate::state::Core;
 use crate::state::Run;
 use crate::state::WheelCtl;
-use crate::widths::FULL_WORDS;
-use crate::widths::MOST_TILES;
-use crate::widths::WHEEL_WORDS;
 use course::numeric;
 
 // How a drive is answered: with forces, or refused by a cause's number.
@@ -38,13 +37,6 @@ pub struct CoreDrove {
     pub answer: DriveAnswer,
     pub forces: [Force; 4],
     pub core: Core,
-}
-
-// What the pass over the wheels leaves.
-pub(crate) struct Passed {
-    pub ctl: [WheelCtl; 4],
-    pub forces: [Force; 4],
-    pub fuel_spent: f64,
 }
 
 // `f64::from` of a bool.
@@ -89,42 +81,6 @@ pub(crate) fn control(w: WheelCtl, i: usize, action: u32) -> WheelCtl
     rear(w, action)
 }
 
-// Action rule and tyre pass over the four wheels, in their order, the fuel going from one to the next. A
-// loop has one place of the call, so the compiler puts the tyre's code there.
-pub(crate) fn pass(
-    ctl: [WheelCtl; 4],
-    action: u32,
-    motion: [Motion; 4],
-    roads: [bool; 4],
-    fuel: f64,
-) -> Passed
-    ensures { λ r. ⌜ r ≡ passOf ctl action motion roads fuel ⌝ }
-{
-    let z = Force {
-        motor: 0.0,
-        fx: 0.0,
-        fy: 0.0,
-    };
-    let mut forces = [z, z, z, z];
-    let mut wheels = ctl;
-    let mut spent = fuel;
-    let mut i: usize = 0;
-    while i < 4 {
-        let t = dynamics::tyre(control(wheels[i], i, action), motion[i], roads[i], spent);
-        let w = t.ctl;
-        let f = t.force;
-        wheels[i] = w;
-        forces[i] = f;
-        spent = t.fuel_spent;
-        i += 1;
-    }
-    Passed {
-        ctl: wheels,
-        forces,
-        fuel_spent: spent,
-    }
-}
-
 // A wheel's five numbers are in range.
 pub(crate) fn motion_ok(m: Motion) -> bool
     ensures { λ r. ⌜ r ≡ motionOk m ⌝ }
@@ -134,80 +90,6 @@ pub(crate) fn motion_ok(m: Motion) -> bool
         & state::in_range(m.cos)
         & state::in_range(m.vx)
         & state::in_range(m.vy)
-}
-
-// Four wheels' numbers are in range.
-pub(crate) fn motions_ok(motion: [Motion; 4]) -> bool
-    ensures { λ r. ⌜ r ≡ motionsOk motion ⌝ }
-{
-    motion_ok(motion[0]) & motion_ok(motion[1]) & motion_ok(motion[2]) & motion_ok(motion[3])
-}
-
-// The number of the first cause that holds, or 0.
-pub(crate) fn cause(most: u32, s: Core, action: u32, motion: [Motion; 4]) -> u32
-    ensures { λ r. ⌜ r ≡ driveCause most s action motion ⌝ }
-{
-    if state::is_unfit(most, s) | s.ended {
-        return 4;
-    }
-    if s.driven {
-        return 5;
-    }
-    if s.tick_limit <= s.tick {
-        return 6;
-    }
-    if 4 < action {
-        return 7;
-    }
-    if !motions_ok(motion) {
-        return 8;
-    }
-    0
-}
-
-// A refused drive: the number of its cause, and the state as it was.
-fn refused(number: u32, s: Core) -> CoreDrove
-    ensures { λ r. ⌜ r ≡ refusedDrive number s ⌝ }
-{
-    let z = Force {
-        motor: 0.0,
-        fx: 0.0,
-        fy: 0.0,
-    };
-    CoreDrove {
-        answer: DriveAnswer::Refused(number),
-        forces: [z, z, z, z],
-        core: s,
-    }
-}
-
-// The call but for the bit sets, where sets hold `most` tiles: the same for every number of words.
-pub(crate) fn core_drive(
-    most: u32,
-    s: Core,
-    action: u32,
-    motion: [Motion; 4],
-    roads: [bool; 4],
-) -> CoreDrove
-    ensures { λ r. ⌜ r ≡ coreDriveOf most s action motion roads ⌝ }
-{
-    let number = cause(most, s, action, motion);
-    if number != 0 {
-        return refused(number, s);
-    }
-    let ctl = s.ctl;
-    let p = pass(ctl, action, motion, roads, s.fuel_spent);
-    let wheels = p.ctl;
-    let forces = p.forces;
-    let mut next = s;
-    next.ctl = wheels;
-    next.fuel_spent = p.fuel_spent;
-    next.driven = true;
-    CoreDrove {
-        answer: DriveAnswer::Forces,
-        forces,
-        core: next,
-    }
 }
 
 // Whether one of `count` words from `from` on is not 0. It reads them all: a loop of known length the compiler unrolls,
@@ -262,16 +144,105 @@ pub(crate) fn roads_of(wheels: &[u64], words: usize) -> [bool; 4]
     [a, b, c, d]
 }
 
-// The call where the wheels' sets are lent, which it only reads: a caller who keeps the state moves none of them. Sets of
+// The numbers of four controls, five to a wheel.
+fn control_numbers(ctl: [WheelCtl; 4]) -> [f64; 20]
+    ensures { λ r. ⌜ wheelsFrom r ≡ ctl ⌝ }
+{
+    let a = ctl[0];
+    let b = ctl[1];
+    let c = ctl[2];
+    let d = ctl[3];
+    [
+        a.gas,
+        a.brake,
+        a.steer,
+        a.omega,
+        a.phase,
+        b.gas,
+        b.brake,
+        b.steer,
+        b.omega,
+        b.phase,
+        c.gas,
+        c.brake,
+        c.steer,
+        c.omega,
+        c.phase,
+        d.gas,
+        d.brake,
+        d.steer,
+        d.omega,
+        d.phase,
+    ]
+}
+
+// The numbers of four motions, five to a wheel.
+fn motion_numbers(motion: [Motion; 4]) -> [f64; 20]
+    ensures { λ r. ⌜ motionsFrom r ≡ motion ⌝ }
+{
+    let a = motion[0];
+    let b = motion[1];
+    let c = motion[2];
+    let d = motion[3];
+    [
+        a.joint_angle,
+        a.sin,
+        a.cos,
+        a.vx,
+        a.vy,
+        b.joint_angle,
+        b.sin,
+        b.cos,
+        b.vx,
+        b.vy,
+        c.joint_angle,
+        c.sin,
+        c.cos,
+        c.vx,
+        c.vy,
+        d.joint_angle,
+        d.sin,
+        d.cos,
+        d.vx,
+        d.vy,
+    ]
+}
+
+// The answer by its cause's number.
+fn answer_of(number: u32) -> DriveAnswer
+    ensures { λ r. ⌜ r ≡ driveAnswerOf number ⌝ }
+{
+    if number == 0 {
+        return DriveAnswer::Forces;
+    }
+    DriveAnswer::Refused(number)
+}
+
+// The call where the wheels' sets are lent, which it only reads: `drive_lent` on the numbers of controls and motions. Sets of
 // other widths are no run's (cause 4).
 pub fn drive_in_place(core: Core, wheels: &[u64], action: u32, motion: [Motion; 4]) -> CoreDrove
     ensures { λ r. ⌜ r ≡ driveSetsOf fullWords mostTiles core (now (wheels .entry)) action motion ⌝ }
 {
-    if wheels.len() != WHEEL_WORDS {
-        return refused(4, core);
+    let ctl = core.ctl;
+    let mut numbers = control_numbers(ctl);
+    let given = motion_numbers(motion);
+    let mut pushes = [0.0; 12];
+    let d = lent::drive_lent(
+        lent::counts_of(core),
+        &mut numbers,
+        wheels,
+        action,
+        &given,
+        &mut pushes,
+    );
+    let answer = answer_of(d.cause);
+    let forces = lent::forces_from(&pushes);
+    let next = lent::core_from(d.counts, &numbers);
+    CoreDrove {
+        answer,
+        forces,
+        core: next,
     }
-    let roads = roads_of(wheels, FULL_WORDS);
-    core_drive(MOST_TILES, core, action, motion, roads)
 }
 
 // Forces for the host, or the number of a cause and the state as it was.

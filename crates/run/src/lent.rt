@@ -8,12 +8,13 @@ ghost use Rattle.run.specs.Widths.{fullWords, mostTiles};
 ghost use Rattle.run.specs.Arguments.{motionsOk};
 ghost use Rattle.run.specs.Drive.{driveCause};
 ghost use Rattle.run.specs.Pass.{passOf};
-ghost use Rattle.run.specs.Replay.{motionFrom, motionsFrom, forceNumbers};
-ghost use Rattle.run.specs.LentDrive.{wheelFrom, wheelsFrom, numbersOfWheels, coreFrom, lentWidths, lentDriven, driveLentOf};
+ghost use Rattle.run.specs.Replay.{motionFrom, motionsFrom, forceFrom, forceNumbers};
+ghost use Rattle.run.specs.LentDrive.{wheelFrom, wheelsFrom, numbersOfWheels, forcesFrom, countsOf, coreFrom, lentWidths, lentDriven, driveLentOf};
 use crate::drive;
 use crate::dynamics;
 use crate::dynamics::Force;
 use crate::dynamics::Motion;
+use crate::state::Core;
 use crate::state::WheelCtl;
 use crate::widths::FULL_WORDS;
 use crate::widths::MOST_TILES;
@@ -57,6 +58,72 @@ fn wheel_at(ctl: &[f64], i: usize) -> WheelCtl
         steer: ctl[i + 2],
         omega: ctl[i + 3],
         phase: ctl[i + 4],
+    }
+}
+
+// A wheel's force, from number i on.
+fn force_at(forces: &[f64], i: usize) -> Force
+    requires { do ⌜ i + 3 ≤ (← ⟦forces.len()⟧) ⌝ }
+    ensures { λ r. ⌜ r ≡ forceFrom (now (forces .entry)) i ⌝ }
+{
+    Force {
+        motor: forces[i],
+        fx: forces[i + 1],
+        fy: forces[i + 2],
+    }
+}
+
+// The four forces that twelve numbers hold.
+pub(crate) fn forces_from(forces: &[f64]) -> [Force; 4]
+    requires { do ⌜ 12 ≤ (← ⟦forces.len()⟧) ⌝ }
+    ensures { λ r. ⌜ r ≡ forcesFrom (now (forces .entry)) ⌝ }
+{
+    let a = force_at(forces, 0);
+    let b = force_at(forces, 3);
+    let c = force_at(forces, 6);
+    let d = force_at(forces, 9);
+    [a, b, c, d]
+}
+
+// A state but for its controls and sets.
+pub(crate) fn counts_of(s: Core) -> Counts
+    ensures { λ r. ⌜ r ≡ countsOf s ⌝ }
+{
+    Counts {
+        n: s.n,
+        visited_count: s.visited_count,
+        tick: s.tick,
+        tick_limit: s.tick_limit,
+        lap_share: s.lap_share,
+        lap: s.lap,
+        ended: s.ended,
+        fallback: s.fallback,
+        driven: s.driven,
+        fuel_spent: s.fuel_spent,
+    }
+}
+
+// A state but for its sets, from the counts and the controls' numbers.
+pub(crate) fn core_from(c: Counts, ctl: &[f64]) -> Core
+    requires { do ⌜ 20 ≤ (← ⟦ctl.len()⟧) ⌝ }
+    ensures { λ r. ⌜ r ≡ coreFrom c (now (ctl .entry)) ⌝ }
+{
+    let w0 = wheel_at(ctl, 0);
+    let w1 = wheel_at(ctl, 5);
+    let w2 = wheel_at(ctl, 10);
+    let w3 = wheel_at(ctl, 15);
+    Core {
+        n: c.n,
+        visited_count: c.visited_count,
+        tick: c.tick,
+        tick_limit: c.tick_limit,
+        lap_share: c.lap_share,
+        lap: c.lap,
+        ended: c.ended,
+        fallback: c.fallback,
+        driven: c.driven,
+        ctl: [w0, w1, w2, w3],
+        fuel_spent: c.fuel_spent,
     }
 }
 

@@ -1,31 +1,82 @@
 -- `run::drive::drive_in_place` meets its contract. Assumes nothing.
-use mathlib.Core.Path.{sym, _∙_}
-use native.Mathlib.Omega.{arith}
-use Rattle.run.proofs.DriveLaws.{sets-driven, sets-other}
+use mathlib.Core.Path.{_≡_, refl}
+use lib.ListN.{length}
+use Rattle.run.specs.Replay.{forceFrom}
+use Rattle.run.specs.LentDrive.{forcesFrom}
+use Rattle.run.proofs.LentLaws.{sets-lent}
 use borrow.Author.Needs.{needs}
 use Rattle.run.proofs.drive.drive_in_place.Statement.{statement}
 use Rattle.run.proofs.drive.drive_in_place.Tie as tie
 use Rattle.run.proofs.drive.drive_in_place.Reads as reads
 use Rattle.run.proofs.drive.drive_in_place.Lts as lts
-use Rattle.run.proofs.drive.core_drive.Reads as core-drive-reads
-use Rattle.run.proofs.drive.refused.Reads as refused-reads
-use Rattle.run.proofs.drive.roads_of.Reads as roads-of-reads
+use Rattle.run.proofs.drive.answer_of.Reads as answer-of-reads
+use Rattle.run.proofs.drive.control_numbers.Reads as control-numbers-reads
+use Rattle.run.proofs.drive.motion_numbers.Reads as motion-numbers-reads
+use Rattle.run.proofs.lent.core_from.Reads as core-from-reads
+use Rattle.run.proofs.lent.counts_of.Reads as counts-of-reads
+use Rattle.run.proofs.lent.drive_lent.Reads as drive-lent-reads
+use Rattle.run.proofs.lent.forces_from.Reads as forces-from-reads
 
-refused-requires : tie.Need-refused-requires
-refused-requires c κs = search needs
+control-numbers-requires : tie.Need-control-numbers-requires
+control-numbers-requires c κs = search needs
+
+motion-numbers-requires : tie.Need-motion-numbers-requires
+motion-numbers-requires c κs = search needs
+
+counts-of-requires : tie.Need-counts-of-requires
+counts-of-requires c κs = search needs
+
+slice-aggregate-drive-lent : tie.Need-slice-aggregate-drive-lent
+slice-aggregate-drive-lent c = search needs
+
+slice-aggregate-drive-lent-2 : tie.Need-slice-aggregate-drive-lent-2
+slice-aggregate-drive-lent-2 c = search needs
+
+slice-aggregate-drive-lent-3 : tie.Need-slice-aggregate-drive-lent-3
+slice-aggregate-drive-lent-3 c = search needs
+
+drive-lent-requires : tie.Need-drive-lent-requires
+drive-lent-requires c κs = search needs
+
+answer-of-requires : tie.Need-answer-of-requires
+answer-of-requires c κs = search needs
+
+slice-aggregate-forces-from : tie.Need-slice-aggregate-forces-from
+slice-aggregate-forces-from c = search needs
+
+forces-from-requires : tie.Need-forces-from-requires
+forces-from-requires c κs = search needs
+
+slice-aggregate-core-from : tie.Need-slice-aggregate-core-from
+slice-aggregate-core-from c = search needs
+
+core-from-requires : tie.Need-core-from-requires
+core-from-requires c κs = search needs
 
 returns : tie.Need-returns
-returns c = c .refused .ensures ∙ sym (sets-other _ _ _ _ _ _ (c .before .if1 .taken))
-
-roads-of-requires : tie.Need-roads-of-requires
-roads-of-requires c κs = omega (arith, c .if1 .left)
-
-core-drive-requires : tie.Need-core-drive-requires
-core-drive-requires c κs = search needs
-
-returns-2 : tie.Need-returns-2
-returns-2 c = sets-driven _ _ _ _ _ _ _ _ (c .before .before .if1 .left) (c .before .roads-of .ensures) (c .core-drive .ensures)
+unfolding forcesFrom forceFrom
+returns c =
+    let l = c .before .before .before .before .before .before .before in
+    let n = l .before .before .before .before in
+    let twenty : length (n .before .before .control-numbers .result) ≡ 20 = search needs in
+    let motion-long : length (n .before .motion-numbers .result) ≡ 20 = search needs in
+    sets-lent _ _ _ _ _ _ _ _ _ twenty motion-long refl (n .before .before .control-numbers .ensures) (n .before .motion-numbers .ensures) refl _ _ _ _ _
+    (c .before .before .before .before .answer-of .ensures) (c .before .before .forces-from .ensures) (c .core-from .ensures) (n .counts-of .ensures) (l .drive-lent .ensures)
 
 pub drive-in-place-spec : {M : Type 1} → statement M
 drive-in-place-spec =
-    tie.close (tie.spec refused-requires returns roads-of-requires core-drive-requires returns-2)
+    tie.close
+    (tie.spec
+    control-numbers-requires
+    motion-numbers-requires
+    counts-of-requires
+    slice-aggregate-drive-lent
+    slice-aggregate-drive-lent-2
+    slice-aggregate-drive-lent-3
+    drive-lent-requires
+    answer-of-requires
+    slice-aggregate-forces-from
+    forces-from-requires
+    slice-aggregate-core-from
+    core-from-requires
+    returns)
