@@ -6,7 +6,7 @@ use crate::dynamics::Motion;
 use crate::state::Pose;
 
 // A wheel's motion, from number i on.
-fn motion(numbers: &[f64], i: usize) -> Motion
+pub(crate) fn motion(numbers: &[f64], i: usize) -> Motion
     requires { do ⌜ i + 5 ≤ (← ⟦numbers.len()⟧) ⌝ }
     ensures { λ r. ⌜ r ≡ motionFrom (now (numbers .entry)) i ⌝ }
 {

@@ -8,12 +8,13 @@ ghost use Rattle.run.specs.Widths.{fullWords, mostTiles};
 ghost use Rattle.run.specs.Arguments.{motionsOk};
 ghost use Rattle.run.specs.Drive.{driveCause};
 ghost use Rattle.run.specs.Pass.{passOf};
-ghost use Rattle.run.specs.Replay.{motionFrom, motionsFrom, forceFrom, forceNumbers};
+ghost use Rattle.run.specs.Replay.{motionsFrom, forceFrom, forceNumbers};
 ghost use Rattle.run.specs.LentDrive.{wheelFrom, wheelsFrom, numbersOfWheels, forcesFrom, countsOf, coreFrom, lentWidths, lentDriven, driveLentOf};
+use crate::answer;
+use crate::call;
 use crate::drive;
 use crate::dynamics;
 use crate::dynamics::Force;
-use crate::dynamics::Motion;
 use crate::state::Core;
 use crate::state::WheelCtl;
 use crate::widths::FULL_WORDS;
@@ -139,30 +140,6 @@ fn put_wheel(ctl: &mut [f64], i: usize, w: WheelCtl)
     ctl[i + 4] = w.phase;
 }
 
-// A wheel's motion, from number i on.
-fn motion_at(motion: &[f64], i: usize) -> Motion
-    requires { do ⌜ i + 5 ≤ (← ⟦motion.len()⟧) ⌝ }
-    ensures { λ r. ⌜ r ≡ motionFrom (now (motion .entry)) i ⌝ }
-{
-    Motion {
-        joint_angle: motion[i],
-        sin: motion[i + 1],
-        cos: motion[i + 2],
-        vx: motion[i + 3],
-        vy: motion[i + 4],
-    }
-}
-
-// A wheel's force is written, from number i on.
-fn put_force(forces: &mut [f64], i: usize, f: Force)
-    requires { ⌜ i + 3 ≤ length (now forces) ⌝ }
-    ensures { λ _. ⌜ now (forces .exit) ≡ set (set (set (now (forces .entry)) i (f .motor)) (i + 1) (f .fx)) (i + 2) (f .fy) ⌝ }
-{
-    forces[i] = f.motor;
-    forces[i + 1] = f.fx;
-    forces[i + 2] = f.fy;
-}
-
 // Action rule and tyre pass over the four wheels, in their order, the fuel going from one to the next: each wheel's
 // control is changed where it stands, and its force is written. It returns the fuel spent after. A loop has one place
 // of the call, so the compiler puts the tyre's code there.
@@ -186,11 +163,11 @@ fn pass_lent(
     while i < 4 {
         let at = WHEEL_NUMBERS * i;
         let w = drive::control(wheel_at(ctl, at), i, action);
-        let t = dynamics::tyre(w, motion_at(motion, at), roads[i], spent);
+        let t = dynamics::tyre(w, call::motion(motion, at), roads[i], spent);
         let v = t.ctl;
         let f = t.force;
         put_wheel(ctl, at, v);
-        put_force(forces, FORCE_NUMBERS * i, f);
+        answer::put_force(f, FORCE_NUMBERS * i, forces);
         spent = t.fuel_spent;
         i += 1;
     }
@@ -202,10 +179,10 @@ fn motions_lent_ok(motion: &[f64]) -> bool
     requires { do ⌜ 20 ≤ (← ⟦motion.len()⟧) ⌝ }
     ensures { λ r. ⌜ r ≡ motionsOk (motionsFrom (now (motion .entry))) ⌝ }
 {
-    drive::motion_ok(motion_at(motion, 0))
-        & drive::motion_ok(motion_at(motion, 5))
-        & drive::motion_ok(motion_at(motion, 10))
-        & drive::motion_ok(motion_at(motion, 15))
+    drive::motion_ok(call::motion(motion, 0))
+        & drive::motion_ok(call::motion(motion, 5))
+        & drive::motion_ok(call::motion(motion, 10))
+        & drive::motion_ok(call::motion(motion, 15))
 }
 
 // The number of the first cause that holds, or 0. No cause looks at the controls.

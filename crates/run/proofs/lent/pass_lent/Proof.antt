@@ -15,8 +15,8 @@ use Rattle.run.proofs.lent.pass_lent.Reads as reads
 use Rattle.run.proofs.lent.pass_lent.Lts as lts
 use Rattle.run.proofs.drive.control.Reads as control-reads
 use Rattle.run.proofs.dynamics.tyre.Reads as tyre-reads
-use Rattle.run.proofs.lent.motion_at.Reads as motion-at-reads
-use Rattle.run.proofs.lent.put_force.Reads as put-force-reads
+use Rattle.run.proofs.call.motion.Reads as motion-reads
+use Rattle.run.proofs.answer.put_force.Reads as put-force-reads
 use Rattle.run.proofs.lent.put_wheel.Reads as put-wheel-reads
 use Rattle.run.proofs.lent.wheel_at.Reads as wheel-at-reads
 
@@ -38,8 +38,8 @@ wheel-at-requires c κs = omega (arith, c .before .before .loop .inv .ctl-long, 
 control-requires : tie.Need-control-requires Inv-loop μ-loop
 control-requires c κs = search needs
 
-motion-at-requires : tie.Need-motion-at-requires Inv-loop μ-loop
-motion-at-requires c κs = search needs
+motion-requires : tie.Need-motion-requires Inv-loop μ-loop
+motion-requires c κs = search needs
 
 array-read-tyre : tie.Need-array-read-tyre Inv-loop μ-loop
 array-read-tyre c = search needs
@@ -74,7 +74,7 @@ loop-again c =
     let a = v .before .before .before .before .before .before .before .args in
     let same : t .tyre .result ≡ tyreOf (controlOf (a .action) (k .i) (wheelFrom (k .ctl) (5 * k .i))) (motionFrom (a .motion .now) (5 * k .i)) (roadAt (a .t4) (k .i)) (k .spent) =
     t .tyre .ensures
-    ∙ (λ j. tyreOf ((w .control .ensures ∙ ap (controlOf (a .action) (k .i)) (v .wheel-at .ensures)) j) (m .motion-at .ensures j) (roadAt (a .t4) (k .i)) (k .spent)) in
+    ∙ (λ j. tyreOf ((w .control .ensures ∙ ap (controlOf (a .action) (k .i)) (v .wheel-at .ensures)) j) (m .motion .ensures j) (roadAt (a .t4) (k .i)) (k .spent)) in
     one-wheel (a .action) (a .motion .now) (a .t4) (a .ctl .now) (a .forces .now) (a .fuel) (k .ctl) (k .forces) _ _ (k .spent) (k .i) (t .tyre .result) (v .before .before .loop-test .taken) (k .inv) same (p .put-wheel .ensures) (f .put-force .ensures)
 
 same-length : tie.Need-same-length Inv-loop μ-loop
@@ -96,7 +96,7 @@ pass-lent-spec =
     mul-at
     wheel-at-requires
     control-requires
-    motion-at-requires
+    motion-requires
     array-read-tyre
     tyre-requires
     put-wheel-requires
