@@ -24,7 +24,7 @@ pub extern "C" fn grader_drive_lent(
     motion: &[f64],
     forces: &mut [f64],
 ) -> DroveLent
-    ensures { λ r. ⌜ lentDriven r (now (ctl .exit)) (now (forces .exit)) ≡ driveLentOf fullWords mostTiles counts (now (ctl .entry)) (now (wheels .entry)) action (now (motion .entry)) (now (forces .entry)) ⌝ }
+    ensures { λ r. ⌜ lentDriven counts r (now (ctl .exit)) (now (forces .exit)) ≡ driveLentOf fullWords mostTiles counts (now (ctl .entry)) (now (wheels .entry)) action (now (motion .entry)) (now (forces .entry)) ⌝ }
 {
     lent::drive_lent(counts, ctl, wheels, action, motion, forces)
 }

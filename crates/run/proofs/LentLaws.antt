@@ -20,7 +20,7 @@ use Rattle.run.specs.State.{unfitCore}
 use Rattle.run.specs.Drive.{driveCause, drivenOf, refusedDrive, driveAt, coreDriveOf, driveSetsOf, driveCauseOf, driveAnswerOf}
 use Rattle.run.specs.DriveSteps.{controlOf, wheelPass, wheelsPass}
 use Rattle.run.specs.Replay.{motionFrom, motionsFrom, forceFrom, forceNumbers}
-use Rattle.run.specs.LentDrive.{wheelFrom, wheelsFrom, numbersOfWheels, forcesFrom, coreFrom, countsOf, LentDriven, lentWidths, inNumbers, driveLentOf}
+use Rattle.run.specs.LentDrive.{wheelFrom, wheelsFrom, numbersOfWheels, forcesFrom, coreFrom, countsOf, countsAfter, LentDriven, lentDriven, lentWidths, inNumbers, driveLentOf}
 use Rattle.run.specs.declared.state.WheelCtl.{WheelCtl}
 use Rattle.run.specs.declared.state.Core.{Core}
 use Rattle.run.specs.declared.dynamics.Force.{Force}
@@ -31,6 +31,7 @@ use Rattle.run.specs.declared.drive.CoreDrove.{CoreDrove}
 use Rattle.run.specs.declared.drive.DriveAnswer.{DriveAnswer}
 use Rattle.run.specs.declared.drive.DriveAnswer.the-variants.{Forces, Refused}
 use Rattle.run.specs.declared.lent.Counts.{Counts}
+use Rattle.run.specs.declared.lent.DroveLent.{DroveLent}
 
 -- ---- a list by its entries
 
@@ -277,6 +278,11 @@ in-numbers-accepted : (c : Counts) (ctl forces : List Float) (p : Passed)
 unfolding inNumbers driveAt drivenOf driveCauseOf coreFrom countsOf
 in-numbers-accepted c ctl forces p = refl
 
+-- a refusal's number beside counts as they were
+pub refused-says : (c : Counts) (r : DroveLent) (k : ℕ) (ctl forces : List Float) → r .cause ≡ k → countsAfter c r ≡ c
+    → lentDriven c r ctl forces ≡ record { cause = k; counts = c; ctl = ctl; forces = forces }
+refused-says c r k ctl forces e p = λ i. record { cause = e i; counts = p i; ctl = ctl; forces = forces }
+
 module _ (m most : ℕ) (c : Counts) (ctl : List Float) (wheels : List ℕ) (action : ℕ) (motion forces : List Float) where
   abbrev lengths : Bool
   lengths = lentWidths m (length ctl) (length wheels) (length motion) (length forces)
@@ -448,9 +454,10 @@ module _ (m most : ℕ) (s : Core) (wheels : List ℕ) (action : ℕ) (ms : List
       rw widths-are (by-width (eqb (length wheels) (4 * m)) _ _ _ _ accepted-is refused-is)
 
   -- answer, forces and state after, each made of what the lent drive o leaves
-  pub sets-lent : (a : DriveAnswer) (fs : List Force) (t : Core) (o : LentDriven) (c : Counts) → a ≡ driveAnswerOf (o .cause) → fs ≡ forcesFrom (o .forces) → t ≡ coreFrom (o .counts) (o .ctl)
+  pub sets-lent : (a : DriveAnswer) (fs : List Force) (t : Core) (o : LentDriven) (c k : Counts) → a ≡ driveAnswerOf (o .cause) → fs ≡ forcesFrom (o .forces) → t ≡ coreFrom k (o .ctl) → k ≡ o .counts
       → c ≡ countsOf s → o ≡ driveLentOf m most c ctl wheels action motion forces → record { answer = a; forces = fs; core = t } ≡ driveSetsOf m most s wheels action ms
-  sets-lent a fs t o c ea ef et ec eo =
-      (λ i. record { answer = ea i; forces = ef i; core = et i })
-      ∙ ap inStructs (eo ∙ ap (λ (k : Counts). driveLentOf m most k ctl wheels action motion forces) ec)
+  sets-lent a fs t o c k ea ef et ek ec eo =
+      let core : t ≡ coreFrom (o .counts) (o .ctl) = et ∙ ap (λ (x : Counts). coreFrom x (o .ctl)) ek in
+      (λ i. record { answer = ea i; forces = ef i; core = core i })
+      ∙ ap inStructs (eo ∙ ap (λ (x : Counts). driveLentOf m most x ctl wheels action motion forces) ec)
       ∙ lent-sets

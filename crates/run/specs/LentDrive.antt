@@ -78,8 +78,24 @@ pub record LentDriven : Type 0 where
   pub ctl : List Float
   pub forces : List Float
 
-abbrev pub lentDriven : DroveLent → List Float → List Float → LentDriven
-lentDriven r ctl forces = record { cause = r .cause; counts = r .counts; ctl = ctl; forces = forces }
+-- the counts after, from those before and what the drive says of the two that it changes
+unfoldable pub countsAfter : Counts → DroveLent → Counts
+countsAfter c r =
+    record {
+      n = c .n;
+      «visited_count» = c .«visited_count»;
+      tick = c .tick;
+      «tick_limit» = c .«tick_limit»;
+      «lap_share» = c .«lap_share»;
+      lap = c .lap;
+      ended = c .ended;
+      fallback = c .fallback;
+      driven = r .driven;
+      «fuel_spent» = r .«fuel_spent»;
+    }
+
+abbrev pub lentDriven : Counts → DroveLent → List Float → List Float → LentDriven
+lentDriven c r ctl forces = record { cause = r .cause; counts = countsAfter c r; ctl = ctl; forces = forces }
 
 -- the lengths of the lent controls, sets, motions and forces
 unfoldable pub lentWidths : ℕ → ℕ → ℕ → ℕ → ℕ → Bool

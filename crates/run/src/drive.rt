@@ -227,17 +227,11 @@ pub fn drive_in_place(core: Core, wheels: &[u64], action: u32, motion: [Motion; 
     let mut numbers = control_numbers(ctl);
     let given = motion_numbers(motion);
     let mut pushes = [0.0; 12];
-    let d = lent::drive_lent(
-        lent::counts_of(core),
-        &mut numbers,
-        wheels,
-        action,
-        &given,
-        &mut pushes,
-    );
+    let counts = lent::counts_of(core);
+    let d = lent::drive_lent(counts, &mut numbers, wheels, action, &given, &mut pushes);
     let answer = answer_of(d.cause);
     let forces = lent::forces_from(&pushes);
-    let next = lent::core_from(d.counts, &numbers);
+    let next = lent::core_from(lent::counts_after(counts, d), &numbers);
     CoreDrove {
         answer,
         forces,

@@ -9,7 +9,7 @@ ghost use Rattle.run.specs.Arguments.{motionsOk};
 ghost use Rattle.run.specs.Drive.{driveCause};
 ghost use Rattle.run.specs.Pass.{passOf};
 ghost use Rattle.run.specs.Replay.{motionsFrom, forceFrom, forceNumbers};
-ghost use Rattle.run.specs.LentDrive.{wheelFrom, wheelsFrom, numbersOfWheels, forcesFrom, countsOf, coreFrom, lentWidths, lentDriven, driveLentOf};
+ghost use Rattle.run.specs.LentDrive.{wheelFrom, wheelsFrom, numbersOfWheels, forcesFrom, countsOf, coreFrom, lentWidths, countsAfter, lentDriven, driveLentOf};
 use crate::answer;
 use crate::call;
 use crate::drive;
@@ -36,11 +36,12 @@ pub struct Counts {
     pub fuel_spent: f64,
 }
 
-// The number of the cause, 0 where the drive is accepted, and the counts after.
+// The number of the cause, 0 where the drive is accepted, and the two counts that a drive changes, as they are after it.
 #[repr(C)]
 pub struct DroveLent {
     pub cause: u32,
-    pub counts: Counts,
+    pub driven: bool,
+    pub fuel_spent: f64,
 }
 
 // Numbers of a wheel's control, of its motion, and of its force.
@@ -215,6 +216,27 @@ fn lent_widths(ctl: usize, wheels: usize, motion: usize, forces: usize) -> bool
     (ctl == 20) & (wheels == WHEEL_WORDS) & (motion == 20) & (forces == 12)
 }
 
+// A refused drive: the number of its cause, and the counts as they were.
+fn refused(number: u32, counts: Counts) -> DroveLent
+    ensures { λ r. ⌜ (r .cause ≡ number) × (countsAfter counts r ≡ counts) ⌝ }
+{
+    DroveLent {
+        cause: number,
+        driven: counts.driven,
+        fuel_spent: counts.fuel_spent,
+    }
+}
+
+// The counts after a drive.
+pub(crate) fn counts_after(counts: Counts, d: DroveLent) -> Counts
+    ensures { λ r. ⌜ r ≡ countsAfter counts d ⌝ }
+{
+    let mut next = counts;
+    next.driven = d.driven;
+    next.fuel_spent = d.fuel_spent;
+    next
+}
+
 // The call where controls (five numbers to a wheel, in the order of `WheelCtl`), motions (five, of `Motion`) and forces
 // (three, of `Force`) are lent as numbers and the wheels' sets as words. The controls after and the forces are written
 // where the drive is accepted; a refusal changes nothing. Other lengths are no run's (cause 4).
@@ -226,25 +248,20 @@ pub fn drive_lent(
     motion: &[f64],
     forces: &mut [f64],
 ) -> DroveLent
-    ensures { λ r. ⌜ lentDriven r (now (ctl .exit)) (now (forces .exit)) ≡ driveLentOf fullWords mostTiles counts (now (ctl .entry)) (now (wheels .entry)) action (now (motion .entry)) (now (forces .entry)) ⌝ }
+    ensures { λ r. ⌜ lentDriven counts r (now (ctl .exit)) (now (forces .exit)) ≡ driveLentOf fullWords mostTiles counts (now (ctl .entry)) (now (wheels .entry)) action (now (motion .entry)) (now (forces .entry)) ⌝ }
 {
     if !lent_widths(ctl.len(), wheels.len(), motion.len(), forces.len()) {
-        return DroveLent { cause: 4, counts };
+        return refused(4, counts);
     }
     let number = cause_lent(MOST_TILES, counts, action, motion);
     if number != 0 {
-        return DroveLent {
-            cause: number,
-            counts,
-        };
+        return refused(number, counts);
     }
     let roads = drive::roads_of(wheels, FULL_WORDS);
     let spent = pass_lent(ctl, action, motion, roads, counts.fuel_spent, forces);
-    let mut next = counts;
-    next.driven = true;
-    next.fuel_spent = spent;
     DroveLent {
         cause: 0,
-        counts: next,
+        driven: true,
+        fuel_spent: spent,
     }
 }

@@ -13,6 +13,7 @@ use Rattle.run.proofs.drive.answer_of.Reads as answer-of-reads
 use Rattle.run.proofs.drive.control_numbers.Reads as control-numbers-reads
 use Rattle.run.proofs.drive.motion_numbers.Reads as motion-numbers-reads
 use Rattle.run.proofs.lent.core_from.Reads as core-from-reads
+use Rattle.run.proofs.lent.counts_after.Reads as counts-after-reads
 use Rattle.run.proofs.lent.counts_of.Reads as counts-of-reads
 use Rattle.run.proofs.lent.drive_lent.Reads as drive-lent-reads
 use Rattle.run.proofs.lent.forces_from.Reads as forces-from-reads
@@ -47,6 +48,9 @@ slice-aggregate-forces-from c = search needs
 forces-from-requires : tie.Need-forces-from-requires
 forces-from-requires c κs = search needs
 
+counts-after-requires : tie.Need-counts-after-requires
+counts-after-requires c κs = search needs
+
 slice-aggregate-core-from : tie.Need-slice-aggregate-core-from
 slice-aggregate-core-from c = search needs
 
@@ -56,12 +60,12 @@ core-from-requires c κs = search needs
 returns : tie.Need-returns
 unfolding forcesFrom forceFrom
 returns c =
-    let l = c .before .before .before .before .before .before .before in
+    let l = c .before .before .before .before .before .before .before .before in
     let n = l .before .before .before .before in
     let twenty : length (n .before .before .control-numbers .result) ≡ 20 = search needs in
     let motion-long : length (n .before .motion-numbers .result) ≡ 20 = search needs in
-    sets-lent _ _ _ _ _ _ _ _ _ twenty motion-long refl (n .before .before .control-numbers .ensures) (n .before .motion-numbers .ensures) refl _ _ _ _ _
-    (c .before .before .before .before .answer-of .ensures) (c .before .before .forces-from .ensures) (c .core-from .ensures) (n .counts-of .ensures) (l .drive-lent .ensures)
+    sets-lent _ _ _ _ _ _ _ _ _ twenty motion-long refl (n .before .before .control-numbers .ensures) (n .before .motion-numbers .ensures) refl _ _ _ _ _ _
+    (c .before .before .before .before .before .answer-of .ensures) (c .before .before .before .forces-from .ensures) (c .core-from .ensures) (c .before .before .counts-after .ensures) (n .counts-of .ensures) (l .drive-lent .ensures)
 
 pub drive-in-place-spec : {M : Type 1} → statement M
 drive-in-place-spec =
@@ -77,6 +81,7 @@ drive-in-place-spec =
     answer-of-requires
     slice-aggregate-forces-from
     forces-from-requires
+    counts-after-requires
     slice-aggregate-core-from
     core-from-requires
     returns)
