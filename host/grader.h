@@ -96,7 +96,7 @@ typedef struct {
     bool lap, ended, fallback, driven;
     double fuel_spent;
 } grader_counts; /* a core but for its controls */
-typedef struct { uint32_t cause; grader_counts counts; } grader_drove_lent;
+typedef struct { uint32_t cause; bool driven; double fuel_spent; } grader_drove_lent; /* the two counts that a drive changes */
 typedef struct { uint32_t cause, new_tiles, n; bool off, lap, ended; grader_core core; } grader_settled_lent;
 grader_drove_lent grader_drive_lent(grader_counts counts, OUT(double, controls), IN(uint64_t, wheels), uint32_t action, IN(double, motions), OUT(double, forces));
 grader_settled_lent grader_settle_lent(grader_core core, OUT(uint64_t, credited), OUT(uint64_t, wheels), COURSE_IN, double hull_x, double hull_y, grader_poses poses);
@@ -106,8 +106,8 @@ static inline uint32_t grader_drive_in_place(grader_run *run, uint32_t action, c
     grader_core *c = &run->core;
     grader_counts counts = {c->n, c->visited_count, c->tick, c->tick_limit, c->lap_share, c->lap, c->ended, c->fallback, c->driven, c->fuel_spent};
     grader_drove_lent d = grader_drive_lent(counts, (double *)c->ctl, 20, run->wheels, GRADER_WHEELS, action, (const double *)motions, 20, (double *)forces, 12);
-    c->driven = d.counts.driven;
-    c->fuel_spent = d.counts.fuel_spent;
+    c->driven = d.driven;
+    c->fuel_spent = d.fuel_spent;
     return d.cause;
 }
 static inline grader_settled_lent grader_settle_in_place(grader_run *run, COURSE_IN, double hull_x, double hull_y, grader_poses poses) {

@@ -135,7 +135,8 @@ struct Counts {
 #[repr(C)]
 struct DroveLent {
     cause: u32,
-    counts: Counts,
+    driven: bool,
+    fuel_spent: f64,
 }
 
 #[repr(C)]
@@ -291,7 +292,7 @@ pub fn drive(run: &mut State, action: u32, motions: &[Motion; 4], forces: &mut [
         grader_drive_lent(counts, c.ctl.as_mut_ptr().cast(), 20, run.wheels.as_ptr(), run.wheels.len(), action,
             motions.as_ptr().cast(), 20, forces.as_mut_ptr().cast(), 12)
     };
-    (c.driven, c.fuel_spent) = (d.counts.driven, d.counts.fuel_spent);
+    (c.driven, c.fuel_spent) = (d.driven, d.fuel_spent);
     d.cause
 }
 
@@ -373,7 +374,7 @@ mod tests {
         assert_eq!([size_of::<Laid>(), size_of::<CurbsFound>(), size_of::<Figures>(), size_of::<Replayed>()], [40, 8, 24, 80]);
         assert_eq!(
             [size_of::<Started>(), size_of::<Counts>(), size_of::<DroveLent>(), size_of::<Settled>()],
-            [1816, 40, 48, 216]
+            [1816, 40, 16, 216]
         );
         assert_eq!([size_of::<Angle>(), size_of::<Drawn>()], [16, 16]);
     }
@@ -395,7 +396,7 @@ mod tests {
         places!(CurbsFound: cause 0, count 4);
         places!(Started: cause 0, count 4, lap 8, run 16);
         places!(Counts: n 0, visited_count 4, tick 8, tick_limit 12, lap_share 16, lap 24, ended 25, fallback 26, driven 27, fuel_spent 32);
-        places!(DroveLent: cause 0, counts 8);
+        places!(DroveLent: cause 0, driven 4, fuel_spent 8);
         places!(Settled: cause 0, new_tiles 4, n 8, off 12, lap 13, ended 14, core 16);
         places!(Figures: cause 0, tick 4, credited 8, n 12, share 16, lap 20, ended 21, fallback 22);
         places!(Replayed: laid 0, start_cause 40, start_count 44, start_lap 48, sheet 52);
