@@ -7,24 +7,26 @@ use Prim.Native.Nat.{ℕ, zero, suc, _+_, _*_, _≤_, _<_}
 use native.Mathlib.Omega.{arith}
 use native.Mathlib.Numerals.{add-one}
 use lib.Dec.{eqb}
-use lib.ListN.{length, getD, set, drop, length-set, drop-of-length-le}
+use lib.ListN.{length, getD, set, drop, replicate, length-set, drop-of-length-le}
 use lib.Seq.{drop-cons}
 use lib.Ieee.{Float, nan}
 use borrow.Author.Tests.{eq-eqb, ne-eqb, eqb-true}
 use Rattle.course.proofs.IndexLaws.{and-left, and-right}
+use Rattle.course.specs.Arithmetic.{nought}
 use Rattle.run.specs.Grip.{roadsOf}
-use Rattle.run.specs.Dynamics.{tyreOf}
+use Rattle.run.specs.Dynamics.{turningOf, limitOf, heldOf, slipOf, tyreOf}
 use Rattle.run.specs.Arguments.{motionAt}
 use Rattle.run.specs.Pass.{ctlAt, roadAt, passOf, noForces}
 use Rattle.run.specs.State.{unfitCore}
 use Rattle.run.specs.Drive.{driveCause, drivenOf, refusedDrive, driveAt, coreDriveOf, driveSetsOf, driveCauseOf, driveAnswerOf}
-use Rattle.run.specs.DriveSteps.{controlOf, wheelPass, wheelsPass}
+use Rattle.run.specs.DriveSteps.{controlOf, pushOf, finishOf, pushesAfter, wheelPass, wheelsPass}
 use Rattle.run.specs.Replay.{motionFrom, motionsFrom, forceFrom, forceNumbers}
 use Rattle.run.specs.LentDrive.{wheelFrom, wheelsFrom, numbersOfWheels, forcesFrom, coreFrom, countsOf, countsAfter, LentDriven, lentDriven, lentWidths, inNumbers, driveLentOf}
 use Rattle.run.specs.declared.state.WheelCtl.{WheelCtl}
 use Rattle.run.specs.declared.state.Core.{Core}
 use Rattle.run.specs.declared.dynamics.Force.{Force}
 use Rattle.run.specs.declared.dynamics.Turned.{Turned}
+use Rattle.run.specs.declared.dynamics.TyreForce.{TyreForce}
 use Rattle.run.specs.Pass.{Passed}
 use Rattle.run.specs.declared.dynamics.Motion.{Motion}
 use Rattle.run.specs.declared.drive.CoreDrove.{CoreDrove}
@@ -139,6 +141,64 @@ force-put fs g h i k =
     subst (λ (x : List Force). putForce (forceNumbers x) (3 * i) g ≡ forceNumbers (set x i g)) (sym (f .is))
     (by-wheel (λ j. putForce (forceNumbers (f .a ∷ f .b ∷ f .c ∷ f .d ∷ [])) (3 * j) g ≡ forceNumbers (set (f .a ∷ f .b ∷ f .c ∷ f .d ∷ []) j g)) refl refl refl refl i k)
 
+-- ---- what pushes at the wheels, in numbers
+
+-- its control as it stands in numbers
+wheel-from-there : (l : List Float) (i : ℕ) → i < 4 → wheelFrom l (5 * i) ≡ ctlAt (wheelsFrom l) i
+unfolding wheelsFrom
+wheel-from-there l = by-wheel (λ i. wheelFrom l (5 * i) ≡ ctlAt (wheelsFrom l) i) refl refl refl refl
+
+-- of the first i wheels
+pub record Pushing (action : ℕ) (ctl motion pushes₀ pushes : List Float) (i : ℕ) : Type 0 where
+  pub upto : i ≤ 4
+  pub long : length pushes ≡ 12
+  pub is : pushes ≡ pushesAfter action (wheelsFrom ctl) (motionsFrom motion) i pushes₀
+
+module _ (action : ℕ) (ctl motion pushes₀ : List Float) where
+  pub no-push : length pushes₀ ≡ 12 → Pushing action ctl motion pushes₀ pushes₀ 0
+  unfolding pushesAfter
+  no-push h = record { upto = omega arith; long = h; is = refl }
+
+  pub one-push : (pushes : List Float) (i : ℕ) (o : Float) (s : TyreForce) → i < 4 → Pushing action ctl motion pushes₀ pushes i
+      → o ≡ turningOf (controlOf action i (wheelFrom ctl (5 * i))) → s ≡ pushOf o (motionFrom motion (5 * i))
+      → Pushing action ctl motion pushes₀ (set (set (set pushes (3 * i) o) (3 * i + 1) (s .«f_force»)) (3 * i + 2) (s .«p_force»)) (i + 1)
+  unfolding pushesAfter
+  one-push pushes i o s k h e q =
+      let eo = e ∙ ap (λ (w : WheelCtl). turningOf (controlOf action i w)) (wheel-from-there ctl i k) in
+      let es = q ∙ (λ j. pushOf (eo j) (motion-there motion i k j)) in
+      record {
+        upto = omega (arith, k);
+        long = length-set (set (set pushes (3 * i) o) (3 * i + 1) (s .«f_force»)) (3 * i + 2) (s .«p_force») ∙ length-set (set pushes (3 * i) o) (3 * i + 1) (s .«f_force») ∙ length-set pushes (3 * i) o ∙ h .long;
+        is =
+            (λ j. set (set (set (h .is j) (3 * i) (eo j)) (3 * i + 1) (es j .«f_force»)) (3 * i + 2) (es j .«p_force»))
+            ∙ sym (ap (λ (n : ℕ). pushesAfter action (wheelsFrom ctl) (motionsFrom motion) n pushes₀) (add-one i));
+      }
+
+  pub all-pushes : (pushes : List Float) (i : ℕ) → 4 ≤ i → Pushing action ctl motion pushes₀ pushes i → pushes ≡ pushesAfter action (wheelsFrom ctl) (motionsFrom motion) 4 pushes₀
+  all-pushes pushes i b h = h .is ∙ ap (λ (n : ℕ). pushesAfter action (wheelsFrom ctl) (motionsFrom motion) n pushes₀) (omega (arith, b, h .upto))
+
+-- what is read of wheel i
+push-read : (action : ℕ) (ws : List WheelCtl) (ms : List Motion) (d : Float) (pushes : List Float) → pushes ≡ pushesAfter action ws ms 4 (replicate 12 nought) → (i : ℕ) → i < 4
+    → (getD pushes (3 * i) d ≡ turningOf (controlOf action i (ctlAt ws i)))
+    × ((getD pushes (3 * i + 1) d ≡ pushOf (turningOf (controlOf action i (ctlAt ws i))) (motionAt ms i) .«f_force»)
+    × (getD pushes (3 * i + 2) d ≡ pushOf (turningOf (controlOf action i (ctlAt ws i))) (motionAt ms i) .«p_force»))
+unfolding pushesAfter
+push-read action ws ms d pushes e i k =
+    subst (λ (l : List Float). Read l i) (sym e)
+    (by-wheel (Read (pushesAfter action ws ms 4 (replicate 12 nought))) (refl, (refl, refl)) (refl, (refl, refl)) (refl, (refl, refl)) (refl, (refl, refl)) i k)
+  where
+    Read : List Float → ℕ → Type 0
+    Read l j =
+        (getD l (3 * j) d ≡ turningOf (controlOf action j (ctlAt ws j)))
+        × ((getD l (3 * j + 1) d ≡ pushOf (turningOf (controlOf action j (ctlAt ws j))) (motionAt ms j) .«f_force»)
+        × (getD l (3 * j + 2) d ≡ pushOf (turningOf (controlOf action j (ctlAt ws j))) (motionAt ms j) .«p_force»))
+
+-- the two steps are a wheel's pass
+two-steps : (w : WheelCtl) (m : Motion) (road : Bool) (fuel : Float)
+    → finishOf w m (turningOf w) (heldOf (limitOf road) (pushOf (turningOf w) m .«f_force») (pushOf (turningOf w) m .«p_force»)) fuel ≡ tyreOf w m road fuel
+unfolding finishOf pushOf tyreOf slipOf
+two-steps w m road fuel = refl
+
 -- ---- the pass on numbers
 
 -- the numbers and the fuel are what the pass p holds
@@ -207,6 +267,32 @@ module _ (action : ℕ) (motion : List Float) (roads : List Bool) where
           forces-long = ap length (n .forces-is) ∙ forces-long (wheelsPass action ms roads (i + 1) start .forces);
           holds = n;
         }
+
+    -- wheel i is as it was until its turn comes
+    still : (i : ℕ) → i < 4 → ctlAt (wheelsPass action (motionsFrom motion) roads i (passFrom ctl₀ forces₀ fuel) .ctl) i ≡ ctlAt (wheelsFrom ctl₀) i
+    unfolding wheelsPass wheelPass wheelsFrom
+    still = by-wheel (λ i. ctlAt (wheelsPass action (motionsFrom motion) roads i (passFrom ctl₀ forces₀ fuel) .ctl) i ≡ ctlAt (wheelsFrom ctl₀) i) refl refl refl refl
+
+    -- a wheel's pass, from what was worked out for it before the first wheel's
+    pub finished : (ctl forces pushes : List Float) (spent : Float) (i : ℕ) (d : Float) (w : WheelCtl) (m : Motion) (s : TyreForce) (t : Turned) → i < 4
+        → Passing action motion roads ctl₀ forces₀ fuel ctl forces spent i → pushes ≡ pushesAfter action (wheelsFrom ctl₀) (motionsFrom motion) 4 (replicate 12 nought)
+        → w ≡ controlOf action i (wheelFrom ctl (5 * i)) → m ≡ motionFrom motion (5 * i)
+        → s ≡ heldOf (limitOf (roadAt roads i)) (getD pushes (3 * i + 1) d) (getD pushes (3 * i + 2) d) → t ≡ finishOf w m (getD pushes (3 * i) d) s spent
+        → t ≡ tyreOf (controlOf action i (wheelFrom ctl (5 * i))) (motionFrom motion (5 * i)) (roadAt roads i) spent
+    finished ctl forces pushes spent i d w m s t k h ep ew em es et =
+        let p = wheelsPass action (motionsFrom motion) roads i (passFrom ctl₀ forces₀ fuel) in
+        let here : wheelFrom ctl (5 * i) ≡ ctlAt (wheelsFrom ctl₀) i =
+        ap (λ (l : List Float). wheelFrom l (5 * i)) (h .holds .ctl-is) ∙ wheel-there (p .ctl) (h .holds .wheels) i k ∙ still i k in
+        let r = push-read action (wheelsFrom ctl₀) (motionsFrom motion) d pushes ep i k in
+        let turn = r .0 ∙ ap (λ (v : WheelCtl). turningOf (controlOf action i v)) (sym here) in
+        let push : pushOf (turningOf (controlOf action i (ctlAt (wheelsFrom ctl₀) i))) (motionAt (motionsFrom motion) i) ≡ pushOf (turningOf (controlOf action i (wheelFrom ctl (5 * i)))) (motionFrom motion (5 * i)) =
+        λ j. pushOf (turningOf (controlOf action i (sym here j))) (sym (motion-there motion i k) j) in
+        let along = r .1 .0 ∙ ap (λ (x : TyreForce). x .«f_force») push in
+        let across = r .1 .1 ∙ ap (λ (x : TyreForce). x .«p_force») push in
+        let held = es ∙ (λ j. heldOf (limitOf (roadAt roads i)) (along j) (across j)) in
+        et
+        ∙ (λ j. finishOf (ew j) (em j) (turn j) (held j) spent)
+        ∙ two-steps (controlOf action i (wheelFrom ctl (5 * i))) (motionFrom motion (5 * i)) (roadAt roads i) spent
 
     -- the four wheels are the pass, whatever the forces were
     four-wheels : wheelsPass action (motionsFrom motion) roads 4 (passFrom ctl₀ forces₀ fuel) ≡ passOf (wheelsFrom ctl₀) action (motionsFrom motion) roads fuel

@@ -4,7 +4,8 @@ ghost use mathlib.Core.Path.{_≡_};
 ghost use mathlib.Core.Bool.{true, false};
 ghost use lib.Ieee.{lt};
 ghost use Rattle.course.specs.Root.{sqrtOf};
-ghost use Rattle.run.specs.Dynamics.{motorOf, spunOf, brakedOf, turningOf, limitOf, heldOf, slipOf, tyreOf};
+ghost use Rattle.run.specs.Dynamics.{motorOf, spunOf, brakedOf, turningOf, limitOf, heldOf};
+ghost use Rattle.run.specs.DriveSteps.{pushOf, finishOf};
 use crate::state::WheelCtl;
 use course::constants::FPS;
 use course::numeric;
@@ -95,7 +96,7 @@ pub fn braked(brake: f64, omega: f64) -> f64
 }
 
 // Omega after the engine, then the brake.
-fn turning(w: WheelCtl) -> f64
+pub(crate) fn turning(w: WheelCtl) -> f64
     ensures { λ r. ⌜ r ≡ turningOf w ⌝ }
 {
     braked(w.brake, spun(w.gas, w.omega))
@@ -146,23 +147,23 @@ pub(crate) fn held(road: bool, f: f64, p: f64) -> TyreForce
     }
 }
 
-// The forces at a tyre that turns at omega: by how its surface slips over the ground.
-pub(crate) fn slip(road: bool, omega: f64, m: Motion) -> TyreForce
-    ensures { λ r. ⌜ r ≡ slipOf (limitOf road) omega m ⌝ }
+// What pushes at a tyre that turns at omega, before it is cut: by how its surface slips over the ground.
+pub(crate) fn push(omega: f64, m: Motion) -> TyreForce
+    ensures { λ r. ⌜ r ≡ pushOf omega m ⌝ }
 {
     let vf = -m.sin * m.vx + m.cos * m.vy;
     let vs = m.cos * m.vx + m.sin * m.vy;
-    let f = (-vf + omega * WHEEL_RAD) * STIFFNESS;
-    let p = -vs * STIFFNESS;
-    held(road, f, p)
+    TyreForce {
+        f_force: (-vf + omega * WHEEL_RAD) * STIFFNESS,
+        p_force: -vs * STIFFNESS,
+    }
 }
 
-// One wheel's pass. Phase is turned by omega as the brake leaves it, before the ground acts on the wheel.
-pub(crate) fn tyre(w: WheelCtl, m: Motion, road: bool, fuel: f64) -> Turned
-    ensures { λ r. ⌜ r ≡ tyreOf w m road fuel ⌝ }
+// What one wheel's pass leaves, given how fast the wheel turns after the brake and the forces as they are cut. Phase is turned by
+// omega as the brake leaves it, before the ground acts on the wheel.
+pub(crate) fn finish(w: WheelCtl, m: Motion, omega: f64, s: TyreForce, fuel: f64) -> Turned
+    ensures { λ r. ⌜ r ≡ finishOf w m omega s fuel ⌝ }
 {
-    let omega = turning(w);
-    let s = slip(road, omega, m);
     let ctl = WheelCtl {
         gas: w.gas,
         brake: w.brake,

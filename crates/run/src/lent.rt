@@ -8,6 +8,7 @@ ghost use Rattle.run.specs.Widths.{fullWords, mostTiles};
 ghost use Rattle.run.specs.Arguments.{motionsOk};
 ghost use Rattle.run.specs.Drive.{driveCause};
 ghost use Rattle.run.specs.Pass.{passOf};
+ghost use Rattle.run.specs.DriveSteps.{pushesAfter};
 ghost use Rattle.run.specs.Replay.{motionsFrom, forceFrom, forceNumbers};
 ghost use Rattle.run.specs.LentDrive.{wheelFrom, wheelsFrom, numbersOfWheels, forcesFrom, countsOf, coreFrom, lentWidths, countsAfter, lentDriven, driveLentOf};
 use crate::answer;
@@ -141,9 +142,29 @@ fn put_wheel(ctl: &mut [f64], i: usize, w: WheelCtl)
     ctl[i + 4] = w.phase;
 }
 
+// Speed after engine and brake, and what pushes at the tyre before it is cut, of the four wheels, three numbers to a wheel. Made for
+// all before any is cut: a root takes long, and so the wheels' roots do not wait for this.
+fn push_lent(ctl: &[f64], action: u32, motion: &[f64], pushes: &mut [f64])
+    requires { do ⌜ 20 ≤ (← ⟦ctl.len()⟧) ⌝ }
+    requires { do ⌜ 20 ≤ (← ⟦motion.len()⟧) ⌝ }
+    requires { ⌜ length (now pushes) ≡ 12 ⌝ }
+    ensures { λ _. ⌜ now (pushes .exit) ≡ pushesAfter action (wheelsFrom (now (ctl .entry))) (motionsFrom (now (motion .entry))) 4 (now (pushes .entry)) ⌝ }
+{
+    let mut i: usize = 0;
+    while i < 4 {
+        let at = WHEEL_NUMBERS * i;
+        let to = FORCE_NUMBERS * i;
+        let omega = dynamics::turning(drive::control(wheel_at(ctl, at), i, action));
+        let s = dynamics::push(omega, call::motion(motion, at));
+        pushes[to] = omega;
+        pushes[to + 1] = s.f_force;
+        pushes[to + 2] = s.p_force;
+        i += 1;
+    }
+}
+
 // Action rule and tyre pass over the four wheels, in their order, the fuel going from one to the next: each wheel's
-// control is changed where it stands, and its force is written. It returns the fuel spent after. A loop has one place
-// of the call, so the compiler puts the tyre's code there.
+// control is changed where it stands, and its force is written. It returns the fuel spent after.
 fn pass_lent(
     ctl: &mut [f64],
     action: u32,
@@ -159,16 +180,20 @@ fn pass_lent(
     ensures { λ _. ⌜ now (ctl .exit) ≡ numbersOfWheels (passOf (wheelsFrom (now (ctl .entry))) action (motionsFrom (now (motion .entry))) roads fuel .ctl) ⌝ }
     ensures { λ _. ⌜ now (forces .exit) ≡ forceNumbers (passOf (wheelsFrom (now (ctl .entry))) action (motionsFrom (now (motion .entry))) roads fuel .forces) ⌝ }
 {
+    let mut pushes = [0.0; 12];
+    push_lent(ctl, action, motion, &mut pushes);
     let mut spent = fuel;
     let mut i: usize = 0;
     while i < 4 {
         let at = WHEEL_NUMBERS * i;
+        let to = FORCE_NUMBERS * i;
         let w = drive::control(wheel_at(ctl, at), i, action);
-        let t = dynamics::tyre(w, call::motion(motion, at), roads[i], spent);
+        let s = dynamics::held(roads[i], pushes[to + 1], pushes[to + 2]);
+        let t = dynamics::finish(w, call::motion(motion, at), pushes[to], s, spent);
         let v = t.ctl;
         let f = t.force;
         put_wheel(ctl, at, v);
-        answer::put_force(f, FORCE_NUMBERS * i, forces);
+        answer::put_force(f, to, forces);
         spent = t.fuel_spent;
         i += 1;
     }
