@@ -24,9 +24,9 @@ use Rattle.course.proofs.CourseSizes.{course-sized}
 use Rattle.course.proofs.LayLaws.{roomy, lay-cause, lay-course}
 use Rattle.run.specs.Arguments.{settingsOk, shortColumns, posesOk}
 use Rattle.run.specs.Widths.{fullWords, mostTiles}
-use Rattle.run.specs.State.{State, Columns, columns, shortOf, unfitCore}
-use Rattle.run.specs.Start.{Settings, startShort, startCause, begunCore, zeroState, Begun, begun, startAt, startOf}
-use Rattle.run.specs.Sheet.{figuresOf, sheetCause, sheetAt, coreSheetOf}
+use Rattle.run.specs.State.{State, Columns, columns, shortOf, unfit}
+use Rattle.run.specs.Start.{Settings, startShort, startCause, startAnswer, setupOf, firstProgress, zeroState, Begun, begun, startAt, startOf}
+use Rattle.run.specs.Sheet.{figuresOf, sheetAnswer, noFigures, sheetCause, sheetOf}
 use Rattle.run.specs.Calls.{Call, repliesOf, stateAfter}
 use Rattle.run.specs.Answers.{Answer}
 use Rattle.run.specs.Answers.Answer.{refused}
@@ -37,12 +37,12 @@ use Rattle.run.specs.Replay.{callWords, callNumbers, answerWords, answer
 use Rattle.run.specs.ReplaySteps.{lentTo, callFrom, callsTo}
 use Rattle.run.specs.Batch.{toldFrom, toldsTo, plainStart, plainAnswers, sheetOn, plainSheet, laidCourse, Replay, replayOn, roomFor, replayOf}
 use Rattle.run.specs.declared.start.StartAnswer.{StartAnswer}
-use Rattle.run.specs.declared.start.StartAnswer.the-variants.{Started, Refused as NotStarted}
+use Rattle.run.specs.declared.start.StartAnswer.the-variants.{Refused as NotStarted}
 use Rattle.run.specs.declared.sheet.SheetAnswer.{SheetAnswer}
 use Rattle.run.specs.declared.sheet.SheetAnswer.the-variants.{Refused as NoSheet}
 use Rattle.run.proofs.CallLaws.{or-no}
 use Rattle.run.proofs.LentColumns.{laid-whole, count}
-use Rattle.run.proofs.Simulation.{Holds, coreOf, stateOf, fit-core}
+use Rattle.run.proofs.Simulation.{Holds, stateOf, fits-state}
 use Rattle.run.proofs.Certificate.{zeros-stay, zeros-after, replies-are, after-is, begins, start-same, start-accepted, lent-holds, no-cause}
 
 -- ---- the calls of the columns are calls of the certificate's list
@@ -135,6 +135,11 @@ tolds-many k ws ns zero = refl
 tolds-many k ws ns (suc n) = length-append (toldsTo k ws ns n) _ ∙ add-one (length (toldsTo k ws ns n)) ∙ ap suc (tolds-many k ws ns n)
 
 -- ---- a start and the calls after it, by the number of start's cause
+
+-- the sheet of a state
+abbrev pub sheetIn : State → SheetAnswer
+sheetIn s = sheetOf mostTiles (s .setup) (s .progress)
+
 module _ (b : Opening) (k : Lengths) (n : ℕ) (calls : List ℕ) (given : List Float) where
   abbrev ts : List Told
   ts = toldsTo k calls given n
@@ -143,15 +148,15 @@ module _ (b : Opening) (k : Lengths) (n : ℕ) (calls : List ℕ) (given : List 
   pub record Plain (j : ℕ) (c : CoursePoints) (l : Columns) (sa : StartAnswer) (s : State) : Type 0 where
     pub start : sa ≡ plainStart j (c .points) b
     pub answers : repliesOf fullWords mostTiles s (callsTo l calls given n) ≡ plainAnswers j (c .points) b ts
-    pub sheet : coreSheetOf mostTiles (stateAfter fullWords mostTiles s (callsTo l calls given n) .core) ≡ plainSheet j c b ts
+    pub sheet : sheetIn (stateAfter fullWords mostTiles s (callsTo l calls given n)) ≡ plainSheet j c b ts
 
   -- a refused start
-  no-sheet : coreSheetOf mostTiles (zeroState fullWords .core) ≡ NoSheet 4
-  unfolding coreSheetOf sheetCause sheetAt unfitCore zeroState begunCore
+  no-sheet : sheetIn (zeroState fullWords) ≡ sheetAnswer 4 noFigures
+  unfolding sheetOf sheetCause sheetAnswer unfit zeroState firstProgress
   no-sheet = refl
 
   refused-plain : (j : ℕ) (c : CoursePoints) (l l′ : Columns) (a : Settings) (sa : StartAnswer) (s : State) → begun sa s ≡ startAt fullWords (suc j) l′ a → Plain (suc j) c l sa s
-  unfolding startAt plainStart plainAnswers plainSheet
+  unfolding startAt startAnswer plainStart plainAnswers plainSheet
   refused-plain j c l l′ a sa s e =
       let es : s ≡ zeroState fullWords = ap (λ (x : Begun). x .state) e in
       record {
@@ -160,8 +165,8 @@ module _ (b : Opening) (k : Lengths) (n : ℕ) (calls : List ℕ) (given : List 
             ap (λ (x : State). repliesOf fullWords mostTiles x (callsTo l calls given n)) es ∙ zeros-stay fullWords mostTiles (callsTo l calls given n)
             ∙ ap (λ (x : ℕ). replicate x (refused 4)) (calls-many l calls given n ∙ sym (tolds-many k calls given n));
         sheet =
-            ap (λ (x : State). coreSheetOf mostTiles (stateAfter fullWords mostTiles x (callsTo l calls given n) .core)) es
-            ∙ ap (λ (x : State). coreSheetOf mostTiles (x .core)) (zeros-after fullWords mostTiles (callsTo l calls given n)) ∙ no-sheet;
+            ap (λ (x : State). sheetIn (stateAfter fullWords mostTiles x (callsTo l calls given n))) es
+            ∙ ap sheetIn (zeros-after fullWords mostTiles (callsTo l calls given n)) ∙ no-sheet;
       }
 
   -- ---- no course: every start is refused
@@ -226,9 +231,9 @@ module _ (b : Opening) (k : Lengths) (n : ℕ) (calls : List ℕ) (given : List 
         let p = parts o (length (o .lent .tiles)) (length (o .lent .offsets)) in
         (p .0, p .1 ∙ (λ i. columns (take-length (o .lent .tiles) i) (take-length (o .lent .offsets) i) (o .lent .list)))
 
-    figures : (h : History) → coreSheetOf mostTiles (coreOf fullWords mostTiles c room some fits fallback h) ≡ sheetOn c fallback h
-    unfolding coreSheetOf sheetCause sheetAt figuresOf sheetOn
-    figures h = rw (fit-core fullWords mostTiles c room some fits fallback h)
+    figures : (h : History) → sheetIn (stateOf fullWords mostTiles c room some fits fallback h) ≡ sheetOn c fallback h
+    unfolding sheetOf sheetCause figuresOf setupOf sheetOn
+    figures h = rw (fits-state fullWords mostTiles c room some fits fallback h)
 
     module _ (same-tiles : length (o .lent .tiles) ≡ k .tiles) (same-offsets : length (o .lent .offsets) ≡ k .offsets) where
       abbrev by : Lending
@@ -239,7 +244,7 @@ module _ (b : Opening) (k : Lengths) (n : ℕ) (calls : List ℕ) (given : List 
       told-lengths = ap lengthsOf (whole-lent .1) ∙ (λ i. record { tiles = same-tiles i; offsets = same-offsets i })
 
       accepted-plain : (sa : StartAnswer) (s : State)
-          → begun sa s ≡ record { answer = Started (touchedCount c (History.begun b)) (lapDone c (History.begun b)); state = stateOf fullWords mostTiles c room some fits fallback (History.begun b) }
+          → begun sa s ≡ record { answer = startAnswer 0 (record { count = touchedCount c (History.begun b); lap = lapDone c (History.begun b) }); state = stateOf fullWords mostTiles c room some fits fallback (History.begun b) }
           → Plain 0 (record { points = c; fallback = fallback }) (columnsOf o) sa s
       unfolding plainStart plainAnswers plainSheet
       accepted-plain sa s e =
@@ -253,8 +258,8 @@ module _ (b : Opening) (k : Lengths) (n : ℕ) (calls : List ℕ) (given : List 
                 ∙ replies-are fullWords mostTiles c room some fits o counted holds fallback (m .0) (History.begun b) first
                 ∙ ap (scores c (History.begun b)) (m .2);
             sheet =
-                ap₂ (λ (x : State) (y : List Call). coreSheetOf mostTiles (stateAfter fullWords mostTiles x y .core)) es (sym (m .1))
-                ∙ ap (λ (x : State). coreSheetOf mostTiles (x .core)) (after-is fullWords mostTiles c room some fits o counted holds fallback (m .0) (History.begun b) first)
+                ap₂ (λ (x : State) (y : List Call). sheetIn (stateAfter fullWords mostTiles x y)) es (sym (m .1))
+                ∙ ap sheetIn (after-is fullWords mostTiles c room some fits o counted holds fallback (m .0) (History.begun b) first)
                 ∙ figures (keptOf c (History.begun b) (toldsOf o (m .0)))
                 ∙ ap (λ (x : List Told). sheetOn c fallback (keptOf c (History.begun b) x)) (m .2);
           }
@@ -325,7 +330,7 @@ module _ (seed : ℕ) (l : course.Lent) (b : Opening) (n : ℕ) (calls : List �
       → last ≡ stateAfter fullWords mostTiles s (callsTo (columnsOf o) calls given n)
       → words′ ≡ allWords (repliesOf fullWords mostTiles s (callsTo (columnsOf o) calls given n)) ++ drop (answerWords * n) words
       → numbers′ ≡ allNumbers (repliesOf fullWords mostTiles s (callsTo (columnsOf o) calls given n)) ++ drop (answerNumbers * n) numbers
-      → sheet ≡ coreSheetOf mostTiles (last .core)
+      → sheet ≡ sheetIn last
       → record { laid = o .answer; start = sa; sheet = sheet; lent = o .lent; words = words′; numbers = numbers′ } ≡ replayOf seed l b n calls given words numbers
   unfolding replayOf replayOn
   replayed words numbers o many fb sa s last sheet words′ numbers′ room eo et ef em eb es el ew en eh =
@@ -335,7 +340,7 @@ module _ (seed : ℕ) (l : course.Lent) (b : Opening) (n : ℕ) (calls : List �
       record {
         laid = eo i .answer;
         start = p .start i;
-        sheet = (eh ∙ ap (λ (x : State). coreSheetOf mostTiles (x .core)) el ∙ p .sheet) i;
+        sheet = (eh ∙ ap sheetIn el ∙ p .sheet) i;
         lent = eo i .lent;
         words = (ew ∙ ap (λ (x : List Answer). allWords x ++ drop (answerWords * n) words) (p .answers)) i;
         numbers = (en ∙ ap (λ (x : List Answer). allNumbers x ++ drop (answerNumbers * n) numbers) (p .answers)) i;
@@ -344,7 +349,7 @@ module _ (seed : ℕ) (l : course.Lent) (b : Opening) (n : ℕ) (calls : List �
   -- a column of calls or answers is short
   pub short-replay : (words : List ℕ) (numbers : List Float) → roomFor n (length calls) (length given) (length words) (length numbers) ≡ false
       → record { laid = NotLaid 2; start = NotStarted 2; sheet = NoSheet 4; lent = l; words = words; numbers = numbers } ≡ replayOf seed l b n calls given words numbers
-  unfolding replayOf
+  unfolding replayOf startAnswer sheetAnswer
   short-replay words numbers e = rw e
 
 -- room for n calls, column by column

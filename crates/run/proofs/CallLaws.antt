@@ -9,7 +9,7 @@ use lib.ListN.{length}
 use lib.Ieee.{Float}
 use borrow.Author.Tests.{ltb-false, leb-false}
 use Rattle.course.specs.Lengths.{mostPoints, mostNumbers, offsetCount}
-use Rattle.run.specs.State.{State, Columns, shortOf, unfitCore}
+use Rattle.run.specs.State.{State, stateOf, Columns, shortOf, unfit}
 use Rattle.run.specs.Arguments.{posesOk, shortColumns, settingsOk, placesOk}
 use Rattle.run.specs.Touch.{soundPoses, touchedBy}
 use Rattle.run.specs.Wheel.{quadOf}
@@ -17,9 +17,12 @@ use Rattle.run.specs.Words.{member}
 use Rattle.run.specs.Contact.{entered, Contacted, contacted, contactOf}
 use Rattle.run.proofs.CreditLaws.{few}
 use Rattle.run.specs.Lap.{lapOf, offField}
-use Rattle.run.specs.Start.{Settings, startShort, startCause, begunCore, zeroState, Begun, begun, firstContact, startedBy, startAt, startOf}
-use Rattle.run.specs.Settle.{settleCause, settledCore, Done, done, settledBy, settleAt, settleOf}
-use Rattle.run.specs.declared.state.Core.{Core}
+use Rattle.run.specs.Start.{Settings, startShort, startCause, startAnswer, setupOf, firstProgress, zeroState, Begun, begun, firstContact, startedBy, startAt, startOf}
+use Rattle.run.specs.Pass.{stillCar}
+use Rattle.run.specs.Settle.{settleCause, settleAnswer, settledProgress, SettledParts, settledParts, settledBy, settleAt, settlePartsOf, done, settleOf}
+use Rattle.run.specs.declared.state.Setup.{Setup}
+use Rattle.run.specs.declared.state.Progress.{Progress}
+use Rattle.run.specs.declared.state.Car.{Car}
 use Rattle.run.specs.declared.state.Pose.{Pose}
 use Rattle.run.specs.declared.start.StartAnswer.{StartAnswer}
 use Rattle.run.specs.declared.start.StartAnswer.the-variants.{Started, Refused}
@@ -71,78 +74,74 @@ start-facts most l a m h =
     }
 
 pub start-refused : (m most : ℕ) (l : Columns) (a : Settings) (k : ℕ) (s : State) → k ≡ startCause most l a → (k ≡ 0 → ⊥) → s ≡ zeroState m → begun (Refused k) s ≡ startOf m most l a
-unfolding startOf startAt
+unfolding startOf startAt startAnswer
 start-refused m most l a zero s e n z = absurd (n refl)
 start-refused m most l a (suc k) s e n z = ap (begun (Refused (suc k))) z ∙ ap (λ (j : ℕ). startAt m j l a) e
 
-pub start-accepted : (m most : ℕ) (l : Columns) (a : Settings) (k : ℕ) (c w : List ℕ) (f : ℕ) (z lap : Bool) (core : Core) → k ≡ startCause most l a → k ≡ 0
+pub start-accepted : (m most : ℕ) (l : Columns) (a : Settings) (k : ℕ) (c w : List ℕ) (f : ℕ) (z lap : Bool) (p : Progress) (car : Car) → k ≡ startCause most l a → k ≡ 0
     → contacted c w f z ≡ firstContact m l (a .poses)
-    → lap ≡ lapOf false z f (a .n) (a .share) → core ≡ begunCore (a .n) (a .fallback) (a .share) (a .limit) f lap
-    → begun (Started f lap) (record { core = core; credited = c; wheels = w }) ≡ startOf m most l a
-unfolding startOf startAt startedBy
-start-accepted m most l a k c w f z lap core e n p el eo =
-    let ec = ap (λ (x : Contacted). x .credited) p in
-    let ew = ap (λ (x : Contacted). x .wheels) p in
-    let ef = ap (λ (x : Contacted). x .fresh) p in
-    let ez = ap (λ (x : Contacted). x .zero) p in
-    let last : lap ≡ lapOf false (firstContact m l (a .poses) .zero) (firstContact m l (a .poses) .fresh) (a .n) (a .share) = el ∙ ap₂ (λ (x : Bool) (y : ℕ). lapOf false x y (a .n) (a .share)) ez ef in
-    let own : core ≡ begunCore (a .n) (a .fallback) (a .share) (a .limit) (firstContact m l (a .poses) .fresh) (lapOf false (firstContact m l (a .poses) .zero) (firstContact m l (a .poses) .fresh) (a .n) (a .share)) =
-    eo ∙ ap₂ (λ (x : ℕ) (y : Bool). begunCore (a .n) (a .fallback) (a .share) (a .limit) x y) ef last in
-    (λ i. begun (Started (ef i) (last i)) (record { core = own i; credited = ec i; wheels = ew i }))
-    ∙ ap (λ (j : ℕ). startAt m j l a) (sym n ∙ e)
+    → lap ≡ lapOf false z f (a .n) (a .share) → p ≡ firstProgress f lap → car ≡ stillCar
+    → begun (Started (record { count = f; lap = lap })) (stateOf (setupOf a) p car c w) ≡ startOf m most l a
+unfolding startOf startAt startAnswer startedBy
+start-accepted m most l a k c w f z lap p car e n h el ep er =
+    (λ i. begun (Started (record { count = f; lap = el i })) (stateOf (setupOf a) ((ep ∙ ap (firstProgress f) el) i) (er i) c w))
+    ∙ ap (startedBy a) h ∙ ap (λ (j : ℕ). startAt m j l a) (sym n ∙ e)
 
 -- ---- settle
-pub record SettleFacts (most : ℕ) (s : Core) (l : Columns) (ps : List Pose) : Type 0 where
-  pub some : 0 < s .n
-  pub few : s .n ≤ most
-  pub count : s .«visited_count» ≤ s .n
-  pub time : s .tick < s .«tick_limit»
-  pub tiles : s .n * 8 ≤ length (l .tiles)
-  pub sound : soundPoses (l .offsets) (l .list) (s .n) ps ≡ true
+pub record SettleFacts (most : ℕ) (u : Setup) (p : Progress) (l : Columns) (ps : List Pose) : Type 0 where
+  pub some : 0 < u .n
+  pub few : u .n ≤ most
+  pub count : p .«visited_count» ≤ u .n
+  pub time : p .tick < u .«tick_limit»
+  pub tiles : u .n * 8 ≤ length (l .tiles)
+  pub sound : soundPoses (l .offsets) (l .list) (u .n) ps ≡ true
 
-pub settle-facts : (most : ℕ) (s : Core) (l : Columns) (x y : Float) (ps : List Pose) → most ≤ mostPoints → settleCause most s l x y ps ≡ 0 → SettleFacts most s l ps
-unfolding settleCause unfitCore shortOf
-settle-facts most s l x y ps m h =
-    let p = cleared (unfitCore most s || s .ended) 3 _ h in
-    let q = cleared (not (s .driven)) 4 _ (p .1) in
-    let r = cleared (leb (s .«tick_limit») (s .tick)) 5 _ (q .1) in
-    let t = cleared (shortOf l) 1 _ (r .1) in
-    let u = cleared (not (placesOk x y ps)) 7 _ (t .1) in
-    let v = cleared (not (soundPoses (l .offsets) (l .list) (s .n) ps)) 9 0 (u .1) in
-    let f = or-no (unfitCore most s) (s .ended) (p .0) in
-    let g = or-no (ltb (s .n) 1 || ltb most (s .n)) (ltb (s .n) (s .«visited_count»)) (f .0) in
-    let k = or-no (ltb (s .n) 1) (ltb most (s .n)) (g .0) in
+pub settle-facts : (most : ℕ) (u : Setup) (p : Progress) (l : Columns) (x y : Float) (ps : List Pose) → most ≤ mostPoints → settleCause most u p l x y ps ≡ 0 → SettleFacts most u p l ps
+unfolding settleCause unfit shortOf
+settle-facts most u p l x y ps m h =
+    let a = cleared (unfit most u p || p .ended) 3 _ h in
+    let b = cleared (not (p .driven)) 4 _ (a .1) in
+    let c = cleared (leb (u .«tick_limit») (p .tick)) 5 _ (b .1) in
+    let d = cleared (shortOf l) 1 _ (c .1) in
+    let e = cleared (not (placesOk x y ps)) 7 _ (d .1) in
+    let v = cleared (not (soundPoses (l .offsets) (l .list) (u .n) ps)) 9 0 (e .1) in
+    let f = or-no (unfit most u p) (p .ended) (a .0) in
+    let g = or-no (ltb (u .n) 1 || ltb most (u .n)) (ltb (u .n) (p .«visited_count»)) (f .0) in
+    let k = or-no (ltb (u .n) 1) (ltb most (u .n)) (g .0) in
     record {
-      some = ltb-false (s .n) 1 (k .0);
-      few = ltb-false most (s .n) (k .1);
-      count = ltb-false (s .n) (s .«visited_count») (g .1);
-      time = leb-false (s .«tick_limit») (s .tick) (r .0);
-      tiles = long (length (l .tiles)) (length (l .offsets)) (s .n) most (t .0) (k .1) m;
-      sound = yes-of (soundPoses (l .offsets) (l .list) (s .n) ps) (v .0);
+      some = ltb-false (u .n) 1 (k .0);
+      few = ltb-false most (u .n) (k .1);
+      count = ltb-false (u .n) (p .«visited_count») (g .1);
+      time = leb-false (u .«tick_limit») (p .tick) (c .0);
+      tiles = long (length (l .tiles)) (length (l .offsets)) (u .n) most (d .0) (k .1) m;
+      sound = yes-of (soundPoses (l .offsets) (l .list) (u .n) ps) (v .0);
     }
 
-pub settle-refused : (m most : ℕ) (s : State) (l : Columns) (x y : Float) (ps : List Pose) (k : ℕ) → k ≡ settleCause most (s .core) l x y ps → (k ≡ 0 → ⊥) → done (NotSettled k) s ≡ settleOf m most s l x y ps
-unfolding settleOf settleAt
-settle-refused m most s l x y ps zero e n = absurd (n refl)
-settle-refused m most s l x y ps (suc k) e n = ap (λ (j : ℕ). settleAt m j s l x y ps) e
+module _ (m most : ℕ) (u : Setup) (p : Progress) (c w : List ℕ) (l : Columns) (x y : Float) (ps : List Pose) where
+  pub settle-refused : (k : ℕ) → k ≡ settleCause most u p l x y ps → (k ≡ 0 → ⊥) → settledParts (NotSettled k) p c w ≡ settlePartsOf m most u p c w l x y ps
+  unfolding settlePartsOf settleAt settleAnswer
+  settle-refused zero e n = absurd (n refl)
+  settle-refused (suc k) e n = ap (λ (j : ℕ). settleAt m j u p c w l x y ps) e
 
--- the contact of an accepted settle
-abbrev pub contactIn : ℕ → State → Columns → List Pose → Contacted
-contactIn m s l ps = contactOf m (s .credited) (s .wheels) (λ w. touchedBy (l .tiles) (l .offsets) (l .list) (quadOf ps w))
+  -- the contact of an accepted settle
+  abbrev pub contactIn : Contacted
+  contactIn = contactOf m c w (λ v. touchedBy (l .tiles) (l .offsets) (l .list) (quadOf ps v))
 
-pub settle-accepted : (m most : ℕ) (s : State) (l : Columns) (x y : Float) (ps : List Pose) (k : ℕ) (c w : List ℕ) (f : ℕ) (z off : Bool) (core : Core) → k ≡ settleCause most (s .core) l x y ps → k ≡ 0
-    → contacted c w f z ≡ contactIn m s l ps
-    → off ≡ offField x y → core ≡ settledCore (s .core) f z off
-    → done (Settled f (s .core .n) off (core .lap) (core .ended)) (record { core = core; credited = c; wheels = w }) ≡ settleOf m most s l x y ps
-unfolding settleOf settleAt settledBy
-settle-accepted m most s l x y ps k c w f z off core e n p eo es =
-    let ec = ap (λ (x : Contacted). x .credited) p in
-    let ew = ap (λ (x : Contacted). x .wheels) p in
-    let ef = ap (λ (x : Contacted). x .fresh) p in
-    let ez = ap (λ (x : Contacted). x .zero) p in
-    let own : core ≡ settledCore (s .core) (contactIn m s l ps .fresh) (contactIn m s l ps .zero) (offField x y) = es ∙ (λ i. settledCore (s .core) (ef i) (ez i) (eo i)) in
-    (λ i. done (Settled (ef i) (s .core .n) (eo i) (own i .lap) (own i .ended)) (record { core = own i; credited = ec i; wheels = ew i }))
-    ∙ ap (λ (j : ℕ). settleAt m j s l x y ps) (sym n ∙ e)
+  pub settle-accepted : (k : ℕ) (c′ w′ : List ℕ) (f : ℕ) (z off : Bool) (next : Progress) → k ≡ settleCause most u p l x y ps → k ≡ 0
+      → contacted c′ w′ f z ≡ contactIn
+      → off ≡ offField x y → next ≡ settledProgress u p f z off
+      → settledParts (Settled (record { «new_tiles» = f; n = u .n; off = off; lap = next .lap; ended = next .ended })) next c′ w′ ≡ settlePartsOf m most u p c w l x y ps
+  unfolding settlePartsOf settleAt settleAnswer settledBy
+  settle-accepted k c′ w′ f z off next e n h eo es =
+      (λ i. settledParts (Settled (record { «new_tiles» = f; n = u .n; off = off; lap = es i .lap; ended = es i .ended })) (es i) c′ w′)
+      ∙ ap₂ (settledBy u p) eo h ∙ ap (λ (j : ℕ). settleAt m j u p c w l x y ps) (sym n ∙ e)
+
+-- the call on a whole state, put together around the parts that it leaves
+pub settled-from : (m most : ℕ) (s : State) (l : Columns) (x y : Float) (ps : List Pose) (r : SettleAnswer) (p : Progress) (c w : List ℕ)
+    → settledParts r p c w ≡ settlePartsOf m most (s .setup) (s .progress) (s .credited) (s .wheels) l x y ps
+    → done r (stateOf (s .setup) p (s .car) c w) ≡ settleOf m most s l x y ps
+unfolding settleOf
+settled-from m most s l x y ps r p c w e = ap (λ (d : SettledParts). done (d .answer) (stateOf (s .setup) (d .progress) (s .car) (d .credited) (d .wheels))) e
 
 -- a contact has no more new tiles than its words have bits
 pub contact-few : (m : ℕ) (c w : List ℕ) (P : ℕ → ℕ → Bool) (f : ℕ) → f ≡ contactOf m c w P .fresh → f ≤ 64 * m

@@ -21,29 +21,31 @@ use Rattle.course.proofs.CourseSizes.{Sized, course-sized}
 use Rattle.course.proofs.LayLaws.{roomy, lay-cause, lay-course}
 use Rattle.run.specs.Widths.{fullWords, mostTiles}
 use Rattle.run.specs.Arguments.{settingsOk, shortColumns, posesOk}
-use Rattle.run.specs.State.{State, Columns, columns, shortOf, unfitCore}
+use Rattle.run.specs.State.{State, Columns, columns, shortOf, unfit}
+use Rattle.run.specs.Words.{member}
+use Rattle.run.specs.Contact.{wheelPart}
 use Rattle.run.specs.Touch.{soundPoses}
-use Rattle.run.specs.Start.{Settings, startShort, startCause, begunCore, zeroState, Begun, firstContact, startedBy, startAt, startOf, startCauseOf, startCountOf}
-use Rattle.run.specs.Drive.{driveCause, driveAt, coreDriveOf}
-use Rattle.run.specs.Settle.{settleCause, settleAt, settleOf}
+use Rattle.run.specs.Start.{Settings, startShort, startCause, startAnswer, setupOf, firstProgress, zeroState, Begun, firstContact, startedBy, startAt, startOf, startCauseOf, startValuesOf}
+use Rattle.run.specs.Drive.{driveAnswer, driveCause, driveAt, drivePartsOf, driveOf}
+use Rattle.run.specs.Settle.{settleAnswer, settleCause, settleAt, settlePartsOf, settleOf}
 use Rattle.run.specs.Answers.{Answer}
 use Rattle.run.specs.Answers.Answer.{drove, settled, refused}
 use Rattle.run.specs.Calls.{Call, Replied, replyOf, repliesOf, stateAfter}
-use Rattle.run.specs.Scorer.{Lengths, Opening, Told, History, opening, drives, settles, touchedCount, lapDone, over, ended, startNumber, score, scores, keptOf}
+use Rattle.run.specs.Scorer.{Lengths, Opening, Told, History, opening, drives, settles, lastPoses, touch, touched, touchedCount, lapDone, over, ended, startNumber, score, scores, keptOf}
 use Rattle.run.specs.Scorer.History.{begun}
-use Rattle.run.specs.Certificate.{Lending, lentBy, lengthsOf, Given, callOf, toldOf, callsOf, toldsOf, newSum, endedBy, allOccur, Graded, startOn, Demand3, layNumber, Certificate}
+use Rattle.run.specs.Certificate.{Lending, lentBy, lengthsOf, Given, callOf, toldOf, callsOf, toldsOf, newSum, endedBy, allOccur, settingsOn, keptBy, Graded, startOn, Demand3, layNumber, Certificate}
 use Rattle.run.specs.Certificate.Lending.{laid, short}
 use Rattle.run.specs.declared.state.Pose.{Pose}
-use Rattle.run.specs.declared.start.StartAnswer.the-variants.{Started}
 use Rattle.run.proofs.CallLaws.{cleared, or-no}
-use Rattle.run.proofs.ScoreLaws.{InTurn, kept-turn, sum-is, end-is, ended-over, all-occur}
-use Rattle.run.proofs.Simulation.{Holds, stateOf, coreOf, withState, cond-else, cond-skip, started, toldBy, Lent, reply-is}
+use Rattle.run.proofs.ScoreLaws.{InTurn, kept-turn, opening-kept, sum-is, end-is, ended-over, all-occur}
+use Rattle.run.proofs.Simulation.{held, Holds, settingsBy, stateOf, withState, cond-else, cond-skip, started, toldBy, Lent, reply-is}
+use Rattle.run.proofs.SetMembers.{in-set, in-wheel}
 use Rattle.run.proofs.LaidTouch.{touched-laid, sound-laid}
 use Rattle.run.proofs.LentColumns.{laid-whole, lent-laid, count}
 
 -- ---- after a refused start: the state of zeros refuses every call by 4 and stays
 zeros-refuse : (m most : ℕ) (g : Call) → replyOf m most (zeroState m) g ≡ record { answer = refused 4; state = zeroState m }
-unfolding replyOf zeroState begunCore coreDriveOf driveCause driveAt settleOf settleCause settleAt unfitCore
+unfolding replyOf zeroState firstProgress driveOf drivePartsOf driveCause driveAt driveAnswer settleOf settlePartsOf settleCause settleAt settleAnswer unfit
 zeros-refuse m most (Call.drive a ms) = refl
 zeros-refuse m most (Call.settle l x y ps) = refl
 
@@ -115,7 +117,7 @@ module _ (m most : ℕ) (c : List TrackPoint) (room : most ≤ 64 * m) (some : 0
         (ap not (holds by (or-no (shortOf (lentBy o by)) (ltb (length c) 1 || ltb most (length c)) e₂ .0) .sound (b .poses))))))
 
     cause-at : (k : ℕ) (l : Columns) (a : Settings) → startCauseOf (startAt m k l a .answer) ≡ k
-    unfolding startAt startedBy startCauseOf
+    unfolding startAt startAnswer startedBy startCauseOf
     cause-at zero l a = refl
     cause-at (suc k) l a = refl
 
@@ -132,7 +134,7 @@ module _ (m most : ℕ) (c : List TrackPoint) (room : most ≤ 64 * m) (some : 0
         (cleared (shortOf (lentBy o by) || (ltb (length c) 1 || ltb most (length c))) 1 _ (cleared (not (settingsOk (b .share) (b .limit))) 0 _ e .1) .0) .0
 
     abbrev first : Begun
-    first = record { answer = Started (touchedCount c (begun b)) (lapDone c (begun b)); state = stateOf m most c room some fits fb (begun b) }
+    first = record { answer = startAnswer 0 (record { count = touchedCount c (begun b); lap = lapDone c (begun b) }); state = stateOf m most c room some fits fb (begun b) }
 
     pub start-accepted : startNumber c most (lengthsOf (lentBy o by)) b ≡ 0 → startOn m most o by fb b ≡ first
     unfolding startAt
@@ -140,14 +142,22 @@ module _ (m most : ℕ) (c : List TrackPoint) (room : most ≤ 64 * m) (some : 0
         start-same ∙ ap (λ (k : ℕ). startAt m k (lentBy o by) (at (length c))) e
         ∙ started m most c room some fits (lentBy o by) b fb (holds by (lent-long e))
 
+    own-opening : (b : Opening) → opening (begun b) ≡ b
+    unfolding opening
+    own-opening b = refl
+
+    -- what start was told, by the calls kept after it
+    same-setup : (h : History) → opening h ≡ b → setupOf (settingsBy m most c room some fits fb (opening h)) ≡ setupOf (settingsOn o fb b)
+    same-setup h e = λ i. setupOf (record { n = sym counted i; fallback = fb; share = e i .share; limit = e i .limit; poses = e i .poses })
+
     zeros-at : (k : ℕ) (l : Columns) (a : Settings) → (k ≡ 0 → ⊥) → startAt m k l a .state ≡ zeroState m
     unfolding startAt
     zeros-at zero l a n = absurd (n refl)
     zeros-at (suc k) l a n = refl
 
     -- ---- the list after it
-    graded : (cs : List Given) → Graded m most c o first b cs
-    unfolding startCountOf
+    graded : (cs : List Given) → Graded m most c o first fb b cs
+    unfolding startAnswer startValuesOf
     graded cs =
         let same = replies-are fb cs (begun b) (begins b) in
         let last = after-is fb cs (begun b) (begins b) in
@@ -155,19 +165,20 @@ module _ (m most : ℕ) (c : List TrackPoint) (room : most ≤ 64 * m) (some : 0
           start = refl;
           answers = same;
           counts = ap (λ (r : List Answer). touchedCount c (begun b) + newSum r) same ∙ sum-is c (toldsOf o cs) (begun b);
-          ends = λ l. ap (endedBy false) same ∙ none-ended b (scores c (begun b) (toldsOf o cs)) ∙ end-is c (toldsOf o cs) (begun b) ∙ ended-over c (keptOf c (begun b) (toldsOf o cs)) l;
+          ends = λ l. ap (endedBy false) same ∙ none-ended b (scores c (begun b) (toldsOf o cs)) ∙ end-is c (toldsOf o cs) (begun b) ∙ ended-over c (keptBy c o b cs) l;
           occur = ap (allOccur cs) same ∙ all-occur c o cs (begun b);
-          state-count = ap (λ (s : State). s .core .«visited_count») last;
-          state-tick = ap (λ (s : State). s .core .tick) last;
-          state-lap = ap (λ (s : State). s .core .lap) last;
-          state-ended = ap (λ (s : State). s .core .ended) last;
+          state-setup = ap (λ (s : State). s .setup) last ∙ same-setup (keptBy c o b cs) (opening-kept c (begun b) (toldsOf o cs) ∙ own-opening b);
+          state-progress = ap (λ (s : State). s .progress) last;
+          state-car = ap (λ (s : State). s .car) last;
+          state-credited = λ t. ap (λ (s : State). member (s .credited) t) last ∙ in-set m (length c) (held m most c room some fits) (touched c (keptBy c o b cs)) t;
+          state-wheels = λ w t l. ap (λ (s : State). member (wheelPart m (s .wheels) w) t) last ∙ in-wheel m (length c) (held m most c room some fits) (touch c (lastPoses (keptBy c o b cs))) w t l;
         }
 
     pub demand3-on : (cs : List Given) → Demand3 m most c o by fb b cs
     demand3-on cs =
         record {
           starts = ap (λ (s : Begun). startCauseOf (s .answer)) start-same ∙ cause-at (startNumber c most (lengthsOf (lentBy o by)) b) (lentBy o by) (at (length c));
-          runs = λ e. subst (λ (s : Begun). Graded m most c o s b cs) (sym (start-accepted e)) (graded cs);
+          runs = λ e. subst (λ (s : Begun). Graded m most c o s fb b cs) (sym (start-accepted e)) (graded cs);
           stays = λ n.
               ap (λ (s : Begun). repliesOf m most (s .state) (callsOf o cs)) start-same
               ∙ ap (λ (s : State). repliesOf m most s (callsOf o cs)) (zeros-at (startNumber c most (lengthsOf (lentBy o by)) b) (lentBy o by) (at (length c)) n)

@@ -10,12 +10,12 @@ use Rattle.course.specs.Numeric.{absOf, minOf, maxOf, leastOf, greatestOf, clam
 use Rattle.course.proofs.Examples as course
 use Rattle.run.specs.Overlap.{leastOn, greatestOn, apartOn, apartAlong, apartByEdges, overlapOf}
 use Rattle.run.specs.Lap.{lapOf}
-use Rattle.run.specs.Dynamics.{brakedOf, tyreOf}
-use Rattle.run.specs.Pass.{indicator, gasOf, raisedOf, rearOf, ctlAt, passOf}
+use Rattle.run.specs.Dynamics.{brakedOf, tyreOf, finishOf}
+use Rattle.run.specs.Pass.{indicator, gasOf, raisedOf, rearOf, ctlAt, gatheredOf, passOf}
 use Rattle.run.specs.Reward.{atLeastOne, rewardOf, defaultWeights}
 use Rattle.run.specs.Examples.{rectangle, RearGas, Marked}
 use Rattle.run.proofs.Literals.{zero-bits, tenth, two-tenths}
-use Rattle.run.specs.declared.state.WheelCtl.{WheelCtl}
+use Rattle.run.specs.declared.state.Car.{Car}
 use Rattle.run.specs.declared.dynamics.Motion.{Motion}
 
 -- 4: the squares 0..1 and 1..2 by 0..1 touch; 0..1 and 1.5..2 do not
@@ -59,19 +59,19 @@ second-rise : raisedOf (gasOf 3) (decimal 1 10) ≡ decimal 2 10
 second-rise = ap₂ raisedOf wish-bits tenth ∙ second-bits ∙ sym two-tenths
 
 -- a pass leaves a rear wheel's gas as the action rule sets it
-rear-gas : (ctl : List WheelCtl) (action : ℕ) (ms : List Motion) (roads : List Bool) (fuel : Float)
-    → (ctlAt (passOf ctl action ms roads fuel .ctl) 2 .gas ≡ raisedOf (gasOf action) (ctlAt ctl 2 .gas))
-    × (ctlAt (passOf ctl action ms roads fuel .ctl) 3 .gas ≡ raisedOf (gasOf action) (ctlAt ctl 3 .gas))
-unfolding passOf tyreOf rearOf
-rear-gas ctl action ms roads fuel = (refl, refl)
+rear-gas : (car : Car) (action : ℕ) (ms : List Motion) (roads : List Bool)
+    → (ctlAt (passOf car action ms roads .car .ctl) 2 .gas ≡ raisedOf (gasOf action) (ctlAt (car .ctl) 2 .gas))
+    × (ctlAt (passOf car action ms roads .car .ctl) 3 .gas ≡ raisedOf (gasOf action) (ctlAt (car .ctl) 3 .gas))
+unfolding passOf gatheredOf tyreOf finishOf rearOf
+rear-gas car action ms roads = (refl, refl)
 
 -- 9: the gas action from 0, on any ground and at any motion: 0.1, then 0.2
-gas : (ctl : List WheelCtl) (ms ms₂ : List Motion) (roads roads₂ : List Bool) (fuel fuel₂ : Float) → RearGas ctl (natural 0)
-    → RearGas (passOf ctl 3 ms roads fuel .ctl) (decimal 1 10)
-    × RearGas (passOf (passOf ctl 3 ms roads fuel .ctl) 3 ms₂ roads₂ fuel₂ .ctl) (decimal 2 10)
-gas ctl ms ms₂ roads roads₂ fuel fuel₂ (p, q) =
-    let a = rear-gas ctl 3 ms roads fuel in
-    let b = rear-gas (passOf ctl 3 ms roads fuel .ctl) 3 ms₂ roads₂ fuel₂ in
+gas : (car : Car) (ms ms₂ : List Motion) (roads roads₂ : List Bool) → RearGas car (natural 0)
+    → RearGas (passOf car 3 ms roads .car) (decimal 1 10)
+    × RearGas (passOf (passOf car 3 ms roads .car) 3 ms₂ roads₂ .car) (decimal 2 10)
+gas car ms ms₂ roads roads₂ (p, q) =
+    let a = rear-gas car 3 ms roads in
+    let b = rear-gas (passOf car 3 ms roads .car) 3 ms₂ roads₂ in
     let p₁ = a .0 ∙ ap (raisedOf (gasOf 3)) p ∙ first-rise in
     let q₁ = a .1 ∙ ap (raisedOf (gasOf 3)) q ∙ first-rise in
     ((p₁, q₁), (b .0 ∙ ap (raisedOf (gasOf 3)) p₁ ∙ second-rise, b .1 ∙ ap (raisedOf (gasOf 3)) q₁ ∙ second-rise))

@@ -16,6 +16,7 @@ pub mod Examples
 pub mod SheetLaws
 pub mod BelowLaws
 pub mod PlainContact
+pub mod SetMembers
 pub mod ScoreLaws
 pub mod Simulation
 pub mod LaidTouch
@@ -23,6 +24,5 @@ pub mod LentColumns
 pub mod Certificate
 pub mod BatchLaws
 pub mod ReplayLaws
-pub mod LentLaws
 pub mod Worked
 pub mod ReadBack

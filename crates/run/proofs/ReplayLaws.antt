@@ -12,7 +12,7 @@ use lib.Seq.{sets, sets-eq, take-at, drop-at, drop-drop, length-take-le}
 use lib.Ieee.{Float}
 use Rattle.course.specs.Arithmetic.{nought}
 use Rattle.run.specs.State.{State, Columns, columns, view}
-use Rattle.run.specs.Drive.{driveOf}
+use Rattle.run.specs.Drive.{Driven, driven, driveOf}
 use Rattle.run.specs.Settle.{Done, done, settleOf}
 use Rattle.run.specs.Calls.{Call, driveSaid, settleSaid, replyOf, repliesOf, stateAfter}
 use Rattle.run.specs.Calls.Call.{drive, settle}
@@ -24,11 +24,11 @@ use Rattle.run.specs.Answers.Answer.{drove, settled, refused}
 use Rattle.run.specs.declared.state.Pose.{Pose}
 use Rattle.run.specs.declared.state.Run.{Run}
 use Rattle.run.specs.declared.dynamics.Motion.{Motion}
-use Rattle.run.specs.declared.drive.Drove.{Drove}
 use Rattle.run.specs.Pass.{noForces}
 use Rattle.run.specs.declared.drive.DriveAnswer.{DriveAnswer}
 use Rattle.run.specs.declared.drive.DriveAnswer.the-variants.{Forces, Refused as NotDriven}
 use Rattle.run.specs.declared.settle.SettleAnswer.{SettleAnswer}
+use Rattle.run.specs.declared.settle.SettleValues.{SettleValues}
 use Rattle.run.specs.declared.settle.SettleAnswer.the-variants.{Settled, Refused as NotSettled}
 use Rattle.run.specs.declared.dynamics.Force.{Force}
 
@@ -82,11 +82,11 @@ written-not-driven a fs ws ns c e h k = subst (λ (x : DriveAnswer). DriveWritte
 abbrev SettleWritten : SettleAnswer → List ℕ → List Float → Type 0
 SettleWritten a ws ns = (ws ≡ wordsOf (settleSaid a)) × (ns ≡ numbersOf (settleSaid a))
 
-pub written-settled : (a : SettleAnswer) (ws : List ℕ) (ns : List Float) (new n f : ℕ) (off lap ended : Bool) → a ≡ Settled new n off lap ended
-    → f ≡ flag off + 2 * flag lap + 4 * flag ended → ws ≡ 1 ∷ new ∷ n ∷ f ∷ [] → ns ≡ replicate answerNumbers nought → SettleWritten a ws ns
+pub written-settled : (a : SettleAnswer) (ws : List ℕ) (ns : List Float) (v : SettleValues) (f : ℕ) → a ≡ Settled v
+    → f ≡ flag (v .off) + 2 * flag (v .lap) + 4 * flag (v .ended) → ws ≡ 1 ∷ v .«new_tiles» ∷ v .n ∷ f ∷ [] → ns ≡ replicate answerNumbers nought → SettleWritten a ws ns
 unfolding wordsOf numbersOf
-written-settled a ws ns new n f off lap ended e g h k =
-    subst (λ (x : SettleAnswer). SettleWritten x ws ns) (sym e) (h ∙ ap (λ (x : ℕ). 1 ∷ new ∷ n ∷ x ∷ []) g, k)
+written-settled a ws ns v f e g h k =
+    subst (λ (x : SettleAnswer). SettleWritten x ws ns) (sym e) (h ∙ ap (λ (x : ℕ). 1 ∷ v .«new_tiles» ∷ v .n ∷ x ∷ []) g, k)
 
 pub written-not-settled : (a : SettleAnswer) (ws : List ℕ) (ns : List Float) (c : ℕ) → a ≡ NotSettled c
     → ws ≡ 2 ∷ c ∷ 0 ∷ 0 ∷ [] → ns ≡ replicate answerNumbers nought → SettleWritten a ws ns
@@ -100,13 +100,13 @@ abbrev pub Answered : ℕ → ℕ → State → Call → State → List ℕ → 
 Answered m most s c after ws ns =
     (after ≡ replyOf m most s c .state) × ((ws ≡ wordsOf (replyOf m most s c .answer)) × (ns ≡ numbersOf (replyOf m most s c .answer)))
 
-pub answered-drive : (m most : ℕ) (r : Run) (a : ℕ) (ms : List Motion) (g : List Float) (d : Drove) (ws : List ℕ) (ns : List Float)
-    → ms ≡ motionsFrom g → d ≡ driveOf m most r a ms → ws ≡ wordsOf (driveSaid (d .answer) (d .forces)) → ns ≡ numbersOf (driveSaid (d .answer) (d .forces))
-    → Answered m most (view r) (drive a (motionsFrom g)) (view (d .run)) ws ns
-unfolding view driveOf replyOf
-answered-drive m most r a ms g d ws ns e f h k =
-    let q : d ≡ driveOf m most r a (motionsFrom g) = f ∙ ap (driveOf m most r a) e in
-    (ap (λ (x : Drove). view (x .run)) q, (h ∙ ap (λ (x : Drove). wordsOf (driveSaid (x .answer) (x .forces))) q, k ∙ ap (λ (x : Drove). numbersOf (driveSaid (x .answer) (x .forces))) q))
+pub answered-drive : (m most : ℕ) (s : State) (a : ℕ) (ms : List Motion) (g : List Float) (r : DriveAnswer) (fs : List Force) (after : State) (ws : List ℕ) (ns : List Float)
+    → ms ≡ motionsFrom g → driven r fs after ≡ driveOf m most s a ms → ws ≡ wordsOf (driveSaid r fs) → ns ≡ numbersOf (driveSaid r fs)
+    → Answered m most s (drive a (motionsFrom g)) after ws ns
+unfolding replyOf
+answered-drive m most s a ms g r fs after ws ns e f h k =
+    let q : driven r fs after ≡ driveOf m most s a (motionsFrom g) = f ∙ ap (driveOf m most s a) e in
+    (ap (λ (d : Driven). d .state) q, (h ∙ ap (λ (d : Driven). wordsOf (driveSaid (d .answer) (d .forces))) q, k ∙ ap (λ (d : Driven). numbersOf (driveSaid (d .answer) (d .forces))) q))
 
 pub answered-settle : (m most : ℕ) (s : State) (l : Columns) (x y : Float) (ps : List Pose) (g : List Float) (a : SettleAnswer) (after : State) (ws : List ℕ) (ns : List Float)
     → ps ≡ posesFrom g → done a after ≡ settleOf m most s l x y ps → ws ≡ wordsOf (settleSaid a) → ns ≡ numbersOf (settleSaid a)
@@ -176,13 +176,13 @@ numbers-more (q ∷ rs) r = ap (λ (l : List Float). numbersOf q ++ l) (numbers-
 pub words-four : (r : Answer) → length (wordsOf r) ≡ 4
 unfolding wordsOf
 words-four (drove fs) = refl
-words-four (settled new n off lap ended) = refl
+words-four (settled v) = refl
 words-four (refused k) = refl
 
 pub numbers-twelve : (r : Answer) → length (numbersOf r) ≡ 12
 unfolding numbersOf forceNumbers
 numbers-twelve (drove fs) = refl
-numbers-twelve (settled new n off lap ended) = refl
+numbers-twelve (settled v) = refl
 numbers-twelve (refused k) = refl
 
 pub all-words-long : (rs : List Answer) → length (allWords rs) ≡ 4 * length rs

@@ -73,6 +73,27 @@ module _ (c : List TrackPoint) where
   kept-turn h v (Told.drive a ms) = drive-turn h v a ms (driveNumber c h a ms) refl
   kept-turn h v (Told.settle l x y ps) = settle-turn h v l x y ps (settleNumber c h l x y ps) refl
 
+  -- ---- what the start was told stays
+  drive-opening : (k : ℕ) (h : History) (a : ℕ) (ms : List Motion) → opening (driveScore c k h a ms .kept) ≡ opening h
+  unfolding driveScore opening
+  drive-opening zero h a ms = refl
+  drive-opening (suc k) h a ms = refl
+
+  settle-opening : (k : ℕ) (h : History) (x y : Float) (ps : List Pose) → opening (settleScore c k h x y ps .kept) ≡ opening h
+  unfolding settleScore opening
+  settle-opening zero h x y ps = refl
+  settle-opening (suc k) h x y ps = refl
+
+  one-opening : (h : History) (t : Told) → opening (score c h t .kept) ≡ opening h
+  unfolding score
+  one-opening h (Told.drive a ms) = drive-opening (driveNumber c h a ms) h a ms
+  one-opening h (Told.settle l x y ps) = settle-opening (settleNumber c h l x y ps) h x y ps
+
+  pub opening-kept : (h : History) (ts : List Told) → opening (keptOf c h ts) ≡ opening h
+  unfolding keptOf
+  opening-kept h [] = refl
+  opening-kept h (t ∷ ts) = opening-kept (score c h t .kept) ts ∙ one-opening h t
+
   -- ---- counts: the tiles touched before, and the new ones of each accepted settle
   drive-sum : (k : ℕ) (h : History) (a : ℕ) (ms : List Motion) (r : List Answer)
       → touchedCount c h + newSum (driveScore c k h a ms .answer ∷ r) ≡ touchedCount c (driveScore c k h a ms .kept) + newSum r

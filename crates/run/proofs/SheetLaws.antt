@@ -6,9 +6,10 @@ use native.Mathlib.Nat.{div-lt-iff-lt-mul}
 use native.Mathlib.Omega.{arith}
 use lib.Dec.{ltb}
 use borrow.Author.Tests.{ltb-false}
-use Rattle.run.specs.State.{unfitCore}
+use Rattle.run.specs.State.{unfit}
 use Rattle.run.specs.Reward.{atLeastOne}
-use Rattle.run.specs.declared.state.Core.{Core}
+use Rattle.run.specs.declared.state.Setup.{Setup}
+use Rattle.run.specs.declared.state.Progress.{Progress}
 use Rattle.run.proofs.Tests.{left-false, right-false}
 
 pub one-kept : (n : ℕ) → (n ≡ 0 → ⊥) → n ≡ atLeastOne n
@@ -21,12 +22,12 @@ pub share-lt : (c n : ℕ) → 0 < n → c ≤ n → 1000 * c / n < 1001
 share-lt c n z h = div-lt-iff-lt-mul {k = n} {x = 1000 * c} {y = 1001} z .1 (omega arith)
 
 -- a fit state has tiles, and no more credited than it has
-pub fit-some : (most : ℕ) (s : Core) → unfitCore most s ≡ false → 0 < s .n
-unfolding unfitCore
-fit-some most s e =
-    let h = ltb-false (s .n) 1 (left-false (ltb (s .n) 1) (ltb most (s .n)) (left-false (ltb (s .n) 1 || ltb most (s .n)) (ltb (s .n) (s .«visited_count»)) e)) in
+pub fit-some : (most : ℕ) (u : Setup) (p : Progress) → unfit most u p ≡ false → 0 < u .n
+unfolding unfit
+fit-some most u p e =
+    let h = ltb-false (u .n) 1 (left-false (ltb (u .n) 1) (ltb most (u .n)) (left-false (ltb (u .n) 1 || ltb most (u .n)) (ltb (u .n) (p .«visited_count»)) e)) in
     omega arith
 
-pub fit-credited : (most : ℕ) (s : Core) → unfitCore most s ≡ false → s .«visited_count» ≤ s .n
-unfolding unfitCore
-fit-credited most s e = ltb-false (s .n) (s .«visited_count») (right-false (ltb (s .n) 1 || ltb most (s .n)) (ltb (s .n) (s .«visited_count»)) e)
+pub fit-credited : (most : ℕ) (u : Setup) (p : Progress) → unfit most u p ≡ false → p .«visited_count» ≤ u .n
+unfolding unfit
+fit-credited most u p e = ltb-false (u .n) (p .«visited_count») (right-false (ltb (u .n) 1 || ltb most (u .n)) (ltb (u .n) (p .«visited_count»)) e)

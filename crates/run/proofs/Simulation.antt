@@ -13,28 +13,26 @@ use borrow.Author.Tests.{ltb-true, ltb-false, lt-ltb, le-ltb, lt-leb, leb-false}
 use Rattle.course.specs.declared.tiles.TrackPoint.{TrackPoint}
 use Rattle.run.specs.Below.{anyBelow, everyBelow, howMany}
 use Rattle.run.specs.Arguments.{motionsOk, placesOk}
-use Rattle.run.specs.State.{State, Columns, shortOf, unfitCore}
+use Rattle.run.specs.State.{State, awaiting, Columns, shortOf, unfit}
 use Rattle.run.specs.Words.{setOf}
 use Rattle.run.specs.Wheel.{quadOf}
 use Rattle.run.specs.Touch.{touchedBy, soundPoses}
 use Rattle.run.specs.Contact.{wheelSets, Contacted, contacted, contactOf}
 use Rattle.run.specs.Grip.{onRoad, roadsOf}
 use Rattle.run.specs.Lap.{aboveShare, lapOf, offField, endOf}
-use Rattle.run.specs.Pass.{passOf, stillWheel, noForces}
-use Rattle.run.specs.Start.{Settings, begunCore, Begun, firstContact, startedBy}
-use Rattle.run.specs.Drive.{driveCause, drivenOf, driveAt, coreDriveOf}
-use Rattle.run.specs.Settle.{settleCause, settledCore, settledBy, settleAt, settleOf, Done}
-use Rattle.run.specs.Answers.{Answer}
-use Rattle.run.specs.Answers.Answer.{drove, settled, refused}
+use Rattle.run.specs.Pass.{passOf}
+use Rattle.run.specs.Start.{Settings, setupOf, firstProgress, startAnswer, Begun, firstContact, startedBy}
+use Rattle.run.specs.Drive.{driveAnswer, driveCause, driveAt, drivePartsOf, driveOf}
+use Rattle.run.specs.Settle.{settleAnswer, settleCause, settledProgress, SettledParts, settledParts, settledBy, settleAt, settlePartsOf, settleOf}
 use Rattle.run.specs.Calls.{Call, Replied, driveSaid, settleSaid, replyOf}
 use Rattle.run.specs.Scorer.{Lengths, Opening, Told, History, opening, drives, settles, lastPoses, off, Scored, touch, touches, touched, touchedCount, newTiles, meetsLap, lapDone, over, ended, grip, grips, passed, driveNumber, settleNumber, driveScore, settleScore, score}
 use Rattle.run.specs.Scorer.History.{begun, thenDrive, thenSettle}
-use Rattle.run.specs.Certificate.{lengthsOf}
+use Rattle.run.specs.Certificate.{lengthsOf, progressBy}
 use Rattle.run.specs.declared.state.Pose.{Pose}
-use Rattle.run.specs.declared.state.Core.{Core}
+use Rattle.run.specs.declared.state.Progress.{Progress}
 use Rattle.run.specs.declared.dynamics.Motion.{Motion}
-use Rattle.run.specs.declared.start.StartAnswer.the-variants.{Started}
-use Rattle.run.specs.declared.settle.SettleAnswer.the-variants.{Settled}
+use Rattle.run.specs.declared.drive.DroveParts.{DroveParts}
+use Rattle.run.specs.declared.settle.SettleValues.{SettleValues}
 use Rattle.run.proofs.Tests.{right-false}
 use Rattle.run.proofs.WordLaws.{getD-zeros, howMany-cong, howMany-or, setOf-cong}
 use Rattle.run.proofs.CreditLaws.{few, empty-words}
@@ -74,25 +72,20 @@ module _ (m most : ℕ) (c : List TrackPoint) (room : most ≤ 64 * m) (some : 0
     pub same : (ps : List Pose) (w t : ℕ) → touchedBy (l .tiles) (l .offsets) (l .list) (quadOf ps w) t ≡ below (length c) (touch c ps w) t
     pub sound : (ps : List Pose) → soundPoses (l .offsets) (l .list) (length c) ps ≡ true
 
-  abbrev pub coreOf : Bool → History → Core
-  coreOf fb h = record {
-    n = length c;
-    «visited_count» = touchedCount c h;
-    tick = settles h;
-    «tick_limit» = opening h .limit;
-    «lap_share» = opening h .share;
-    lap = lapDone c h;
-    ended = ended c h;
-    fallback = fb;
-    driven = ltb (settles h) (drives h);
-    ctl = passed c h .ctl;
-    «fuel_spent» = passed c h .«fuel_spent»;
-  }
+  -- what start was told
+  abbrev pub settingsBy : Bool → Opening → Settings
+  settingsBy fb b = record { n = length c; fallback = fb; share = b .share; limit = b .limit; poses = b .poses }
 
   -- the state that the accepted calls lead to
   abbrev pub stateOf : Bool → History → State
   stateOf fb h =
-      record { core = coreOf fb h; credited = creditedBy m (length c) held (touched c h); wheels = wheelsBy m (length c) held (touch c (lastPoses h)) }
+      record {
+        setup = setupOf (settingsBy fb (opening h));
+        progress = progressBy c h;
+        car = passed c h .car;
+        credited = creditedBy m (length c) held (touched c h);
+        wheels = wheelsBy m (length c) held (touch c (lastPoses h));
+      }
 
   abbrev pub withState : Bool → Scored → Replied
   withState fb s = record { answer = s .answer; state = stateOf fb (s .kept) }
@@ -140,11 +133,10 @@ module _ (m most : ℕ) (c : List TrackPoint) (room : most ≤ 64 * m) (some : 0
 
   -- ---- start
   pub started : (l : Columns) (b : Opening) (fb : Bool) → Holds l
-      → startedBy (record { n = length c; fallback = fb; share = b .share; limit = b .limit; poses = b .poses }) (firstContact m l (b .poses))
-      ≡ record { answer = Started (touchedCount c (begun b)) (lapDone c (begun b)); state = stateOf fb (begun b) }
-  unfolding startedBy begunCore lapOf lapDone meetsLap opening settles drives lastPoses ended passed
-  started l b fb w =
-      ap (startedBy (record { n = length c; fallback = fb; share = b .share; limit = b .limit; poses = b .poses })) (first-contact l b w)
+      → startedBy (settingsBy fb b) (firstContact m l (b .poses))
+      ≡ record { answer = startAnswer 0 (record { count = touchedCount c (begun b); lap = lapDone c (begun b) }); state = stateOf fb (begun b) }
+  unfolding startedBy firstProgress lapOf lapDone meetsLap opening settles drives lastPoses ended passed
+  started l b fb w = ap (startedBy (settingsBy fb b)) (first-contact l b w)
 
   -- ---- drive
   roads-are : (h : History) → roadsOf m (wheelsBy m (length c) held (touch c (lastPoses h))) ≡ grips c h
@@ -154,41 +146,39 @@ module _ (m most : ℕ) (c : List TrackPoint) (room : most ≤ 64 * m) (some : 0
       at : (w : ℕ) → w < 4 → onRoad m (wheelsBy m (length c) held (touch c (lastPoses h))) w ≡ anyBelow (length c) (touch c (lastPoses h) w)
       at w l = on-road m (length c) held (touch c (lastPoses h)) w l
 
-  pub fit-core : (fb : Bool) (h : History) → unfitCore most (coreOf fb h) ≡ false
-  unfolding unfitCore touchedCount
-  fit-core fb h =
+  pub fits-state : (fb : Bool) (h : History) → unfit most (setupOf (settingsBy fb (opening h))) (progressBy c h) ≡ false
+  unfolding unfit setupOf touchedCount
+  fits-state fb h =
       rw (le-ltb (length c) 1 some, le-ltb most (length c) fits, le-ltb (length c) (howMany (length c) (touched c h)) (few (length c) (touched c h)))
 
-  drive-number : (fb : Bool) (h : History) (a : ℕ) (ms : List Motion) → driveCause most (coreOf fb h) a ms ≡ driveNumber c h a ms
-  unfolding driveCause driveNumber
-  drive-number fb h a ms = rw (fit-core fb h)
+  drive-number : (fb : Bool) (h : History) (a : ℕ) (ms : List Motion) → driveCause most (setupOf (settingsBy fb (opening h))) (progressBy c h) a ms ≡ driveNumber c h a ms
+  unfolding driveCause driveNumber setupOf
+  drive-number fb h a ms = rw (fits-state fb h)
+
+  -- the answer and the state after, by what a drive leaves of its parts
+  abbrev droveBy : Bool → History → DroveParts → Replied
+  droveBy fb h d =
+      record {
+        answer = driveSaid (d .answer) (d .forces);
+        state = record {
+          setup = setupOf (settingsBy fb (opening h));
+          progress = d .progress;
+          car = d .car;
+          credited = creditedBy m (length c) held (touched c h);
+          wheels = wheelsBy m (length c) held (touch c (lastPoses h));
+        };
+      }
 
   drive-at : (fb : Bool) (h : History) → InTurn h → (a : ℕ) (ms : List Motion) (roads : List Bool) (k : ℕ) → roads ≡ grips c h
-      → record {
-        answer = driveSaid (driveAt k (coreOf fb h) (passOf (passed c h .ctl) a ms roads (passed c h .«fuel_spent»)) .answer) (driveAt k (coreOf fb h) (passOf (passed c h .ctl) a ms roads (passed c h .«fuel_spent»)) .forces);
-        state = record { core = driveAt k (coreOf fb h) (passOf (passed c h .ctl) a ms roads (passed c h .«fuel_spent»)) .core; credited = creditedBy m (length c) held (touched c h); wheels = wheelsBy m (length c) held (touch c (lastPoses h)) };
-      } ≡ withState fb (driveScore c k h a ms)
-  unfolding driveAt driveScore drivenOf touched lastPoses touchedCount lapDone ended over off opening settles drives passed
-  drive-at fb h v a ms roads zero e = λ i. record {
-    answer = drove (passOf (passed c h .ctl) a ms (e i) (passed c h .«fuel_spent») .forces);
-    state = record {
-      core = record {
-        n = length c;
-        «visited_count» = touchedCount c h;
-        tick = settles h;
-        «tick_limit» = opening h .limit;
-        «lap_share» = opening h .share;
-        lap = lapDone c h;
-        ended = ended c h;
-        fallback = fb;
-        driven = sym (lt-ltb (settles h) (drives h + 1) (next (v .ahead))) i;
-        ctl = passOf (passed c h .ctl) a ms (e i) (passed c h .«fuel_spent») .ctl;
-        «fuel_spent» = passOf (passed c h .ctl) a ms (e i) (passed c h .«fuel_spent») .«fuel_spent»;
-      };
-      credited = creditedBy m (length c) held (touched c h);
-      wheels = wheelsBy m (length c) held (touch c (lastPoses h));
-    };
-  }
+      → droveBy fb h (driveAt k (progressBy c h) (passed c h .car) (passOf (passed c h .car) a ms roads)) ≡ withState fb (driveScore c k h a ms)
+  unfolding driveAt driveAnswer driveScore awaiting touched lastPoses touchedCount lapDone ended over off opening settles drives passed
+  drive-at fb h v a ms roads zero e = λ i.
+      droveBy fb h (record {
+        answer = driveAnswer zero;
+        forces = passOf (passed c h .car) a ms (e i) .forces;
+        progress = record { «visited_count» = touchedCount c h; tick = settles h; lap = lapDone c h; ended = ended c h; driven = sym (lt-ltb (settles h) (drives h + 1) (next (v .ahead))) i };
+        car = passOf (passed c h .car) a ms (e i) .car;
+      })
     where
       next : {a b : ℕ} → a ≤ b → a < b + 1
       next l = omega arith
@@ -196,10 +186,10 @@ module _ (m most : ℕ) (c : List TrackPoint) (room : most ≤ 64 * m) (some : 0
 
   -- ---- settle
   settle-number : (fb : Bool) (h : History) → InTurn h → (l : Columns) (x y : Float) (ps : List Pose) → (shortOf l ≡ false → Holds l)
-      → settleCause most (coreOf fb h) l x y ps ≡ settleNumber c h (lengthsOf l) x y ps
-  unfolding settleCause settleNumber shortOf lengthsOf
+      → settleCause most (setupOf (settingsBy fb (opening h))) (progressBy c h) l x y ps ≡ settleNumber c h (lengthsOf l) x y ps
+  unfolding settleCause settleNumber shortOf lengthsOf setupOf
   settle-number fb h v l x y ps w =
-      rw (fit-core fb h)
+      rw (fits-state fb h)
       (cond-else (ended c h) 4 _ _ (λ e₁.
       cond-else (not (ltb (settles h) (drives h))) 5 _ _ (λ e₂.
       cond-skip (leb (opening h .limit) (settles h)) 6 _ (lt-leb (opening h .limit) (settles h) (v .time (ltb-true _ _ (yes-of _ e₂))))
@@ -217,50 +207,42 @@ module _ (m most : ℕ) (c : List TrackPoint) (room : most ≤ 64 * m) (some : 0
       rw (lt-ltb 0 (settles h + 1) (omega arith))
       (ap (λ (b : Bool). b || (lapDone c (thenSettle h x y ps) || offField x y)) (all-pass (length c) (touched c (thenSettle h x y ps))))
 
-  settled-core : (fb : Bool) (h : History) → InTurn h → (x y : Float) (ps : List Pose)
-      → settledCore (coreOf fb h) (newTiles c h ps) (anyBelow 4 (λ w. touch c ps w 0 && not (touch c (lastPoses h) w 0))) (offField x y) ≡ coreOf fb (thenSettle h x y ps)
-  unfolding settledCore lapOf opening settles drives lapDone meetsLap passed
-  settled-core fb h v x y ps =
+  -- some wheel enters tile 0
+  abbrev entersZero : History → List Pose → Bool
+  entersZero h ps = anyBelow 4 (λ w. touch c ps w 0 && not (touch c (lastPoses h) w 0))
+
+  settled-progress : (fb : Bool) (h : History) → InTurn h → (x y : Float) (ps : List Pose)
+      → settledProgress (setupOf (settingsBy fb (opening h))) (progressBy c h) (newTiles c h ps) (entersZero h ps) (offField x y) ≡ progressBy c (thenSettle h x y ps)
+  unfolding settledProgress setupOf lapOf opening settles drives lapDone meetsLap
+  settled-progress fb h v x y ps =
       (λ i. at (count-is h x y ps i) (lapAt (count-is h x y ps i)) (endOf (count-is h x y ps i) (length c) (lapAt (count-is h x y ps i)) (offField x y)) (sym (le-ltb (settles h + 1) (drives h) (v .close)) i))
       ∙ ap (λ (e : Bool). at (touchedCount c (thenSettle h x y ps)) (lapDone c (thenSettle h x y ps)) e (ltb (settles h + 1) (drives h))) (end-is h x y ps)
     where
       -- the lap where so many tiles are credited
       lapAt : ℕ → Bool
-      lapAt count = lapDone c h || (anyBelow 4 (λ w. touch c ps w 0 && not (touch c (lastPoses h) w 0)) && aboveShare count (length c) (opening h .share))
+      lapAt count = lapDone c h || (entersZero h ps && aboveShare count (length c) (opening h .share))
 
-      at : ℕ → Bool → Bool → Bool → Core
-      at count lap e driven = record {
-        n = length c;
-        «visited_count» = count;
-        tick = settles h + 1;
-        «tick_limit» = opening h .limit;
-        «lap_share» = opening h .share;
-        lap = lap;
-        ended = e;
-        fallback = fb;
-        driven = driven;
-        ctl = passed c h .ctl;
-        «fuel_spent» = passed c h .«fuel_spent»;
+      at : ℕ → Bool → Bool → Bool → Progress
+      at count lap e driven = record { «visited_count» = count; tick = settles h + 1; lap = lap; ended = e; driven = driven }
+
+  -- the answer and the state after, by what a settle leaves of its parts
+  abbrev settledFrom : Bool → History → SettledParts → Replied
+  settledFrom fb h d =
+      record {
+        answer = settleSaid (d .answer);
+        state = record { setup = setupOf (settingsBy fb (opening h)); progress = d .progress; car = passed c h .car; credited = d .credited; wheels = d .wheels };
       }
 
-  settled-by : (fb : Bool) (h : History) → InTurn h → (x y : Float) (ps : List Pose)
-      → record {
-        answer = settleSaid (settledBy (stateOf fb h) (offField x y) (contacted (creditedBy m (length c) held (touched c (thenSettle h x y ps))) (wheelsBy m (length c) held (touch c ps)) (newTiles c h ps) (anyBelow 4 (λ w. touch c ps w 0 && not (touch c (lastPoses h) w 0)))) .answer);
-        state = settledBy (stateOf fb h) (offField x y) (contacted (creditedBy m (length c) held (touched c (thenSettle h x y ps))) (wheelsBy m (length c) held (touch c ps)) (newTiles c h ps) (anyBelow 4 (λ w. touch c ps w 0 && not (touch c (lastPoses h) w 0)))) .state;
-      } ≡ withState fb (settleScore c zero h x y ps)
-  unfolding settledBy settleScore off lastPoses
-  settled-by fb h v x y ps =
-      ap (λ (s : Core). record {
-        answer = settled (newTiles c h ps) (length c) (offField x y) (s .lap) (s .ended);
-        state = record { core = s; credited = creditedBy m (length c) held (touched c (thenSettle h x y ps)); wheels = wheelsBy m (length c) held (touch c ps) };
-      }) (settled-core fb h v x y ps)
-
   settle-at : (fb : Bool) (h : History) → InTurn h → (l : Columns) (x y : Float) (ps : List Pose) (k : ℕ) → (k ≡ 0 → Holds l)
-      → record { answer = settleSaid (settleAt m k (stateOf fb h) l x y ps .answer); state = settleAt m k (stateOf fb h) l x y ps .state } ≡ withState fb (settleScore c k h x y ps)
-  unfolding settleAt settleScore
+      → settledFrom fb h (settleAt m k (setupOf (settingsBy fb (opening h))) (progressBy c h) (creditedBy m (length c) held (touched c h)) (wheelsBy m (length c) held (touch c (lastPoses h))) l x y ps)
+      ≡ withState fb (settleScore c k h x y ps)
+  unfolding settleAt settleAnswer settleScore settledBy setupOf off lastPoses opening passed
   settle-at fb h v l x y ps zero w =
-      ap (λ (g : Contacted). record { answer = settleSaid (settledBy (stateOf fb h) (offField x y) g .answer); state = settledBy (stateOf fb h) (offField x y) g .state }) (settle-contact h l x y ps (w refl))
-      ∙ settled-by fb h v x y ps
+      ap (λ (g : Contacted). settledFrom fb h (settledBy (setupOf (settingsBy fb (opening h))) (progressBy c h) (offField x y) g)) (settle-contact h l x y ps (w refl))
+      ∙ ap (λ (p : Progress). settledFrom fb h (settledParts (settleAnswer zero (values p)) p (creditedBy m (length c) held (touched c (thenSettle h x y ps))) (wheelsBy m (length c) held (touch c ps)))) (settled-progress fb h v x y ps)
+    where
+      values : Progress → SettleValues
+      values p = record { «new_tiles» = newTiles c h ps; n = length c; off = offField x y; lap = p .lap; ended = p .ended }
   settle-at fb h v l x y ps (suc k) w = refl
 
   -- an accepted settle was lent columns that are long enough
@@ -280,14 +262,11 @@ module _ (m most : ℕ) (c : List TrackPoint) (room : most ≤ 64 * m) (some : 0
   Lent (Call.settle l x y ps) = shortOf l ≡ false → Holds l
 
   pub reply-is : (fb : Bool) (h : History) → InTurn h → (g : Call) → Lent g → replyOf m most (stateOf fb h) g ≡ withState fb (score c h (toldBy g))
-  unfolding replyOf score coreDriveOf settleOf
+  unfolding replyOf score driveOf drivePartsOf settleOf settlePartsOf
   reply-is fb h v (Call.drive a ms) w =
-      ap (λ (k : ℕ). said k) (drive-number fb h a ms) ∙ drive-at fb h v a ms (roadsOf m (wheelsBy m (length c) held (touch c (lastPoses h)))) (driveNumber c h a ms) (roads-are h)
-    where
-      said : ℕ → Replied
-      said k =
-          let d = driveAt k (coreOf fb h) (passOf (passed c h .ctl) a ms (roadsOf m (wheelsBy m (length c) held (touch c (lastPoses h)))) (passed c h .«fuel_spent»)) in
-          record { answer = driveSaid (d .answer) (d .forces); state = record { core = d .core; credited = creditedBy m (length c) held (touched c h); wheels = wheelsBy m (length c) held (touch c (lastPoses h)) } }
+      ap (λ (k : ℕ). droveBy fb h (driveAt k (progressBy c h) (passed c h .car) (passOf (passed c h .car) a ms (roadsOf m (wheelsBy m (length c) held (touch c (lastPoses h))))))) (drive-number fb h a ms)
+      ∙ drive-at fb h v a ms (roadsOf m (wheelsBy m (length c) held (touch c (lastPoses h)))) (driveNumber c h a ms) (roads-are h)
   reply-is fb h v (Call.settle l x y ps) w =
-      ap (λ (k : ℕ). record { answer = settleSaid (settleAt m k (stateOf fb h) l x y ps .answer); state = settleAt m k (stateOf fb h) l x y ps .state }) (settle-number fb h v l x y ps w)
+      ap (λ (k : ℕ). settledFrom fb h (settleAt m k (setupOf (settingsBy fb (opening h))) (progressBy c h) (creditedBy m (length c) held (touched c h)) (wheelsBy m (length c) held (touch c (lastPoses h))) l x y ps))
+      (settle-number fb h v l x y ps w)
       ∙ settle-at fb h v l x y ps (settleNumber c h (lengthsOf l) x y ps) (λ e. w (long-enough h l x y ps e))

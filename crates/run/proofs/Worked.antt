@@ -81,7 +81,7 @@ pub plain : scores points (begun beside) told
     ≡ refused 5
     ∷ drove (passed points (thenDrive (begun beside) 3 still) .forces)
     ∷ refused 2
-    ∷ settled 2 2 false true true
+    ∷ settled (record { «new_tiles» = 2; n = 2; off = false; lap = true; ended = true })
     ∷ refused 4
     ∷ []
 unfolding touches touched newTiles lapDone meetsLap touchedCount over ended off opening settles drives lastPoses driveNumber settleNumber startNumber driveScore settleScore score scores anyBelow everyBelow howMany offField absOf shortColumns settingsOk posesOk poseOk inRange placesOk motionsOk motionOk touch someOf holds rectOf tilesTo eight tileAt tileQuad beforeOf boxCells quadOf wheelQuad placed size wheelW wheelR leastX leastY greatestX greatestY cellAt cellOf count along overlapOf apartByEdges apartAlong apartOn leastOn greatestOn leastOf greatestOf minOf maxOf within cosineOf sineOf pick quarterOf restOf turnsOf wholeBelow floor cosinePoly sinePoly cosineTerms sineTerms horner minus plus factorial scale playfield trackWidth gridCell halfPi f64Max f64Min natural decimal ofInt round add sub mul div neg lt le isNan ofBits
@@ -134,7 +134,7 @@ module _ (l : Lent) (whole : ltb (length (l .list)) (cellsOf points) ≡ false) 
       ≡ refused 5
       ∷ drove (passed points (thenDrive (begun beside) 3 still) .forces)
       ∷ refused 2
-      ∷ settled 2 2 false true true
+      ∷ settled (record { «new_tiles» = 2; n = 2; off = false; lap = true; ended = true })
       ∷ refused 4
       ∷ []
   graded =

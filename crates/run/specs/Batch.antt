@@ -13,7 +13,8 @@ use Rattle.course.specs.declared.tiles.TrackPoint.{TrackPoint}
 use Rattle.course.specs.declared.points.Laid.{Laid}
 use Rattle.course.specs.declared.points.Laid.the-variants.{Refused as NotLaid}
 use Rattle.run.specs.Widths.{mostTiles}
-use Rattle.run.specs.Sheet.{shareOf}
+use Rattle.run.specs.Start.{startAnswer, noStart}
+use Rattle.run.specs.Sheet.{shareOf, sheetAnswer, noFigures}
 use Rattle.run.specs.Answers.{Answer}
 use Rattle.run.specs.Answers.Answer.{refused}
 use Rattle.run.specs.Scorer.{Lengths, Opening, Told, History, settles, touchedCount, lapDone, ended, startNumber, scores, keptOf}
@@ -21,9 +22,7 @@ use Rattle.run.specs.Scorer.History.{begun}
 use Rattle.run.specs.Certificate.{layNumber}
 use Rattle.run.specs.Replay.{callWords, callNumbers, answerWords, answerNumbers, partAt, numberAt, motionsFrom, posesFrom, allWords, allNumbers}
 use Rattle.run.specs.declared.start.StartAnswer.{StartAnswer}
-use Rattle.run.specs.declared.start.StartAnswer.the-variants.{Started, Refused as NotStarted}
 use Rattle.run.specs.declared.sheet.SheetAnswer.{SheetAnswer}
-use Rattle.run.specs.declared.sheet.SheetAnswer.the-variants.{Sheet, Refused as NoSheet}
 
 -- ---- the calls, as the plain scorer is told of them
 
@@ -41,8 +40,7 @@ toldsTo k ws ns (suc n) = toldsTo k ws ns n ++ (toldFrom k (partAt callWords ws 
 -- ---- the plain scorer's answers to a start and the calls after it, by the number of start's cause: after a refused start every call is refused by 4
 
 unfoldable pub plainStart : ℕ → List TrackPoint → Opening → StartAnswer
-plainStart zero c b = Started (touchedCount c (begun b)) (lapDone c (begun b))
-plainStart (suc k) c b = NotStarted (suc k)
+plainStart k c b = startAnswer k (record { count = touchedCount c (begun b); lap = lapDone c (begun b) })
 
 unfoldable pub plainAnswers : ℕ → List TrackPoint → Opening → List Told → List Answer
 plainAnswers zero c b ts = scores c (begun b) ts
@@ -51,7 +49,7 @@ plainAnswers (suc k) c b ts = replicate (length ts) (refused 4)
 -- the sheet of the calls kept; the state of zeros has none
 unfoldable pub sheetOn : List TrackPoint → Bool → History → SheetAnswer
 sheetOn c fallback h =
-    Sheet (record {
+    sheetAnswer zero (record {
       tick = settles h;
       credited = touchedCount c h;
       n = length c;
@@ -63,7 +61,7 @@ sheetOn c fallback h =
 
 unfoldable pub plainSheet : ℕ → CoursePoints → Opening → List Told → SheetAnswer
 plainSheet zero c b ts = sheetOn (c .points) (c .fallback) (keptOf (c .points) (begun b) ts)
-plainSheet (suc k) c b ts = NoSheet 4
+plainSheet (suc k) c b ts = sheetAnswer 4 noFigures
 
 -- ---- the call
 
@@ -96,6 +94,10 @@ replayOn l seed c k b n ts words numbers =
       numbers = allNumbers (plainAnswers k (c .points) b ts) ++ drop (answerNumbers * n) numbers;
     }
 
+-- the lengths of the lent tiles and offsets
+abbrev pub lengthsIn : Lent → Lengths
+lengthsIn l = record { tiles = length (l .tiles); offsets = length (l .offsets) }
+
 -- the columns of calls and answers, by their lengths, have room for n calls
 unfoldable pub roomFor : ℕ → ℕ → ℕ → ℕ → ℕ → Bool
 roomFor n calls given words numbers =
@@ -104,8 +106,8 @@ roomFor n calls given words numbers =
 -- 2 where a column of calls or answers is short: nothing is laid, started or written
 unfoldable pub replayOf : ℕ → Lent → Opening → ℕ → List ℕ → List Float → List ℕ → List Float → Replay
 replayOf seed l b n calls given words numbers =
-    let k : Lengths = record { tiles = length (l .tiles); offsets = length (l .offsets) } in
+    let k = lengthsIn l in
     let c = laidCourse (layNumber seed l) seed in
     cond (roomFor n (length calls) (length given) (length words) (length numbers))
     (replayOn l seed c (startNumber (c .points) mostTiles k b) b n (toldsTo k calls given n) words numbers)
-    (record { laid = NotLaid 2; start = NotStarted 2; sheet = NoSheet 4; lent = l; words = words; numbers = numbers })
+    (record { laid = NotLaid 2; start = startAnswer 2 noStart; sheet = sheetAnswer 4 noFigures; lent = l; words = words; numbers = numbers })

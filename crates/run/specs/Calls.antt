@@ -5,8 +5,7 @@ use mathlib.Core.List.{List, [], _∷_}
 use Prim.Native.Nat.{ℕ}
 use lib.Ieee.{Float}
 use Rattle.run.specs.State.{State, Columns}
-use Rattle.run.specs.Grip.{roadsOf}
-use Rattle.run.specs.Drive.{coreDriveOf}
+use Rattle.run.specs.Drive.{driveOf}
 use Rattle.run.specs.Settle.{settleOf}
 use Rattle.run.specs.Answers.{Answer}
 use Rattle.run.specs.Answers.Answer.{drove, settled, refused}
@@ -33,13 +32,13 @@ driveSaid Forces fs = drove fs
 driveSaid (NotDriven k) fs = refused k
 
 abbrev pub settleSaid : SettleAnswer → Answer
-settleSaid (Settled new n off lap ended) = settled new n off lap ended
+settleSaid (Settled v) = settled v
 settleSaid (NotSettled k) = refused k
 
 unfoldable pub replyOf : ℕ → ℕ → State → Call → Replied
 replyOf m most s (drive a ms) =
-    let d = coreDriveOf most (s .core) a ms (roadsOf m (s .wheels)) in
-    record { answer = driveSaid (d .answer) (d .forces); state = record { core = d .core; credited = s .credited; wheels = s .wheels } }
+    let d = driveOf m most s a ms in
+    record { answer = driveSaid (d .answer) (d .forces); state = d .state }
 replyOf m most s (settle l x y ps) =
     let d = settleOf m most s l x y ps in
     record { answer = settleSaid (d .answer); state = d .state }

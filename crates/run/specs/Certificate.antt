@@ -18,15 +18,17 @@ use Rattle.course.specs.declared.tiles.TrackPoint.{TrackPoint}
 use Rattle.course.specs.declared.points.Laid.the-variants.{Course as Made}
 use Rattle.run.specs.Widths.{fullWords, mostTiles}
 use Rattle.run.specs.State.{State, Columns, columns, shortOf}
-use Rattle.run.specs.Start.{Begun, startOf, startCauseOf, startCountOf}
+use Rattle.run.specs.Words.{member}
+use Rattle.run.specs.Contact.{wheelPart}
+use Rattle.run.specs.Start.{Settings, setupOf, Begun, startOf, startAnswer, startCauseOf, startValuesOf}
 use Rattle.run.specs.Answers.{Answer}
 use Rattle.run.specs.Answers.Answer.{drove, settled, refused}
 use Rattle.run.specs.Calls.{Call, repliesOf, stateAfter}
-use Rattle.run.specs.Scorer.{Lengths, Opening, Told, History, settles, touchedCount, lapDone, over, ended, startNumber, scores, keptOf}
+use Rattle.run.specs.Scorer.{Lengths, Opening, Told, History, drives, settles, lastPoses, touch, touched, touchedCount, lapDone, over, ended, passed, startNumber, scores, keptOf}
 use Rattle.run.specs.Scorer.History.{begun}
 use Rattle.run.specs.declared.state.Pose.{Pose}
+use Rattle.run.specs.declared.state.Progress.{Progress}
 use Rattle.run.specs.declared.dynamics.Motion.{Motion}
-use Rattle.run.specs.declared.start.StartAnswer.the-variants.{Started}
 
 -- ---- what the calls are lent
 
@@ -71,20 +73,20 @@ toldsOf o cs = map (toldOf o) cs
 unfoldable pub newSum : List Answer → ℕ
 newSum [] = 0
 newSum (drove fs ∷ r) = newSum r
-newSum (settled new n off lap e ∷ r) = new + newSum r
+newSum (settled v ∷ r) = v .«new_tiles» + newSum r
 newSum (refused k ∷ r) = newSum r
 
 -- the run has ended when the last accepted settle says so; `before` where there is none
 unfoldable pub endedBy : Bool → List Answer → Bool
 endedBy before [] = before
 endedBy before (drove fs ∷ r) = endedBy before r
-endedBy before (settled new n off lap e ∷ r) = endedBy e r
+endedBy before (settled v ∷ r) = endedBy (v .ended) r
 endedBy before (refused k ∷ r) = endedBy before r
 
 -- an answer that can occur here: 10 and a settle's 6 cannot
 unfoldable pub occurs : Given → Answer → Bool
 occurs c (drove fs) = true
-occurs c (settled new n off lap e) = true
+occurs c (settled v) = true
 occurs (drive a ms) (refused k) = not (eqb k 10)
 occurs (settle by x y ps) (refused k) = not (eqb k 10) && not (eqb k 6)
 
@@ -95,37 +97,55 @@ allOccur (c ∷ cs) (r ∷ rs) = occurs c r && allOccur cs rs
 
 -- ---- the claim
 
--- after a start s that is accepted on the course of the points c, with opening b: the list of calls cs
-pub record Graded (m most : ℕ) (c : List TrackPoint) (o : Outcome) (s : Begun) (b : Opening) (cs : List Given) : Type 0 where
-  -- start's credited count and lap
-  pub start : s .answer ≡ Started (touchedCount c (begun b)) (lapDone c (begun b))
-  -- which calls are refused and by what number, and each accepted drive's and settle's whole answer
-  pub answers : repliesOf m most (s .state) (callsOf o cs) ≡ scores c (begun b) (toldsOf o cs)
-  -- the tiles credited at the start plus the new tiles of all accepted settles equal in number the distinct tiles touched
-  pub counts : startCountOf (s .answer) + newSum (repliesOf m most (s .state) (callsOf o cs)) ≡ touchedCount c (keptOf c (begun b) (toldsOf o cs))
-  -- once a settle is accepted, the run has ended exactly when all tiles are touched, a lap is complete or the last settled hull is off the field
-  pub ends : 0 < settles (keptOf c (begun b) (toldsOf o cs)) → endedBy false (repliesOf m most (s .state) (callsOf o cs)) ≡ over c (keptOf c (begun b) (toldsOf o cs))
-  -- 10 and a settle's 6 do not occur
-  pub occur : allOccur cs (repliesOf m most (s .state) (callsOf o cs)) ≡ true
-  -- the returned state's count, tick, lap and ended
-  pub state-count : stateAfter m most (s .state) (callsOf o cs) .core .«visited_count» ≡ touchedCount c (keptOf c (begun b) (toldsOf o cs))
-  pub state-tick : stateAfter m most (s .state) (callsOf o cs) .core .tick ≡ settles (keptOf c (begun b) (toldsOf o cs))
-  pub state-lap : stateAfter m most (s .state) (callsOf o cs) .core .lap ≡ lapDone c (keptOf c (begun b) (toldsOf o cs))
-  pub state-ended : stateAfter m most (s .state) (callsOf o cs) .core .ended ≡ ended c (keptOf c (begun b) (toldsOf o cs))
+-- what start is told of the course that laying left in o: its n as answered
+abbrev pub settingsOn : Outcome → Bool → Opening → Settings
+settingsOn o fallback b = record { n = laidCountOf (o .answer); fallback = fallback; share = b .share; limit = b .limit; poses = b .poses }
 
--- the start with this opening and its n, as laying answered it
 abbrev pub startOn : ℕ → ℕ → Outcome → Lending → Bool → Opening → Begun
-startOn m most o by fallback b =
-    startOf m most (lentBy o by) (record { n = laidCountOf (o .answer); fallback = fallback; share = b .share; limit = b .limit; poses = b .poses })
+startOn m most o by fallback b = startOf m most (lentBy o by) (settingsOn o fallback b)
+
+-- after the list: the calls that the plain scorer keeps, what the grader answered, and the state that it returned
+abbrev pub keptBy : List TrackPoint → Outcome → Opening → List Given → History
+keptBy c o b cs = keptOf c (begun b) (toldsOf o cs)
+
+abbrev pub answeredBy : ℕ → ℕ → Outcome → Begun → List Given → List Answer
+answeredBy m most o s cs = repliesOf m most (s .state) (callsOf o cs)
+
+abbrev pub stateBy : ℕ → ℕ → Outcome → Begun → List Given → State
+stateBy m most o s cs = stateAfter m most (s .state) (callsOf o cs)
+
+-- the progress that the kept calls make
+abbrev pub progressBy : List TrackPoint → History → Progress
+progressBy c h = record { «visited_count» = touchedCount c h; tick = settles h; lap = lapDone c h; ended = ended c h; driven = ltb (settles h) (drives h) }
+
+-- after a start s that is accepted on the course of the points c, with opening b: the list of calls cs
+pub record Graded (m most : ℕ) (c : List TrackPoint) (o : Outcome) (s : Begun) (fallback : Bool) (b : Opening) (cs : List Given) : Type 0 where
+  -- start's credited count and lap
+  pub start : s .answer ≡ startAnswer 0 (record { count = touchedCount c (begun b); lap = lapDone c (begun b) })
+  -- which calls are refused and by what number, and each accepted drive's and settle's whole answer
+  pub answers : answeredBy m most o s cs ≡ scores c (begun b) (toldsOf o cs)
+  -- the tiles credited at the start plus the new tiles of all accepted settles equal in number the distinct tiles touched
+  pub counts : startValuesOf (s .answer) .count + newSum (answeredBy m most o s cs) ≡ touchedCount c (keptBy c o b cs)
+  -- once a settle is accepted, the run has ended exactly when all tiles are touched, a lap is complete or the last settled hull is off the field
+  pub ends : 0 < settles (keptBy c o b cs) → endedBy false (answeredBy m most o s cs) ≡ over c (keptBy c o b cs)
+  -- 10 and a settle's 6 do not occur
+  pub occur : allOccur cs (answeredBy m most o s cs) ≡ true
+  -- the returned state: what start was told; count, tick, lap, end and turn; the tyre rules' controls and fuel over the kept drives
+  pub state-setup : stateBy m most o s cs .setup ≡ setupOf (settingsOn o fallback b)
+  pub state-progress : stateBy m most o s cs .progress ≡ progressBy c (keptBy c o b cs)
+  pub state-car : stateBy m most o s cs .car ≡ passed c (keptBy c o b cs) .car
+  -- its credited tiles are those touched, and none from n on; each wheel's are those that it touched at the last contact
+  pub state-credited : (t : ℕ) → member (stateBy m most o s cs .credited) t ≡ (ltb t (length c) && touched c (keptBy c o b cs) t)
+  pub state-wheels : (w t : ℕ) → w < 4 → member (wheelPart m (stateBy m most o s cs .wheels) w) t ≡ (ltb t (length c) && touch c (lastPoses (keptBy c o b cs)) w t)
 
 -- the course of the points c as laying left it in o, a start on it and a list of calls
 pub record Demand3 (m most : ℕ) (c : List TrackPoint) (o : Outcome) (by : Lending) (fallback : Bool) (b : Opening) (cs : List Given) : Type 0 where
   -- start refuses exactly when document 01 has a cause for it
   pub starts : startCauseOf (startOn m most o by fallback b .answer) ≡ startNumber c most (lengthsOf (lentBy o by)) b
   -- an accepted start and any list of calls after it
-  pub runs : startNumber c most (lengthsOf (lentBy o by)) b ≡ 0 → Graded m most c o (startOn m most o by fallback b) b cs
+  pub runs : startNumber c most (lengthsOf (lentBy o by)) b ≡ 0 → Graded m most c o (startOn m most o by fallback b) fallback b cs
   -- after a refused start every call is refused by 4
-  pub stays : (startNumber c most (lengthsOf (lentBy o by)) b ≡ 0 → ⊥) → repliesOf m most (startOn m most o by fallback b .state) (callsOf o cs) ≡ replicate (length cs) (refused 4)
+  pub stays : (startNumber c most (lengthsOf (lentBy o by)) b ≡ 0 → ⊥) → answeredBy m most o (startOn m most o by fallback b) cs ≡ replicate (length cs) (refused 4)
 
 -- lay's cause: 2 where a lent column is short, else 3 where the index list is, else none
 unfoldable pub layNumber : ℕ → Lent → ℕ

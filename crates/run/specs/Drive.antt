@@ -1,84 +1,66 @@
 -- Document 01, "Drive" and "Refusals by cause" (drive 4, 5, 6, 7, 8): the causes in their order, the answer and the state after. Assumes nothing.
-use mathlib.Core.Bool.{Bool, true, cond, not, _||_}
+use mathlib.Core.Bool.{Bool, cond, not, _||_}
 use mathlib.Core.List.{List}
-use Prim.Native.Nat.{ℕ, zero, suc, _*_}
-use lib.Dec.{eqb, ltb, leb}
-use lib.ListN.{length}
-use Rattle.run.specs.State.{unfitCore}
+use Prim.Native.Nat.{ℕ, zero, suc}
+use lib.Dec.{ltb, leb}
+use Rattle.run.specs.State.{State, stateOf, awaiting, unfit}
 use Rattle.run.specs.Arguments.{motionsOk}
-use Rattle.run.specs.Pass.{passOf, noForces}
+use Rattle.run.specs.Pass.{Passed, passOf, noForces}
 use Rattle.run.specs.Grip.{roadsOf}
-use Rattle.run.specs.declared.state.Core.{Core}
-use Rattle.run.specs.declared.state.Run.{Run}
+use Rattle.run.specs.declared.state.Setup.{Setup}
+use Rattle.run.specs.declared.state.Progress.{Progress}
+use Rattle.run.specs.declared.state.Car.{Car}
 use Rattle.run.specs.declared.dynamics.Motion.{Motion}
-use Rattle.run.specs.Pass.{Passed}
-use Rattle.run.specs.declared.drive.CoreDrove.{CoreDrove}
-use Rattle.run.specs.declared.drive.Drove.{Drove}
+use Rattle.run.specs.declared.dynamics.Force.{Force}
+use Rattle.run.specs.declared.drive.DroveParts.{DroveParts}
 use Rattle.run.specs.declared.drive.DriveAnswer.{DriveAnswer}
 use Rattle.run.specs.declared.drive.DriveAnswer.the-variants.{Forces, Refused}
+
+-- ---- number and values of each case of the answer; the forces stand beside it, 0 where it is refused
+
+unfoldable pub driveAnswer : ℕ → DriveAnswer
+driveAnswer zero = Forces
+driveAnswer (suc k) = Refused (suc k)
+
+-- the number read back
+unfoldable pub driveCauseOf : DriveAnswer → ℕ
+driveCauseOf Forces = 0
+driveCauseOf (Refused k) = k
 
 -- ---- refusals
 
 -- The number of the first cause that holds, 0 if none does: 4 a state that is no run's or has ended, 5 out of turn, 6 the tick limit, 7 the action,
 -- 8 a number. Sets hold `most` tiles.
-unfoldable pub driveCause : ℕ → Core → ℕ → List Motion → ℕ
-driveCause most s action ms =
-    cond (unfitCore most s || s .ended) 4
-    (cond (s .driven) 5
-    (cond (leb (s .«tick_limit») (s .tick)) 6
+unfoldable pub driveCause : ℕ → Setup → Progress → ℕ → List Motion → ℕ
+driveCause most u p action ms =
+    cond (unfit most u p || p .ended) 4
+    (cond (p .driven) 5
+    (cond (leb (u .«tick_limit») (p .tick)) 6
     (cond (ltb 4 action) 7
     (cond (not (motionsOk ms)) 8 0))))
 
 -- ---- the call
 
--- the state after an accepted drive
-unfoldable pub drivenOf : Core → Passed → Core
-drivenOf s p =
-    record {
-      n = s .n;
-      «visited_count» = s .«visited_count»;
-      tick = s .tick;
-      «tick_limit» = s .«tick_limit»;
-      «lap_share» = s .«lap_share»;
-      lap = s .lap;
-      ended = s .ended;
-      fallback = s .fallback;
-      driven = true;
-      ctl = p .ctl;
-      «fuel_spent» = p .«fuel_spent»;
-    }
+-- by the cause's number: at 0 the forces, the car after the pass, and a settle awaited; else that number, no forces, and all as it was
+unfoldable pub driveAt : ℕ → Progress → Car → Passed → DroveParts
+driveAt zero p car d = record { answer = driveAnswer zero; forces = d .forces; progress = awaiting p; car = d .car }
+driveAt (suc k) p car d = record { answer = driveAnswer (suc k); forces = noForces; progress = p; car = car }
 
--- a cause's number, no forces, and the state as it was
-abbrev pub refusedDrive : ℕ → Core → CoreDrove
-refusedDrive k s = record { answer = Refused k; forces = noForces; core = s }
+-- on the parts that it reads and changes, in sets of m words to a wheel, which hold `most` tiles
+unfoldable pub drivePartsOf : ℕ → ℕ → Setup → Progress → Car → List ℕ → ℕ → List Motion → DroveParts
+drivePartsOf m most u p car wheels action ms = driveAt (driveCause most u p action ms) p car (passOf car action ms (roadsOf m wheels))
 
--- by the cause's number: at 0 the forces and the state after, else that number and the state as it was
-unfoldable pub driveAt : ℕ → Core → Passed → CoreDrove
-driveAt zero s p = record { answer = Forces; forces = p .forces; core = drivenOf s p }
-driveAt (suc k) s p = refusedDrive (suc k) s
+-- an answer with the forces, and the state beside it
+pub record Driven : Type 0 where
+  pub answer : DriveAnswer
+  pub forces : List Force
+  pub state : State
 
--- the call but for the bit sets, given which wheels are on the road
-unfoldable pub coreDriveOf : ℕ → Core → ℕ → List Motion → List Bool → CoreDrove
-coreDriveOf most s action ms roads = driveAt (driveCause most s action ms) s (passOf (s .ctl) action ms roads (s .«fuel_spent»))
+abbrev pub driven : DriveAnswer → List Force → State → Driven
+driven r fs s = record { answer = r; forces = fs; state = s }
 
--- the call on a state with m words to a set, which hold `most` tiles
-unfoldable pub driveOf : ℕ → ℕ → Run → ℕ → List Motion → Drove
-driveOf m most run action ms =
-    let d = coreDriveOf most (run .core) action ms (roadsOf m (run .wheels)) in
-    record { answer = d .answer; forces = d .forces; run = record { core = d .core; credited = run .credited; wheels = run .wheels } }
-
--- the call where the wheels' sets are lent: sets of other widths than m words to a wheel are no run's, 4
-unfoldable pub driveSetsOf : ℕ → ℕ → Core → List ℕ → ℕ → List Motion → CoreDrove
-driveSetsOf m most s wheels action ms =
-    cond (eqb (length wheels) (4 * m)) (coreDriveOf most s action ms (roadsOf m wheels)) (refusedDrive 4 s)
-
--- ---- number and values of each case of the answer: the forces beside it, 0 where it is refused
-
-unfoldable pub driveCauseOf : DriveAnswer → ℕ
-driveCauseOf Forces = 0
-driveCauseOf (Refused k) = k
-
--- the answer of a cause's number, 0 where it is accepted
-unfoldable pub driveAnswerOf : ℕ → DriveAnswer
-driveAnswerOf zero = Forces
-driveAnswerOf (suc k) = Refused (suc k)
+-- on a whole state
+unfoldable pub driveOf : ℕ → ℕ → State → ℕ → List Motion → Driven
+driveOf m most s action ms =
+    let d = drivePartsOf m most (s .setup) (s .progress) (s .car) (s .wheels) action ms in
+    driven (d .answer) (d .forces) (stateOf (s .setup) (d .progress) (d .car) (s .credited) (s .wheels))

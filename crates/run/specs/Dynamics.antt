@@ -74,18 +74,16 @@ heldOf limit f p =
     let force = sqrtOf (f ⊗ f ⊕ p ⊗ p) in
     cond (lt limit force) (record { «f_force» = f ⊘ force ⊗ limit; «p_force» = p ⊘ force ⊗ limit }) (record { «f_force» = f; «p_force» = p })
 
--- the forces at the tyre of a wheel that turns at omega
-unfoldable pub slipOf : Float → Float → Motion → TyreForce
-slipOf limit omega m =
+-- what pushes at the tyre of a wheel that turns at omega, before it is cut: along its direction and across it
+unfoldable pub pushOf : Float → Motion → TyreForce
+pushOf omega m =
     let vf = neg (m .sin) ⊗ m .vx ⊕ m .cos ⊗ m .vy in
     let vs = m .cos ⊗ m .vx ⊕ m .sin ⊗ m .vy in
-    heldOf limit ((neg vf ⊕ omega ⊗ wheelRad) ⊗ stiffness) (neg vs ⊗ stiffness)
+    record { «f_force» = (neg vf ⊕ omega ⊗ wheelRad) ⊗ stiffness; «p_force» = neg vs ⊗ stiffness }
 
--- the wheel's controls, its force and the fuel spent after the pass, for a wheel on the road or not
-unfoldable pub tyreOf : WheelCtl → Motion → Bool → Float → Turned
-tyreOf w m road fuel =
-    let omega = turningOf w in
-    let s = slipOf (limitOf road) omega m in
+-- the rest of a wheel's pass, given how fast it turns after the brake, and the forces as they are cut
+unfoldable pub finishOf : WheelCtl → Motion → Float → TyreForce → Float → Turned
+finishOf w m omega s fuel =
     record {
       ctl = record {
         gas = w .gas;
@@ -101,3 +99,9 @@ tyreOf w m road fuel =
       };
       «fuel_spent» = fuel ⊕ dt ⊗ enginePower ⊗ w .gas;
     }
+
+-- the wheel's controls, its force and the fuel spent after the pass, for a wheel on the road or not
+unfoldable pub tyreOf : WheelCtl → Motion → Bool → Float → Turned
+tyreOf w m road fuel =
+    let push = pushOf (turningOf w) m in
+    finishOf w m (turningOf w) (heldOf (limitOf road) (push .«f_force») (push .«p_force»)) fuel

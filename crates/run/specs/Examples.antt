@@ -14,7 +14,7 @@ use Rattle.run.specs.Lap.{lapOf}
 use Rattle.run.specs.Dynamics.{brakedOf}
 use Rattle.run.specs.Pass.{ctlAt, passOf}
 use Rattle.run.specs.Reward.{rewardOf, defaultWeights}
-use Rattle.run.specs.declared.state.WheelCtl.{WheelCtl}
+use Rattle.run.specs.declared.state.Car.{Car}
 use Rattle.run.specs.declared.dynamics.Motion.{Motion}
 
 -- the rectangle from (x, y) to (z, w), its corners in turn
@@ -22,8 +22,8 @@ abbrev pub rectangle : Float → Float → Float → Float → List (List Float)
 rectangle x y z w = (x ∷ y ∷ []) ∷ (z ∷ y ∷ []) ∷ (z ∷ w ∷ []) ∷ (x ∷ w ∷ []) ∷ []
 
 -- both rear wheels have this gas
-abbrev pub RearGas : List WheelCtl → Float → Type 0
-RearGas ctl g = (ctlAt ctl 2 .gas ≡ g) × (ctlAt ctl 3 .gas ≡ g)
+abbrev pub RearGas : Car → Float → Type 0
+RearGas car g = (ctlAt (car .ctl) 2 .gas ≡ g) × (ctlAt (car .ctl) 3 .gas ≡ g)
 
 pub record Marked : Type 0 where
   -- 1. Seed 0: state CA75EED0; seed CA75EED0: state 0
@@ -53,9 +53,9 @@ pub record Marked : Type 0 where
   pub root-4 : sqrtOf (natural 4) ≡ natural 2
   pub root-below : sqrtOf (neg (natural 1)) ≡ nan
   -- 9. Gas action from 0: 0.1, then 0.2; on any ground and at any motion
-  pub gas : (ctl : List WheelCtl) (ms ms₂ : List Motion) (roads roads₂ : List Bool) (fuel fuel₂ : Float) → RearGas ctl (natural 0)
-      → RearGas (passOf ctl 3 ms roads fuel .ctl) (decimal 1 10)
-      × RearGas (passOf (passOf ctl 3 ms roads fuel .ctl) 3 ms₂ roads₂ fuel₂ .ctl) (decimal 2 10)
+  pub gas : (car : Car) (ms ms₂ : List Motion) (roads roads₂ : List Bool) → RearGas car (natural 0)
+      → RearGas (passOf car 3 ms roads .car) (decimal 1 10)
+      × RearGas (passOf (passOf car 3 ms roads .car) 3 ms₂ roads₂ .car) (decimal 2 10)
   -- 10. The braking rule alone, brake 0.8: omega 5 becomes 0; 20 becomes 8
   pub brake-5 : brakedOf (decimal 8 10) (natural 5) ≡ natural 0
   pub brake-20 : brakedOf (decimal 8 10) (natural 20) ≡ natural 8

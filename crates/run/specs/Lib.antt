@@ -24,6 +24,5 @@ pub mod Calls
 pub mod Certificate
 pub mod Replay
 pub mod ReplaySteps
-pub mod LentDrive
 pub mod Batch
 pub mod Examples

@@ -10,8 +10,10 @@ use Rattle.course.specs.Numeric.{minOf, clampOf}
 use Rattle.run.specs.Arguments.{motionAt}
 use Rattle.run.specs.Dynamics.{tyreOf}
 use Rattle.run.specs.declared.state.WheelCtl.{WheelCtl}
+use Rattle.run.specs.declared.state.Car.{Car}
 use Rattle.run.specs.declared.dynamics.Motion.{Motion}
 use Rattle.run.specs.declared.dynamics.Force.{Force}
+use Rattle.run.specs.declared.dynamics.Turned.{Turned}
 
 -- ---- the action rule of `step`: 1 steers to −0.6 (clockwise, to the right), 2 to 0.6, 3 gives gas, 4 brakes
 
@@ -41,11 +43,13 @@ rearOf action w = record { gas = raisedOf (gasOf action) (w .gas); brake = brake
 
 -- ---- the four wheels in their order, the fuel going from one to the next
 
--- what the pass leaves: controls, forces and the fuel spent
+-- what the pass leaves: controls and fuel spent, and the forces
 pub record Passed : Type 0 where
-  pub ctl : List WheelCtl
+  pub car : Car
   pub forces : List Force
-  pub «fuel_spent» : Float
+
+abbrev pub passed : Car → List Force → Passed
+passed car fs = record { car = car; forces = fs }
 
 abbrev pub ctlAt : List WheelCtl → ℕ → WheelCtl
 ctlAt ws i = getD ws i (record { gas = nan; brake = nan; steer = nan; omega = nan; phase = nan })
@@ -53,23 +57,26 @@ ctlAt ws i = getD ws i (record { gas = nan; brake = nan; steer = nan; omega = na
 abbrev pub roadAt : List Bool → ℕ → Bool
 roadAt roads i = getD roads i false
 
-unfoldable pub passOf : List WheelCtl → ℕ → List Motion → List Bool → Float → Passed
-passOf ctl action ms roads fuel =
-    let a = tyreOf (frontOf action (ctlAt ctl 0)) (motionAt ms 0) (roadAt roads 0) fuel in
-    let b = tyreOf (frontOf action (ctlAt ctl 1)) (motionAt ms 1) (roadAt roads 1) (a .«fuel_spent») in
-    let c = tyreOf (rearOf action (ctlAt ctl 2)) (motionAt ms 2) (roadAt roads 2) (b .«fuel_spent») in
-    let d = tyreOf (rearOf action (ctlAt ctl 3)) (motionAt ms 3) (roadAt roads 3) (c .«fuel_spent») in
-    record {
-      ctl = a .ctl ∷ b .ctl ∷ c .ctl ∷ d .ctl ∷ [];
-      forces = a .force ∷ b .force ∷ c .force ∷ d .force ∷ [];
-      «fuel_spent» = d .«fuel_spent»;
-    }
+-- from what each wheel's pass leaves
+unfoldable pub gatheredOf : Turned → Turned → Turned → Turned → Passed
+gatheredOf a b c d = passed (record { ctl = a .ctl ∷ b .ctl ∷ c .ctl ∷ d .ctl ∷ []; «fuel_spent» = d .«fuel_spent» }) (a .force ∷ b .force ∷ c .force ∷ d .force ∷ [])
+
+unfoldable pub passOf : Car → ℕ → List Motion → List Bool → Passed
+passOf car action ms roads =
+    let a = tyreOf (frontOf action (ctlAt (car .ctl) 0)) (motionAt ms 0) (roadAt roads 0) (car .«fuel_spent») in
+    let b = tyreOf (frontOf action (ctlAt (car .ctl) 1)) (motionAt ms 1) (roadAt roads 1) (a .«fuel_spent») in
+    let c = tyreOf (rearOf action (ctlAt (car .ctl) 2)) (motionAt ms 2) (roadAt roads 2) (b .«fuel_spent») in
+    let d = tyreOf (rearOf action (ctlAt (car .ctl) 3)) (motionAt ms 3) (roadAt roads 3) (c .«fuel_spent») in
+    gatheredOf a b c d
 
 -- ---- at rest
 
--- controls of 0
+-- controls and fuel of 0
 unfoldable pub stillWheel : WheelCtl
 stillWheel = record { gas = nought; brake = nought; steer = nought; omega = nought; phase = nought }
+
+unfoldable pub stillCar : Car
+stillCar = record { ctl = stillWheel ∷ stillWheel ∷ stillWheel ∷ stillWheel ∷ []; «fuel_spent» = nought }
 
 -- no force
 abbrev pub noForce : Force

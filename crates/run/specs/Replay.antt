@@ -9,6 +9,7 @@ use Rattle.course.specs.Arithmetic.{nought}
 use Rattle.run.specs.Answers.{Answer}
 use Rattle.run.specs.Answers.Answer.{drove, settled, refused}
 use Rattle.run.specs.Pass.{noForce}
+use Rattle.run.specs.declared.settle.SettleValues.{SettleValues}
 use Rattle.run.specs.declared.state.Pose.{Pose}
 use Rattle.run.specs.declared.dynamics.Motion.{Motion}
 use Rattle.run.specs.declared.dynamics.Force.{Force}
@@ -62,7 +63,7 @@ flag false = 0
 -- the case, then its values: 0 for forces; 1 for a settle with new tiles, n and the flags off, lap and ended as 1, 2 and 4; 2 for a refusal with its number
 unfoldable pub wordsOf : Answer → List ℕ
 wordsOf (drove fs) = 0 ∷ 0 ∷ 0 ∷ 0 ∷ []
-wordsOf (settled new n off lap ended) = 1 ∷ new ∷ n ∷ (flag off + 2 * flag lap + 4 * flag ended) ∷ []
+wordsOf (settled v) = 1 ∷ v .«new_tiles» ∷ v .n ∷ (flag (v .off) + 2 * flag (v .lap) + 4 * flag (v .ended)) ∷ []
 wordsOf (refused k) = 2 ∷ k ∷ 0 ∷ 0 ∷ []
 
 abbrev pub forceAt : List Force → ℕ → Force
@@ -80,7 +81,7 @@ forceNumbers fs =
 -- the forces, or zeros
 unfoldable pub numbersOf : Answer → List Float
 numbersOf (drove fs) = forceNumbers fs
-numbersOf (settled new n off lap ended) = replicate answerNumbers nought
+numbersOf (settled v) = replicate answerNumbers nought
 numbersOf (refused k) = replicate answerNumbers nought
 
 -- ---- a list of answers, one after the other
@@ -98,11 +99,15 @@ allNumbers (a ∷ rest) = numbersOf a ++ allNumbers rest
 unfoldable pub forceFrom : List Float → ℕ → Force
 forceFrom ns i = record { motor = numberAt ns i; fx = numberAt ns (i + 1); fy = numberAt ns (i + 2) }
 
+-- a settle's values by its words: new tiles, n, and the flags off, lap and ended as bits
+unfoldable pub valuesFrom : ℕ → ℕ → ℕ → SettleValues
+valuesFrom new n flags = record { «new_tiles» = new; n = n; off = eqb (flags % 2) 1; lap = eqb (flags / 2 % 2) 1; ended = eqb (flags / 4) 1 }
+
 -- the answer that four words and twelve numbers hold
 unfoldable pub answerFrom : List ℕ → List Float → Answer
 answerFrom ws ns =
     cond (eqb (getD ws 0 0) 0) (drove (forceFrom ns 0 ∷ forceFrom ns 3 ∷ forceFrom ns 6 ∷ forceFrom ns 9 ∷ []))
-    (cond (eqb (getD ws 0 0) 1) (settled (getD ws 1 0) (getD ws 2 0) (eqb (getD ws 3 0 % 2) 1) (eqb (getD ws 3 0 / 2 % 2) 1) (eqb (getD ws 3 0 / 4) 1))
+    (cond (eqb (getD ws 0 0) 1) (settled (valuesFrom (getD ws 1 0) (getD ws 2 0) (getD ws 3 0)))
     (refused (getD ws 1 0)))
 
 -- the first n answers of two columns

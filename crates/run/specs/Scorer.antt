@@ -7,7 +7,6 @@ use Prim.Native.Nat.{ℕ, zero, suc, _+_}
 use lib.Dec.{ltb, leb}
 use lib.ListN.{length}
 use lib.Ieee.{Float}
-use Rattle.course.specs.Arithmetic.{nought}
 use Rattle.course.specs.Rect.{holdsOf}
 use Rattle.course.specs.Tiles.{tileAt, tilesOf}
 use Rattle.course.specs.declared.tiles.TrackPoint.{TrackPoint}
@@ -16,12 +15,11 @@ use Rattle.run.specs.Arguments.{settingsOk, shortColumns, posesOk, place
 use Rattle.run.specs.Overlap.{overlapOf}
 use Rattle.run.specs.Wheel.{quadOf, boxCells}
 use Rattle.run.specs.Lap.{aboveShare, offField}
-use Rattle.run.specs.Pass.{passOf, stillWheel, noForces}
+use Rattle.run.specs.Pass.{Passed, passOf, stillCar, noForces}
 use Rattle.run.specs.Answers.{Answer}
 use Rattle.run.specs.Answers.Answer.{drove, settled, refused}
 use Rattle.run.specs.declared.state.Pose.{Pose}
 use Rattle.run.specs.declared.dynamics.Motion.{Motion}
-use Rattle.run.specs.Pass.{Passed}
 
 -- ---- what it is told
 
@@ -135,8 +133,8 @@ module _ (c : List TrackPoint) where
 
   -- the tyre rules over all kept drives from controls of 0, each wheel's grip by the contact before that drive
   unfoldable pub passed : History → Passed
-  passed (begun b) = record { ctl = stillWheel ∷ stillWheel ∷ stillWheel ∷ stillWheel ∷ []; forces = noForces; «fuel_spent» = nought }
-  passed (thenDrive h a ms) = passOf (passed h .ctl) a ms (grips h) (passed h .«fuel_spent»)
+  passed (begun b) = record { car = stillCar; forces = noForces }
+  passed (thenDrive h a ms) = passOf (passed h .car) a ms (grips h)
   passed (thenSettle h x y ps) = passed h
 
   -- ---- causes, each number of the first that holds, 0 if none does; a course has at most `most` tiles
@@ -171,7 +169,7 @@ module _ (c : List TrackPoint) where
   unfoldable pub settleScore : ℕ → History → Float → Float → List Pose → Scored
   settleScore zero h x y ps =
       let g = thenSettle h x y ps in
-      scored (settled (newTiles h ps) tileCount (off g) (lapDone g) (ended g)) g
+      scored (settled (record { «new_tiles» = newTiles h ps; n = tileCount; off = off g; lap = lapDone g; ended = ended g })) g
   settleScore (suc k) h x y ps = scored (refused (suc k)) h
 
   unfoldable pub score : History → Told → Scored

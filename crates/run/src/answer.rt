@@ -109,8 +109,8 @@ pub(crate) fn put_settle(answer: SettleAnswer, words: &mut [u32], numbers: &mut 
 {
     put_zeros(numbers);
     match answer {
-        SettleAnswer::Settled(fresh, n, off, lap, ended) => {
-            put_words(1, fresh, n, flags(off, lap, ended), words);
+        SettleAnswer::Settled(v) => {
+            put_words(1, v.new_tiles, v.n, flags(v.off, v.lap, v.ended), words);
         }
         SettleAnswer::Refused(k) => {
             put_words(2, k, 0, 0, words);

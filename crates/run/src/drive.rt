@@ -3,20 +3,25 @@ ghost use mathlib.Core.Path.{_≡_};
 ghost use Prim.Native.Nat.{ℕ, _+_, _*_, _^_, _≤_, _<_};
 ghost use lib.ListN.{length, getD};
 ghost use Rattle.run.specs.Widths.{fullWords, mostTiles};
+ghost use Rattle.run.specs.State.{view, awaiting};
 ghost use Rattle.run.specs.Grip.{onRoad, roadsOf};
-ghost use Rattle.run.specs.Drive.{driveAnswerOf, driveSetsOf, driveOf};
-ghost use Rattle.run.specs.Pass.{indicator, frontOf, rearOf};
-ghost use Rattle.run.specs.Arguments.{motionOk};
-ghost use Rattle.run.specs.Replay.{motionsFrom};
-ghost use Rattle.run.specs.LentDrive.{wheelsFrom};
-ghost use Rattle.run.specs.DriveSteps.{controlOf, anyStands};
+ghost use Rattle.run.specs.Arguments.{motionOk, motionsOk};
+ghost use Rattle.run.specs.Pass.{indicator, frontOf, rearOf, passed, gatheredOf, passOf, noForces};
+ghost use Rattle.run.specs.Drive.{driveCause, drivePartsOf, driven, driveOf};
+ghost use Rattle.run.specs.DriveSteps.{anyStands};
+use crate::dynamics;
 use crate::dynamics::Force;
 use crate::dynamics::Motion;
-use crate::lent;
+use crate::dynamics::Turned;
 use crate::state;
-use crate::state::Core;
+use crate::state::Car;
+use crate::state::Progress;
 use crate::state::Run;
+use crate::state::Setup;
 use crate::state::WheelCtl;
+use crate::widths::FULL_WORDS;
+use crate::widths::MOST_TILES;
+use crate::widths::WHEEL_WORDS;
 use course::numeric;
 
 // How a drive is answered: with forces, or refused by a cause's number.
@@ -32,11 +37,18 @@ pub struct Drove {
     pub run: Run,
 }
 
-// The same without the bit sets, which no drive changes.
-pub struct CoreDrove {
+// The same of the parts that a drive changes.
+pub struct DroveParts {
     pub answer: DriveAnswer,
     pub forces: [Force; 4],
-    pub core: Core,
+    pub progress: Progress,
+    pub car: Car,
+}
+
+// What the tyre pass leaves.
+pub(crate) struct Passed {
+    pub car: Car,
+    pub forces: [Force; 4],
 }
 
 // `f64::from` of a bool.
@@ -71,18 +83,59 @@ fn rear(w: WheelCtl, action: u32) -> WheelCtl
     v
 }
 
-// The action rule for wheel i: the first two are in front.
-pub(crate) fn control(w: WheelCtl, i: usize, action: u32) -> WheelCtl
-    ensures { λ r. ⌜ r ≡ controlOf action i w ⌝ }
+// What the pass leaves, from what each wheel's leaves.
+fn gathered(a: Turned, b: Turned, c: Turned, d: Turned) -> Passed
+    ensures { λ r. ⌜ passed (r .car) (r .forces) ≡ gatheredOf a b c d ⌝ }
 {
-    if i < 2 {
-        return front(w, action);
+    let c0 = a.ctl;
+    let c1 = b.ctl;
+    let c2 = c.ctl;
+    let c3 = d.ctl;
+    let f0 = a.force;
+    let f1 = b.force;
+    let f2 = c.force;
+    let f3 = d.force;
+    let car = Car {
+        ctl: [c0, c1, c2, c3],
+        fuel_spent: d.fuel_spent,
+    };
+    Passed {
+        car,
+        forces: [f0, f1, f2, f3],
     }
-    rear(w, action)
+}
+
+// The tyre pass over the four wheels, the fuel going from one to the next. What pushes at the tyres is worked out for all of them
+// before any is cut: a root takes long, and so the wheels' roots do not wait for each other.
+fn pass(car: Car, action: u32, motion: [Motion; 4], roads: [bool; 4]) -> Passed
+    ensures { λ r. ⌜ passed (r .car) (r .forces) ≡ passOf car action motion roads ⌝ }
+{
+    let ctl = car.ctl;
+    let w0 = front(ctl[0], action);
+    let w1 = front(ctl[1], action);
+    let w2 = rear(ctl[2], action);
+    let w3 = rear(ctl[3], action);
+    let o0 = dynamics::turning(w0);
+    let o1 = dynamics::turning(w1);
+    let o2 = dynamics::turning(w2);
+    let o3 = dynamics::turning(w3);
+    let p0 = dynamics::push(o0, motion[0]);
+    let p1 = dynamics::push(o1, motion[1]);
+    let p2 = dynamics::push(o2, motion[2]);
+    let p3 = dynamics::push(o3, motion[3]);
+    let s0 = dynamics::held(roads[0], p0.f_force, p0.p_force);
+    let s1 = dynamics::held(roads[1], p1.f_force, p1.p_force);
+    let s2 = dynamics::held(roads[2], p2.f_force, p2.p_force);
+    let s3 = dynamics::held(roads[3], p3.f_force, p3.p_force);
+    let a = dynamics::finish(w0, motion[0], o0, s0, car.fuel_spent);
+    let b = dynamics::finish(w1, motion[1], o1, s1, a.fuel_spent);
+    let c = dynamics::finish(w2, motion[2], o2, s2, b.fuel_spent);
+    let d = dynamics::finish(w3, motion[3], o3, s3, c.fuel_spent);
+    gathered(a, b, c, d)
 }
 
 // A wheel's five numbers are in range.
-pub(crate) fn motion_ok(m: Motion) -> bool
+fn motion_ok(m: Motion) -> bool
     ensures { λ r. ⌜ r ≡ motionOk m ⌝ }
 {
     state::in_range(m.joint_angle)
@@ -133,7 +186,7 @@ fn on_road(wheels: &[u64], words: usize, w: usize) -> bool
 }
 
 // Which wheels touched a tile at the last contact.
-pub(crate) fn roads_of(wheels: &[u64], words: usize) -> [bool; 4]
+fn roads_of(wheels: &[u64], words: usize) -> [bool; 4]
     requires { do ⌜ 4 * words ≤ (← ⟦wheels.len()⟧) ⌝ }
     ensures { λ r. ⌜ r ≡ roadsOf words (now (wheels .entry)) ⌝ }
 {
@@ -144,114 +197,104 @@ pub(crate) fn roads_of(wheels: &[u64], words: usize) -> [bool; 4]
     [a, b, c, d]
 }
 
-// The numbers of four controls, five to a wheel.
-fn control_numbers(ctl: [WheelCtl; 4]) -> [f64; 20]
-    ensures { λ r. ⌜ wheelsFrom r ≡ ctl ⌝ }
+// The four wheels' numbers are in range.
+fn motions_ok(m: [Motion; 4]) -> bool
+    ensures { λ r. ⌜ r ≡ motionsOk m ⌝ }
 {
-    let a = ctl[0];
-    let b = ctl[1];
-    let c = ctl[2];
-    let d = ctl[3];
-    [
-        a.gas,
-        a.brake,
-        a.steer,
-        a.omega,
-        a.phase,
-        b.gas,
-        b.brake,
-        b.steer,
-        b.omega,
-        b.phase,
-        c.gas,
-        c.brake,
-        c.steer,
-        c.omega,
-        c.phase,
-        d.gas,
-        d.brake,
-        d.steer,
-        d.omega,
-        d.phase,
-    ]
+    motion_ok(m[0]) & motion_ok(m[1]) & motion_ok(m[2]) & motion_ok(m[3])
 }
 
-// The numbers of four motions, five to a wheel.
-fn motion_numbers(motion: [Motion; 4]) -> [f64; 20]
-    ensures { λ r. ⌜ motionsFrom r ≡ motion ⌝ }
+// The number of the first cause that holds, or 0.
+fn drive_cause(most: u32, setup: Setup, progress: Progress, action: u32, motion: [Motion; 4]) -> u32
+    ensures { λ r. ⌜ r ≡ driveCause most setup progress action motion ⌝ }
 {
-    let a = motion[0];
-    let b = motion[1];
-    let c = motion[2];
-    let d = motion[3];
-    [
-        a.joint_angle,
-        a.sin,
-        a.cos,
-        a.vx,
-        a.vy,
-        b.joint_angle,
-        b.sin,
-        b.cos,
-        b.vx,
-        b.vy,
-        c.joint_angle,
-        c.sin,
-        c.cos,
-        c.vx,
-        c.vy,
-        d.joint_angle,
-        d.sin,
-        d.cos,
-        d.vx,
-        d.vy,
-    ]
-}
-
-// The answer by its cause's number.
-fn answer_of(number: u32) -> DriveAnswer
-    ensures { λ r. ⌜ r ≡ driveAnswerOf number ⌝ }
-{
-    if number == 0 {
-        return DriveAnswer::Forces;
+    if state::is_unfit(most, setup, progress) | progress.ended {
+        return 4;
     }
-    DriveAnswer::Refused(number)
+    if progress.driven {
+        return 5;
+    }
+    if setup.tick_limit <= progress.tick {
+        return 6;
+    }
+    if 4 < action {
+        return 7;
+    }
+    if !motions_ok(motion) {
+        return 8;
+    }
+    0
 }
 
-// The call where the wheels' sets are lent, which it only reads: `drive_lent` on the numbers of controls and motions. Sets of
-// other widths are no run's (cause 4).
-pub fn drive_in_place(core: Core, wheels: &[u64], action: u32, motion: [Motion; 4]) -> CoreDrove
-    ensures { λ r. ⌜ r ≡ driveSetsOf fullWords mostTiles core (now (wheels .entry)) action motion ⌝ }
+// A settle is awaited.
+fn await_settle(progress: Progress) -> Progress
+    ensures { λ r. ⌜ r ≡ awaiting progress ⌝ }
 {
-    let ctl = core.ctl;
-    let mut numbers = control_numbers(ctl);
-    let given = motion_numbers(motion);
-    let mut pushes = [0.0; 12];
-    let counts = lent::counts_of(core);
-    let d = lent::drive_lent(counts, &mut numbers, wheels, action, &given, &mut pushes);
-    let answer = answer_of(d.cause);
-    let forces = lent::forces_from(&pushes);
-    let next = lent::core_from(lent::counts_after(counts, d), &numbers);
-    CoreDrove {
-        answer,
+    let mut next = progress;
+    next.driven = true;
+    next
+}
+
+// No force at any wheel.
+fn no_forces() -> [Force; 4]
+    ensures { λ r. ⌜ r ≡ noForces ⌝ }
+{
+    let z = Force {
+        motor: 0.0,
+        fx: 0.0,
+        fy: 0.0,
+    };
+    [z, z, z, z]
+}
+
+// The call on the parts that it reads and changes, the wheels' sets lent.
+pub fn drive_parts(
+    setup: Setup,
+    progress: Progress,
+    car: Car,
+    wheels: &[u64; WHEEL_WORDS],
+    action: u32,
+    motion: [Motion; 4],
+) -> DroveParts
+    ensures { λ r. ⌜ r ≡ drivePartsOf fullWords mostTiles setup progress car (now (wheels .entry)) action motion ⌝ }
+{
+    let number = drive_cause(MOST_TILES, setup, progress, action, motion);
+    if number != 0 {
+        return DroveParts {
+            answer: DriveAnswer::Refused(number),
+            forces: no_forces(),
+            progress,
+            car,
+        };
+    }
+    let roads = roads_of(wheels, FULL_WORDS);
+    let p = pass(car, action, motion, roads);
+    let after = p.car;
+    let forces = p.forces;
+    DroveParts {
+        answer: DriveAnswer::Forces,
         forces,
-        core: next,
+        progress: await_settle(progress),
+        car: after,
     }
 }
 
 // Forces for the host, or the number of a cause and the state as it was.
 pub fn drive(run: Run, action: u32, motion: [Motion; 4]) -> Drove
-    ensures { λ r. ⌜ r ≡ driveOf fullWords mostTiles run action motion ⌝ }
+    ensures { λ r. ⌜ driven (r .answer) (r .forces) (view (r .run)) ≡ driveOf fullWords mostTiles (view run) action motion ⌝ }
 {
-    let core = run.core;
+    let setup = run.setup;
     let credited = run.credited;
     let wheels = run.wheels;
-    let d = drive_in_place(core, &wheels, action, motion);
+    let d = drive_parts(setup, run.progress, run.car, &wheels, action, motion);
     let answer = d.answer;
     let forces = d.forces;
-    let next = d.core;
+    let progress = d.progress;
+    let car = d.car;
     let after = Run {
-        core: next,
+        setup,
+        progress,
+        car,
         credited,
         wheels,
     };

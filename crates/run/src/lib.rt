@@ -8,7 +8,6 @@ mod contact;
 pub mod drive;
 pub mod dynamics;
 mod lap;
-pub mod lent;
 pub mod quad;
 pub mod replay;
 pub mod reward;

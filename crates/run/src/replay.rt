@@ -255,6 +255,6 @@ pub fn replay(
     Replayed {
         laid,
         start: begun,
-        sheet: sheet::sheet(last),
+        sheet: sheet::sheet(last.setup, last.progress),
     }
 }

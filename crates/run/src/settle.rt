@@ -2,23 +2,32 @@
 ghost use mathlib.Core.Path.{_≡_};
 ghost use Prim.Native.Nat.{_+_, _<_};
 ghost use Rattle.run.specs.Widths.{fullWords, mostTiles};
-ghost use lib.ListN.{length};
-ghost use Rattle.run.specs.State.{stateOf, view, columns, fullSets};
-ghost use Rattle.run.specs.Settle.{settleCause, settledCore, settleSetsOf, done, settleOf};
+ghost use Rattle.run.specs.State.{view, columns};
+ghost use Rattle.run.specs.Settle.{settleCause, settledProgress, settledParts, settlePartsOf, done, settleOf};
 use crate::contact;
 use crate::lap;
 use crate::state;
-use crate::state::Core;
 use crate::state::Pose;
+use crate::state::Progress;
 use crate::state::Run;
+use crate::state::Setup;
 use crate::touch;
 use crate::widths::FULL_WORDS;
 use crate::widths::MOST_TILES;
 use crate::widths::WHEEL_WORDS;
 
-// New tiles, n, off, lap, ended; or the number of the cause.
+// New tiles, the course's tile count, whether the hull is off the playfield, a lap is complete, and the run has ended.
+pub struct SettleValues {
+    pub new_tiles: u32,
+    pub n: u32,
+    pub off: bool,
+    pub lap: bool,
+    pub ended: bool,
+}
+
+// How a settle is answered: with its values, or refused by a cause's number.
 pub enum SettleAnswer {
-    Settled(u32, u32, bool, bool, bool),
+    Settled(SettleValues),
     Refused(u32),
 }
 
@@ -28,16 +37,17 @@ pub struct Settlement {
     pub run: Run,
 }
 
-// The same without the bit sets.
-pub struct CoreSettled {
+// The same but for the sets, which are changed where they stand.
+pub struct Settling {
     pub answer: SettleAnswer,
-    pub core: Core,
+    pub progress: Progress,
 }
 
 // The first of the causes 4, 5, 6, 2, 8 and 10 that holds, else 0; n is at most `most`.
 fn settle_cause(
     most: u32,
-    s: Core,
+    setup: Setup,
+    progress: Progress,
     tiles: &[f64],
     offsets: &[u32],
     list: &[u32],
@@ -45,15 +55,15 @@ fn settle_cause(
     y: f64,
     poses: [Pose; 4],
 ) -> u32
-    ensures { λ r. ⌜ r ≡ settleCause most s (columns (now (tiles .entry)) (now (offsets .entry)) (now (list .entry))) x y poses ⌝ }
+    ensures { λ r. ⌜ r ≡ settleCause most setup progress (columns (now (tiles .entry)) (now (offsets .entry)) (now (list .entry))) x y poses ⌝ }
 {
-    if state::is_unfit(most, s) | s.ended {
+    if state::is_unfit(most, setup, progress) | progress.ended {
         return 4;
     }
-    if !s.driven {
+    if !progress.driven {
         return 5;
     }
-    if s.tick_limit <= s.tick {
+    if setup.tick_limit <= progress.tick {
         return 6;
     }
     if state::is_short(tiles.len(), offsets.len()) {
@@ -62,61 +72,59 @@ fn settle_cause(
     if !((state::in_range(x) & state::in_range(y)) & state::poses_ok(poses)) {
         return 8;
     }
-    if !touch::poses_sound(offsets, list, s.n as usize, poses) {
+    if !touch::poses_sound(offsets, list, setup.n as usize, poses) {
         return 10;
     }
     0
 }
 
-// The state but for the bit sets, after a contact with `fresh` new tiles.
-fn settled_core(s: Core, fresh: u32, zero: bool, off: bool) -> Core
-    requires { ⌜ (s .«visited_count» + fresh < 4294967296) × (s .tick < s .«tick_limit») ⌝ }
-    ensures { λ r. ⌜ r ≡ settledCore s fresh zero off ⌝ }
+// The progress after a contact with `fresh` new tiles.
+fn settled_progress(setup: Setup, progress: Progress, fresh: u32, zero: bool, off: bool) -> Progress
+    requires { ⌜ (progress .«visited_count» + fresh < 4294967296) × (progress .tick < setup .«tick_limit») ⌝ }
+    ensures { λ r. ⌜ r ≡ settledProgress setup progress fresh zero off ⌝ }
 {
-    let count = s.visited_count + fresh;
-    let flag = lap::update_lap(s.lap, zero, count, s.n, s.lap_share);
-    let mut next = s;
-    next.visited_count = count;
-    next.tick = s.tick + 1;
-    next.lap = flag;
-    next.driven = false;
-    next.ended = lap::is_end(count, s.n, flag, off);
-    next
+    let count = progress.visited_count + fresh;
+    let lap = lap::update_lap(progress.lap, zero, count, setup.n, setup.lap_share);
+    Progress {
+        visited_count: count,
+        tick: progress.tick + 1,
+        lap,
+        ended: lap::is_end(count, setup.n, lap, off),
+        driven: false,
+    }
 }
 
-// The sets have the full state's widths.
-fn are_full(credited: usize, wheels: usize) -> bool
-    ensures { λ r. ⌜ r ≡ fullSets fullWords credited wheels ⌝ }
-{
-    (credited == FULL_WORDS) & (wheels == WHEEL_WORDS)
-}
-
-// The call where the sets are lent and changed in place: a caller who keeps the state moves none of them. A refusal leaves
-// them, and sets of other widths are no run's (cause 4).
-pub fn settle_in_place(
-    core: Core,
-    credited: &mut [u64],
-    wheels: &mut [u64],
+// The call on the parts that it reads and changes, the sets lent and changed in place: a caller who keeps the state moves none of them. A
+// refusal leaves them.
+pub fn settle_parts(
+    setup: Setup,
+    progress: Progress,
+    credited: &mut [u64; FULL_WORDS],
+    wheels: &mut [u64; WHEEL_WORDS],
     tiles: &[f64],
     offsets: &[u32],
     list: &[u32],
     x: f64,
     y: f64,
     poses: [Pose; 4],
-) -> CoreSettled
-    ensures { λ r. ⌜ done (r .answer) (stateOf (r .core) (now (credited .exit)) (now (wheels .exit))) ≡ settleSetsOf fullWords mostTiles (stateOf core (now (credited .entry)) (now (wheels .entry))) (columns (now (tiles .entry)) (now (offsets .entry)) (now (list .entry))) x y poses ⌝ }
+) -> Settling
+    ensures { λ r. ⌜ settledParts (r .answer) (r .progress) (now (credited .exit)) (now (wheels .exit)) ≡ settlePartsOf fullWords mostTiles setup progress (now (credited .entry)) (now (wheels .entry)) (columns (now (tiles .entry)) (now (offsets .entry)) (now (list .entry))) x y poses ⌝ }
 {
-    if !are_full(credited.len(), wheels.len()) {
-        return CoreSettled {
-            answer: SettleAnswer::Refused(4),
-            core,
-        };
-    }
-    let k = settle_cause(MOST_TILES, core, tiles, offsets, list, x, y, poses);
+    let k = settle_cause(
+        MOST_TILES,
+        setup,
+        progress,
+        tiles,
+        offsets,
+        list,
+        x,
+        y,
+        poses,
+    );
     if k != 0 {
-        return CoreSettled {
+        return Settling {
             answer: SettleAnswer::Refused(k),
-            core,
+            progress,
         };
     }
     let c = contact::full_contact(
@@ -124,15 +132,22 @@ pub fn settle_in_place(
         tiles,
         offsets,
         list,
-        core.n as usize,
+        setup.n as usize,
         credited,
         wheels,
     );
     let off = lap::is_off(x, y);
-    let next = settled_core(core, c.fresh, c.zero, off);
-    CoreSettled {
-        answer: SettleAnswer::Settled(c.fresh, core.n, off, next.lap, next.ended),
-        core: next,
+    let next = settled_progress(setup, progress, c.fresh, c.zero, off);
+    let values = SettleValues {
+        new_tiles: c.fresh,
+        n: setup.n,
+        off,
+        lap: next.lap,
+        ended: next.ended,
+    };
+    Settling {
+        answer: SettleAnswer::Settled(values),
+        progress: next,
     }
 }
 
@@ -148,11 +163,13 @@ pub fn settle(
 ) -> Settlement
     ensures { λ r. ⌜ done (r .answer) (view (r .run)) ≡ settleOf fullWords mostTiles (view run) (columns (now (tiles .entry)) (now (offsets .entry)) (now (list .entry))) x y poses ⌝ }
 {
+    let setup = run.setup;
+    let car = run.car;
     let mut credited = run.credited;
     let mut wheels = run.wheels;
-    let core = run.core;
-    let c = settle_in_place(
-        core,
+    let s = settle_parts(
+        setup,
+        run.progress,
         &mut credited,
         &mut wheels,
         tiles,
@@ -162,10 +179,12 @@ pub fn settle(
         y,
         poses,
     );
-    let answer = c.answer;
-    let next = c.core;
+    let answer = s.answer;
+    let progress = s.progress;
     let after = Run {
-        core: next,
+        setup,
+        progress,
+        car,
         credited,
         wheels,
     };

@@ -2,10 +2,10 @@
 ghost use mathlib.Core.Path.{_≡_};
 ghost use Prim.Native.Nat.{_≤_, _<_};
 ghost use Rattle.run.specs.Widths.{mostTiles};
-ghost use Rattle.run.specs.Sheet.{shareOf, coreSheetOf, sheetOf};
+ghost use Rattle.run.specs.Sheet.{shareOf, sheetOf};
 use crate::state;
-use crate::state::Core;
-use crate::state::Run;
+use crate::state::Progress;
+use crate::state::Setup;
 use crate::widths::MOST_TILES;
 
 #[repr(C)]
@@ -34,28 +34,21 @@ fn share(credited: u32, n: u32) -> u32
     (1000 * (credited as u64) / (n as u64)) as u32
 }
 
-// The sheet of a state whose sets hold `most` tiles: it reads no bit set.
-pub(crate) fn core_sheet(most: u32, s: Core) -> SheetAnswer
-    ensures { λ r. ⌜ r ≡ coreSheetOf most s ⌝ }
+// The figures of a run, ended or not; refused where its counts are not those of a run. They are read from what start fixed and what
+// settle changed.
+pub fn sheet(setup: Setup, progress: Progress) -> SheetAnswer
+    ensures { λ r. ⌜ r ≡ sheetOf mostTiles setup progress ⌝ }
 {
-    if state::is_unfit(most, s) {
+    if state::is_unfit(MOST_TILES, setup, progress) {
         return SheetAnswer::Refused(4);
     }
     SheetAnswer::Sheet(RunSheet {
-        tick: s.tick,
-        credited: s.visited_count,
-        n: s.n,
-        lap: s.lap,
-        ended: s.ended,
-        fallback: s.fallback,
-        share: share(s.visited_count, s.n),
+        tick: progress.tick,
+        credited: progress.visited_count,
+        n: setup.n,
+        lap: progress.lap,
+        ended: progress.ended,
+        fallback: setup.fallback,
+        share: share(progress.visited_count, setup.n),
     })
-}
-
-// The figures of a run, ended or not; refused where its counts are not those of a run.
-pub fn sheet(run: Run) -> SheetAnswer
-    ensures { λ r. ⌜ r ≡ sheetOf mostTiles run ⌝ }
-{
-    let core = run.core;
-    core_sheet(MOST_TILES, core)
 }

@@ -2,23 +2,32 @@
 ghost use mathlib.Core.Path.{_≡_};
 ghost use Rattle.run.specs.Widths.{fullWords, mostTiles};
 ghost use Rattle.run.specs.State.{view, columns};
-ghost use Rattle.run.specs.Start.{startCause, begunCore, zeroState, begun, startOf};
+ghost use Rattle.run.specs.Start.{startCause, setupOf, firstProgress, zeroState, begun, startOf};
+ghost use Rattle.run.specs.Pass.{stillCar};
 ghost use Rattle.run.specs.Arguments.{settingsOk};
 use crate::contact;
 use crate::lap;
 use crate::state;
-use crate::state::Core;
+use crate::state::Car;
 use crate::state::Pose;
+use crate::state::Progress;
 use crate::state::Run;
+use crate::state::Setup;
 use crate::state::WheelCtl;
 use crate::touch;
 use crate::widths::FULL_WORDS;
 use crate::widths::MOST_TILES;
 use crate::widths::WHEEL_WORDS;
 
-// How many tiles are credited, and the lap; or the number of the cause.
+// How many tiles are credited at the start, and the lap.
+pub struct StartValues {
+    pub count: u32,
+    pub lap: bool,
+}
+
+// How a start is answered: with its values, or refused by a cause's number.
 pub enum StartAnswer {
-    Started(u32, bool),
+    Started(StartValues),
     Refused(u32),
 }
 
@@ -64,9 +73,22 @@ fn start_cause(
     0
 }
 
-// The state but for the bit sets: controls, fuel and tick begin at 0.
-fn begun_core(n: u32, fallback: bool, share: f64, limit: u32, count: u32, lap: bool) -> Core
-    ensures { λ r. ⌜ r ≡ begunCore n fallback share limit count lap ⌝ }
+// Tick 0 and no drive made, with so many tiles credited.
+fn first_progress(count: u32, lap: bool) -> Progress
+    ensures { λ r. ⌜ r ≡ firstProgress count lap ⌝ }
+{
+    Progress {
+        visited_count: count,
+        tick: 0,
+        lap,
+        ended: false,
+        driven: false,
+    }
+}
+
+// Controls and fuel of 0.
+fn still_car() -> Car
+    ensures { λ r. ⌜ r ≡ stillCar ⌝ }
 {
     let z = WheelCtl {
         gas: 0.0,
@@ -75,18 +97,8 @@ fn begun_core(n: u32, fallback: bool, share: f64, limit: u32, count: u32, lap: b
         omega: 0.0,
         phase: 0.0,
     };
-    let ctl = [z, z, z, z];
-    Core {
-        n,
-        visited_count: count,
-        tick: 0,
-        tick_limit: limit,
-        lap_share: share,
-        lap,
-        ended: false,
-        fallback,
-        driven: false,
-        ctl,
+    Car {
+        ctl: [z, z, z, z],
         fuel_spent: 0.0,
     }
 }
@@ -95,11 +107,20 @@ fn begun_core(n: u32, fallback: bool, share: f64, limit: u32, count: u32, lap: b
 fn zero_run() -> Run
     ensures { λ r. ⌜ view r ≡ zeroState fullWords ⌝ }
 {
-    let core = begun_core(0, false, 0.0, 0, 0, false);
+    let setup = Setup {
+        n: 0,
+        tick_limit: 0,
+        lap_share: 0.0,
+        fallback: false,
+    };
+    let progress = first_progress(0, false);
+    let car = still_car();
     let credited = [0u64; FULL_WORDS];
     let wheels = [0u64; WHEEL_WORDS];
     Run {
-        core,
+        setup,
+        progress,
+        car,
         credited,
         wheels,
     }
@@ -148,14 +169,27 @@ pub fn start(
         &mut wheels,
     );
     let lap = lap::update_lap(false, c.zero, c.fresh, n, share);
-    let core = begun_core(n, fallback, share, limit, c.fresh, lap);
+    let setup = Setup {
+        n,
+        tick_limit: limit,
+        lap_share: share,
+        fallback,
+    };
+    let progress = first_progress(c.fresh, lap);
+    let car = still_car();
     let run = Run {
-        core,
+        setup,
+        progress,
+        car,
         credited,
         wheels,
     };
+    let values = StartValues {
+        count: c.fresh,
+        lap,
+    };
     Started {
-        answer: StartAnswer::Started(c.fresh, lap),
+        answer: StartAnswer::Started(values),
         run,
     }
 }

@@ -1,7 +1,7 @@
 // The state of a run, and the tests of arguments and states that the calls share (document 01,
 // "Refusals by cause").
 ghost use mathlib.Core.Path.{_≡_};
-ghost use Rattle.run.specs.State.{unfitCore};
+ghost use Rattle.run.specs.State.{unfit};
 ghost use Rattle.run.specs.Arguments.{inRange, poseOk, posesOk, shortColumns};
 use crate::widths::FULL_WORDS;
 use crate::widths::WHEEL_WORDS;
@@ -28,29 +28,41 @@ pub struct Pose {
     pub sin: f64,
 }
 
-// The part of the state that has no bit set: the same for every number of words.
+// What start fixes: no later call changes it.
 #[repr(C)]
-pub struct Core {
+pub struct Setup {
     // The course's tile count.
     pub n: u32,
+    pub tick_limit: u32,
+    pub lap_share: f64,
+    pub fallback: bool,
+}
+
+// What settle changes.
+#[repr(C)]
+pub struct Progress {
     // How many tiles are credited.
     pub visited_count: u32,
     pub tick: u32,
-    pub tick_limit: u32,
-    pub lap_share: f64,
     pub lap: bool,
     pub ended: bool,
-    pub fallback: bool,
-    // A drive awaits its settle.
+    // A drive awaits its settle: an accepted drive says so, and its settle takes it back.
     pub driven: bool,
+}
+
+// What drive changes.
+#[repr(C)]
+pub struct Car {
     pub ctl: [WheelCtl; 4],
     pub fuel_spent: f64,
 }
 
-// The state of a run: a set of the credited tiles, and for each wheel one of the tiles that it touched last.
+// The state of a run, by who writes it; then a set of the credited tiles, and for each wheel one of the tiles that it touched last.
 #[repr(C)]
 pub struct Run {
-    pub core: Core,
+    pub setup: Setup,
+    pub progress: Progress,
+    pub car: Car,
     pub credited: [u64; FULL_WORDS],
     pub wheels: [u64; WHEEL_WORDS],
 }
@@ -84,8 +96,8 @@ pub fn is_short(tiles: usize, offsets: usize) -> bool
 }
 
 // Cause 4 but for its ended part, where sets hold `most` tiles: the sheet's whole cause.
-pub fn is_unfit(most: u32, s: Core) -> bool
-    ensures { λ r. ⌜ r ≡ unfitCore most s ⌝ }
+pub fn is_unfit(most: u32, setup: Setup, progress: Progress) -> bool
+    ensures { λ r. ⌜ r ≡ unfit most setup progress ⌝ }
 {
-    (s.n < 1) | (most < s.n) | (s.n < s.visited_count)
+    (setup.n < 1) | (most < setup.n) | (setup.n < progress.visited_count)
 }

@@ -34,7 +34,7 @@ same-length-2 : tie.Need-same-length-2
 same-length-2 c = search needs
 
 returns : tie.Need-returns
-returns c = written-settled _ _ _ _ _ _ _ _ _ (c .before .before .before .before .before .before .answer .given .1) (c .before .before .before .before .flags .ensures) (c .before .before .put-words .ensures) (c .before .before .before .before .before .before .before .before .before .before .put-zeros .ensures)
+returns c = written-settled _ _ _ _ _ (c .before .before .before .before .before .before .answer .given .1) (c .before .before .before .before .flags .ensures) (c .before .before .put-words .ensures) (c .before .before .before .before .before .before .before .before .before .before .put-zeros .ensures)
 
 same-length-3 : tie.Need-same-length-3
 same-length-3 c = search needs

@@ -1,3 +1,4 @@
+use Rattle.run.specs.State.{view}
 -- `run::replay::reply_drive` meets its contract. Assumes nothing.
 use Rattle.run.proofs.ReplayLaws.{answered-drive}
 use Rattle.run.specs.Widths.{fullWords, mostTiles}
@@ -30,7 +31,7 @@ returns c =
     let s = c .before .before .before .before .before .before .before .before .before .before .before .before .before .before in
     let d = c .before .before .before .before .before .before .before .before .before in
     let p = c .before .before .before .before .put-drive in
-    answered-drive fullWords mostTiles (s .args .run) (s .args .action) (d .before .motions .result) (s .args .given .now) (d .drive .result) _ _ (d .before .motions .ensures) (d .drive .ensures) (p .ensures .0) (p .ensures .1)
+    answered-drive fullWords mostTiles (view (s .args .run)) (s .args .action) (d .before .motions .result) (s .args .given .now) (d .drive .result .answer) (d .drive .result .forces) (view (d .drive .result .run)) _ _ (d .before .motions .ensures) (d .drive .ensures) (p .ensures .0) (p .ensures .1)
 
 pub reply-drive-spec : {M : Type 1} → statement M
 reply-drive-spec =

@@ -33,14 +33,14 @@ returns-2 c = simp (← c .before .before .before .before .is-unfit .ensures, c 
 
 returns-3 : tie.Need-returns-3
 unfolding settleCause placesOk shortOf
-returns-3 c = simp (← c .before .before .before .before .before .before .is-unfit .ensures, c .before .before .before .before .if1 .left, c .before .before .if2 .left, le-leb _ _ (c .if3 .taken))
+returns-3 c = simp (← c .before .before .before .before .before .before .before .is-unfit .ensures, c .before .before .before .before .before .if1 .left, c .before .before .before .if2 .left, le-leb _ _ (c .if3 .taken))
 
 is-short-requires : tie.Need-is-short-requires
 is-short-requires c κs = search needs
 
 returns-4 : tie.Need-returns-4
 unfolding settleCause placesOk shortOf
-returns-4 c = simp (← c .before .before .before .before .before .before .before .before .is-unfit .ensures, c .before .before .before .before .before .before .if1 .left, c .before .before .before .before .if2 .left, lt-leb _ _ (c .before .before .if3 .left), ← c .before .is-short .ensures, c .if4 .taken)
+returns-4 c = simp (← c .before .before .before .before .before .before .before .before .before .is-unfit .ensures, c .before .before .before .before .before .before .before .if1 .left, c .before .before .before .before .before .if2 .left, lt-leb _ _ (c .before .before .if3 .left), ← c .before .is-short .ensures, c .if4 .taken)
 
 in-range-requires : tie.Need-in-range-requires
 in-range-requires c κs = search needs
@@ -53,7 +53,7 @@ poses-ok-requires c κs = search needs
 
 returns-5 : tie.Need-returns-5
 unfolding settleCause placesOk shortOf
-returns-5 c = simp (← c .before .before .before .before .before .before .before .before .before .before .before .before .is-unfit .ensures, c .before .before .before .before .before .before .before .before .before .before .if1 .left, c .before .before .before .before .before .before .before .before .if2 .left, lt-leb _ _ (c .before .before .before .before .before .before .if3 .left), ← c .before .before .before .before .before .is-short .ensures, c .before .before .before .before .if4 .left, ← c .before .before .before .in-range .ensures, ← c .before .before .in-range2 .ensures, ← c .before .poses-ok .ensures, c .if5 .taken)
+returns-5 c = simp (← c .before .before .before .before .before .before .before .before .before .before .before .before .before .is-unfit .ensures, c .before .before .before .before .before .before .before .before .before .before .before .if1 .left, c .before .before .before .before .before .before .before .before .before .if2 .left, lt-leb _ _ (c .before .before .before .before .before .before .if3 .left), ← c .before .before .before .before .before .is-short .ensures, c .before .before .before .before .if4 .left, ← c .before .before .before .in-range .ensures, ← c .before .before .in-range2 .ensures, ← c .before .poses-ok .ensures, c .if5 .taken)
 
 cast-poses-sound : tie.Need-cast-poses-sound
 cast-poses-sound c = search needs
@@ -63,11 +63,11 @@ poses-sound-requires c κs = search needs
 
 returns-6 : tie.Need-returns-6
 unfolding settleCause placesOk shortOf
-returns-6 c = simp (← c .before .before .before .before .before .before .before .before .before .before .before .before .before .before .before .is-unfit .ensures, c .before .before .before .before .before .before .before .before .before .before .before .before .before .if1 .left, c .before .before .before .before .before .before .before .before .before .before .before .if2 .left, lt-leb _ _ (c .before .before .before .before .before .before .before .before .before .if3 .left), ← c .before .before .before .before .before .before .before .before .is-short .ensures, c .before .before .before .before .before .before .before .if4 .left, ← c .before .before .before .before .before .before .in-range .ensures, ← c .before .before .before .before .before .in-range2 .ensures, ← c .before .before .before .before .poses-ok .ensures, c .before .before .before .if5 .left, ← c .before .poses-sound .ensures, c .if6 .taken)
+returns-6 c = simp (← c .before .before .before .before .before .before .before .before .before .before .before .before .before .before .before .before .is-unfit .ensures, c .before .before .before .before .before .before .before .before .before .before .before .before .before .before .if1 .left, c .before .before .before .before .before .before .before .before .before .before .before .before .if2 .left, lt-leb _ _ (c .before .before .before .before .before .before .before .before .before .if3 .left), ← c .before .before .before .before .before .before .before .before .is-short .ensures, c .before .before .before .before .before .before .before .if4 .left, ← c .before .before .before .before .before .before .in-range .ensures, ← c .before .before .before .before .before .in-range2 .ensures, ← c .before .before .before .before .poses-ok .ensures, c .before .before .before .if5 .left, ← c .before .poses-sound .ensures, c .if6 .taken)
 
 returns-7 : tie.Need-returns-7
 unfolding settleCause placesOk shortOf
-returns-7 c = simp (← c .before .before .before .before .before .before .before .before .before .before .before .before .before .before .before .is-unfit .ensures, c .before .before .before .before .before .before .before .before .before .before .before .before .before .if1 .left, c .before .before .before .before .before .before .before .before .before .before .before .if2 .left, lt-leb _ _ (c .before .before .before .before .before .before .before .before .before .if3 .left), ← c .before .before .before .before .before .before .before .before .is-short .ensures, c .before .before .before .before .before .before .before .if4 .left, ← c .before .before .before .before .before .before .in-range .ensures, ← c .before .before .before .before .before .in-range2 .ensures, ← c .before .before .before .before .poses-ok .ensures, c .before .before .before .if5 .left, ← c .before .poses-sound .ensures, c .if6 .left)
+returns-7 c = simp (← c .before .before .before .before .before .before .before .before .before .before .before .before .before .before .before .before .is-unfit .ensures, c .before .before .before .before .before .before .before .before .before .before .before .before .before .before .if1 .left, c .before .before .before .before .before .before .before .before .before .before .before .before .if2 .left, lt-leb _ _ (c .before .before .before .before .before .before .before .before .before .if3 .left), ← c .before .before .before .before .before .before .before .before .is-short .ensures, c .before .before .before .before .before .before .before .if4 .left, ← c .before .before .before .before .before .before .in-range .ensures, ← c .before .before .before .before .before .in-range2 .ensures, ← c .before .before .before .before .poses-ok .ensures, c .before .before .before .if5 .left, ← c .before .poses-sound .ensures, c .if6 .left)
 
 pub settle-cause-spec : {M : Type 1} → statement M
 settle-cause-spec =

@@ -1,13 +1,12 @@
--- `run::start::start` meets its contract. Assumes nothing.
-use Rattle.run.proofs.CallLaws.{start-facts, start-refused, start-accepted}
-use Rattle.run.specs.Start.{firstContact}
-use Rattle.run.specs.State.{view}
-use lib.Dec.{lit≤, lit<}
-use lib.ListN.{length}
-use Prim.Native.Nat.{ℕ, _+_, _-_, _*_, _≤_, _<_}
-use mathlib.Core.List.{List}
-use mathlib.Core.Path.{_≡_, refl, sym, ap, ap₂, _∙_, subst}
+use Rattle.run.specs.Start.{setupOf, firstContact}
 use native.Mathlib.Omega.{arith}
+use mathlib.Core.Path.{_≡_, refl, sym, ap, ap₂, _∙_, subst}
+use mathlib.Core.List.{List}
+use Prim.Native.Nat.{ℕ, _+_, _-_, _*_, _≤_, _<_}
+use lib.ListN.{length}
+use lib.Dec.{lit≤, lit<}
+use Rattle.run.specs.State.{view}
+use Rattle.run.proofs.CallLaws.{start-facts, start-refused, start-accepted}
 use borrow.Author.Needs.{needs}
 use Rattle.run.proofs.start.start.Statement.{statement}
 use Rattle.run.proofs.start.start.Tie as tie
@@ -15,8 +14,9 @@ use Rattle.run.proofs.start.start.Reads as reads
 use Rattle.run.proofs.start.start.Lts as lts
 use Rattle.run.proofs.contact.full_contact.Reads as full-contact-reads
 use Rattle.run.proofs.lap.update_lap.Reads as update-lap-reads
-use Rattle.run.proofs.start.begun_core.Reads as begun-core-reads
+use Rattle.run.proofs.start.first_progress.Reads as first-progress-reads
 use Rattle.run.proofs.start.start_cause.Reads as start-cause-reads
+use Rattle.run.proofs.start.still_car.Reads as still-car-reads
 use Rattle.run.proofs.start.zero_run.Reads as zero-run-reads
 
 start-cause-requires : tie.Need-start-cause-requires
@@ -36,23 +36,28 @@ slice-aggregate-full-contact-2 c = search needs
 
 full-contact-requires : tie.Need-full-contact-requires
 full-contact-requires c κs =
-    let k = c .before .before .before .start-cause in
-    let z : k .result ≡ 0 = omega (arith, c .before .before .if1 .left) in
+    let e = c .before .before in
+    let k = e .before .start-cause in
+    let z : k .result ≡ 0 = omega (arith, e .if1 .left) in
     let h = start-facts _ _ _ (lit≤ tt) (sym (k .ensures) ∙ z) in
     ((refl, refl), (h .some, h .few, h .tiles, h .sound))
 
 update-lap-requires : tie.Need-update-lap-requires
 update-lap-requires c κs = search needs
 
-begun-core-requires : tie.Need-begun-core-requires
-begun-core-requires c κs = search needs
+first-progress-requires : tie.Need-first-progress-requires
+first-progress-requires c κs = search needs
+
+still-car-requires : tie.Need-still-car-requires
+still-car-requires c κs = search needs
 
 returns-2 : tie.Need-returns-2
-unfolding view firstContact
+unfolding view setupOf firstContact
 returns-2 c =
-    let k = c .before .before .before .before .before .before .before .before .start-cause in
-    let z : k .result ≡ 0 = omega (arith, c .before .before .before .before .before .before .before .if1 .left) in
-    start-accepted _ _ _ _ _ _ _ _ _ _ _ (k .ensures) z (c .before .before .before .before .full-contact .ensures) (c .before .update-lap .ensures) (c .begun-core .ensures)
+    let e = c .before .before .before .before .before .before .before .before in
+    let k = e .before .start-cause in
+    let z : k .result ≡ 0 = omega (arith, e .if1 .left) in
+    start-accepted _ _ _ _ _ _ _ _ _ _ _ _ (k .ensures) z (c .before .before .before .before .before .full-contact .ensures) (c .before .before .update-lap .ensures) (c .before .first-progress .ensures) (c .still-car .ensures)
 
 pub start-spec : {M : Type 1} → statement M
 start-spec =
@@ -65,5 +70,6 @@ start-spec =
     slice-aggregate-full-contact-2
     full-contact-requires
     update-lap-requires
-    begun-core-requires
+    first-progress-requires
+    still-car-requires
     returns-2)

@@ -1,0 +1,13 @@
+use Rattle.run.specs.State.{awaiting}
+use mathlib.Core.Path.{refl}
+use Rattle.run.proofs.drive.await_settle.Statement.{statement}
+use Rattle.run.proofs.drive.await_settle.Tie as tie
+use Rattle.run.proofs.drive.await_settle.Reads as reads
+use Rattle.run.proofs.drive.await_settle.Lts as lts
+
+returns : tie.Need-returns
+unfolding awaiting
+returns c = refl
+
+pub await-settle-spec : {M : Type 1} → statement M
+await-settle-spec = tie.close (tie.spec returns)
