@@ -15,7 +15,7 @@ use Rattle.course.specs.Tiles.{pointAt, pointsOf, beforeOf, eight}
 use Rattle.course.specs.CourseSteps.{puts}
 use Rattle.course.specs.Lent.{filled}
 use Rattle.course.specs.Points.{givenCause, givenOf, allGood}
-use Rattle.course.specs.Curbs.{curbRoom, afterOf, bordered, curbQuad, whiteOf, quadsTo, whitesTo, filledMarks, Edged, edged, curbCause, curbsAt, curbsCall}
+use Rattle.course.specs.Curbs.{curbRoom, afterOf, bordered, curbQuad, whiteOf, quadsTo, whitesTo, filledMarks, Edged, edged, curbAnswer, curbCause, curbsAt, curbsCall}
 use Rattle.course.specs.CourseSteps.{Curbed, CurbsTo}
 use Rattle.course.specs.declared.curbs.CurbAnswer.{CurbAnswer}
 use Rattle.course.specs.declared.curbs.CurbAnswer.the-variants.{Count, Refused}
@@ -112,7 +112,7 @@ fits b e n k q w h =
 
 pub turned-down : (b e n : List Float) (k : ℕ) (q : List Float) (w : List ℕ) (wide : Bool) (r : ℕ) → r ≡ givenCause wide b e n k → wide ≡ (curbRoom q w) → 0 < r
     → edged (Refused r) q w ≡ curbsCall b e n k q w
-unfolding curbsCall curbCause curbsAt
+unfolding curbsCall curbCause curbsAt curbAnswer
 turned-down b e n k q w wide zero h v z = absurd (omega (arith, z))
 turned-down b e n k q w wide (suc r) h v z = ap (λ (j : ℕ). curbsAt j b e n k q w) (h ∙ ap (λ (x : Bool). givenCause x b e n k) v)
 
@@ -126,7 +126,7 @@ fill-marks own t t1 t2 k m e h p r =
 pub all-edged : (b e n : List Float) (k m : ℕ) (q q1 q2 : List Float) (w w1 w2 : List ℕ) → givenCause (curbRoom q w) b e n k ≡ 0 → k ≤ 2500 → CurbsTo b e n k k m q w q1 w1
     → q2 ≡ take (m * 8) q1 ++ (replicate (20000 - m * 8) nought ++ drop 20000 q1) → w2 ≡ take m w1 ++ (replicate (2500 - m) 0 ++ drop 2500 w1)
     → edged (Count m) q2 w2 ≡ curbsCall b e n k q w
-unfolding curbsCall curbCause curbsAt
+unfolding curbsCall curbCause curbsAt curbAnswer
 all-edged b e n k m q q1 q2 w w1 w2 h few t pq pw =
     same-edged (ap Count (sym (t .count)))
     (fill-tiles (quadsTo b e n k k) q q1 q2 (m * 8) 20000 (t .long) (omega (arith, few, t .few)) (t .quads) pq)

@@ -18,10 +18,11 @@ use Rattle.course.proofs.CourseRects.{needed-start, needed-small}
 use Rattle.course.specs.Arithmetic.{nought}
 use Rattle.course.specs.Course.{fromPoints, cellsOf}
 use Rattle.course.specs.Tiles.{betas, xs, ys, pointAt, pointsOf, tilesTo, tilesOf}
-use Rattle.course.specs.Lent.{lent, Outcome, outcome, filled, written, answered, layInto, roomyOf}
+use Rattle.course.specs.Lent.{Lent, lent, Outcome, outcome, filled, written, noValues, laidFigures, laidAnswer, answered, layInto, roomyOf}
 use Rattle.course.specs.CourseSteps.{Roomy}
 use Rattle.course.specs.Points.{givenOf, allGood, givenCause, pointsCause, pointsAt, pointsCall}
 use Rattle.course.specs.declared.tiles.TrackPoint.{TrackPoint}
+use Rattle.course.specs.declared.points.LaidCourse.{LaidCourse}
 use Rattle.course.specs.declared.points.Laid.{Laid}
 use Rattle.course.specs.declared.points.Laid.the-variants.{Course as Made, Short, Refused}
 use Rattle.course.proofs.ColumnLaws.{drop-past}
@@ -32,8 +33,11 @@ pub same-outcome : {r r′ : Laid} {a a′ b b′ e e′ n n′ t t′ : List Fl
     → outcome r (lent a b e n t o l) ≡ outcome r′ (lent a′ b′ e′ n′ t′ o′ l′)
 same-outcome pr pa pb pe pn pt po pl = λ i. outcome (pr i) (lent (pa i) (pb i) (pe i) (pn i) (pt i) (po i) (pl i))
 
-same-made : {k k′ m m′ : ℕ} {p p′ : TrackPoint} {f : Bool} → k ≡ k′ → m ≡ m′ → p ≡ p′ → Made k f m p ≡ Made k′ f m′ p′
-same-made {f = f} pk pm pp = λ i. Made (pk i) f (pm i) (pp i)
+abbrev pub figures : ℕ → Bool → ℕ → TrackPoint → LaidCourse
+figures k f m p = record { n = k; fallback = f; entries = m; first = p }
+
+same-made : {k k′ m m′ : ℕ} {p p′ : TrackPoint} {f : Bool} → k ≡ k′ → m ≡ m′ → p ≡ p′ → Made (figures k f m p) ≡ Made (figures k′ f m′ p′)
+same-made {f = f} pk pm pp = λ i. Made (figures (pk i) f (pm i) (pp i))
 
 fill-column : (own c c′ : List Float) (k m : ℕ) → own ≡ take k c → k ≤ length c → c′ ≡ take k c ++ (replicate (m - k) nought ++ drop m c) → c′ ≡ filled m own c
 unfolding filled
@@ -121,11 +125,11 @@ module _ (a b e n t : List Float) (o l : List ℕ) (k : ℕ) (a′ b′ e′ n�
       same-outcome (is ∙ ap (λ (s : Bool). answered s fallback (pointsOf b e n k)) short-is) a-is b-is e-is n-is t2-is (o-is _ short-is) (l-is _ short-is)
 
   pub done-short : (fallback : Bool) → short ≡ true → Short need ≡ answered short fallback (pointsOf b e n k)
-  unfolding answered
+  unfolding answered laidAnswer laidFigures
   done-short fallback h = ap Short need-is ∙ sym (ap (λ (s : Bool). answered s fallback (pointsOf b e n k)) h)
 
-  pub done-laid : (fallback : Bool) (first : TrackPoint) → 0 < k → first ≡ pointAt b e n 0 → short ≡ false → Made k fallback need first ≡ answered short fallback (pointsOf b e n k)
-  unfolding answered
+  pub done-laid : (fallback : Bool) (first : TrackPoint) → 0 < k → first ≡ pointAt b e n 0 → short ≡ false → Made (figures k fallback need first) ≡ answered short fallback (pointsOf b e n k)
+  unfolding answered laidAnswer laidFigures
   done-laid fallback first z f h =
       same-made (sym (points-long b e n k)) need-is (f ∙ sym (point-read b e n k 0 z))
       ∙ sym (ap (λ (s : Bool). answered s fallback (pointsOf b e n k)) h)
@@ -224,12 +228,35 @@ fit b e n k a′ b′ e′ n′ t′ o′ h =
     let p = passed (eqb k 0) (ltb 2500 k) (roomyOf a′ b′ e′ n′ t′ o′) (givenOf b e n k) (allGood (pointsOf b e n k)) h in
     record { some = positive k (p .some); few = at-most 2500 k (p .few); room = room a′ b′ e′ n′ t′ o′ (p .room); given = given-long b e n k (p .given) }
 
+-- no cause of given points is 3, the one that has a value
+none-needs : (p q r s t : Bool) → 0 < first-cause p q r s t → Refused (first-cause p q r s t) ≡ laidAnswer (first-cause p q r s t) noValues
+unfolding laidAnswer
+none-needs true q r s t z = refl
+none-needs false true r s t z = refl
+none-needs false false false s t z = refl
+none-needs false false true false t z = refl
+none-needs false false true true false z = refl
+none-needs false false true true true z = absurd (omega (arith, z))
+
+refused-by : (b e n : List Float) (k : ℕ) (room : Bool) → 0 < givenCause room b e n k → Refused (givenCause room b e n k) ≡ laidAnswer (givenCause room b e n k) noValues
+unfolding givenCause
+refused-by b e n k room z = none-needs (eqb k 0) (ltb 2500 k) room (givenOf b e n k) (allGood (pointsOf b e n k)) z
+
+turned-away : (k : ℕ) (ps : List TrackPoint) (l : Lent) → 0 < k → pointsAt k ps l ≡ outcome (laidAnswer k noValues) l
+unfolding pointsAt
+turned-away zero ps l z = absurd (omega (arith, z))
+turned-away (suc k) ps l z = refl
+
 -- refused: nothing is written
 pub refused : (b e n : List Float) (k : ℕ) (a′ b′ e′ n′ t′ : List Float) (o′ l′ : List ℕ) (wide : Bool) (r : ℕ) → r ≡ givenCause wide b e n k → wide ≡ roomyOf a′ b′ e′ n′ t′ o′ → 0 < r
     → outcome (Refused r) (lent a′ b′ e′ n′ t′ o′ l′) ≡ pointsCall b e n k (lent a′ b′ e′ n′ t′ o′ l′)
-unfolding pointsCall pointsCause pointsAt
-refused b e n k a′ b′ e′ n′ t′ o′ l′ wide zero h w z = absurd (omega (arith, z))
-refused b e n k a′ b′ e′ n′ t′ o′ l′ wide (suc r) h w z = ap (λ (j : ℕ). pointsAt j (pointsOf b e n k) (lent a′ b′ e′ n′ t′ o′ l′)) (h ∙ ap (λ (x : Bool). givenCause x b e n k) w)
+unfolding pointsCall pointsCause
+refused b e n k a′ b′ e′ n′ t′ o′ l′ wide r h w z =
+    let is = h ∙ ap (λ (x : Bool). givenCause x b e n k) w in
+    let some = subst (λ (j : ℕ). 0 < j) is z in
+    ap (λ (j : ℕ). outcome (Refused j) (lent a′ b′ e′ n′ t′ o′ l′)) is
+    ∙ ap (λ (x : Laid). outcome x (lent a′ b′ e′ n′ t′ o′ l′)) (refused-by b e n k (roomyOf a′ b′ e′ n′ t′ o′) some)
+    ∙ sym (turned-away _ (pointsOf b e n k) (lent a′ b′ e′ n′ t′ o′ l′) some)
 
 -- accepted: the given points go in front, and the rest is what lay does
 pub accepted : (b e n : List Float) (k : ℕ) (a′ b′ e′ n′ t′ : List Float) (o′ l′ : List ℕ) (b1 e1 n1 : List Float) (w : Outcome) → givenCause (roomyOf a′ b′ e′ n′ t′ o′) b e n k ≡ 0

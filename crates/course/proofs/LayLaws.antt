@@ -1,5 +1,5 @@
 -- What a call of lay leaves and answers: the course of its seed, refusals by 2 and 3 alone, and nothing that depends on what stood in the columns. Assumes nothing.
-use Prim.Native.Nat.{ℕ, _+_, _-_, _<_, _≤_}
+use Prim.Native.Nat.{ℕ, zero, suc, _+_, _-_, _<_, _≤_}
 use native.Mathlib.Omega.{arith}
 use mathlib.Core.Path.{_≡_, refl, sym, ap, ap₂, _∙_}
 use mathlib.Core.Bool.{Bool, true, false, cond}
@@ -7,17 +7,19 @@ use mathlib.Core.List.{List, [], _++_, append-assoc}
 use lib.Dec.{ltb}
 use lib.ListN.{length, take, drop, replicate, length-append, length-replicate, length-map, take-append-drop}
 use lib.Seq.{take-at}
+use borrow.Author.Tests.{ne-eqb}
 use lib.Ieee.{Float}
 use Rattle.course.specs.Arithmetic.{nought}
 use Rattle.course.specs.Constants.{maxAttempts}
 use Rattle.course.specs.Lengths.{mostPoints, mostNumbers}
 use Rattle.course.specs.Tiles.{betas, xs, ys, pointsOf, tilesOf}
 use Rattle.course.specs.Course.{fromPoints, cellsOf}
-use Rattle.course.specs.Lent.{Lent, lent, Outcome, outcome, roomyOf, filled, written, answered, layInto, laidCauseOf}
+use Rattle.course.specs.Lent.{Lent, lent, Outcome, outcome, roomyOf, filled, written, laidFigures, laidAnswer, answered, layInto, laidCauseOf, laidValuesOf}
 use Rattle.course.specs.CourseSteps.{Roomy}
 use Rattle.course.specs.Lay.{CoursePoints, courseWithin, courseOf, layCause, layAt, layCall}
 use Rattle.course.specs.LaySteps.{InFront}
 use Rattle.course.specs.declared.tiles.TrackPoint.{TrackPoint}
+use Rattle.course.specs.declared.points.LaidCourse.{LaidCourse}
 use Rattle.course.specs.declared.points.Laid.the-variants.{Refused}
 use Rattle.course.proofs.CourseTiles.{points-are, tiles-long}
 use Rattle.course.proofs.CourseSizes.{Sized, within-sized}
@@ -29,7 +31,7 @@ roomy l = roomyOf (l .alpha) (l .beta) (l .x) (l .y) (l .tiles) (l .offsets)
 
 -- ---- for the proofs of the calls
 pub refused-short : (c : CoursePoints) (l : Lent) → roomy l ≡ false → outcome (Refused 2) l ≡ layAt (layCause l) c l
-unfolding layCause layAt
+unfolding layCause layAt laidAnswer
 refused-short c l h = rw h
 
 pub laid-roomy : (c : CoursePoints) (l : Lent) → roomy l ≡ true → layInto (c .fallback) (c .points) l ≡ layAt (layCause l) c l
@@ -61,11 +63,23 @@ finish-room a b x y t o a′ b′ x′ y′ h ea eb ex ey =
     let r = room a b x y t o h in
     record { alpha = rw ea (r .alpha); beta = rw eb (r .beta); x = rw ex (r .x); y = rw ey (r .y); tiles = r .tiles; offsets = r .offsets }
 
+-- ---- an answer gives its number back, and a course's answer its values
+pub number-back : (k : ℕ) (v : LaidCourse) → laidCauseOf (laidAnswer k v) ≡ k
+unfolding laidAnswer laidCauseOf
+number-back zero v = refl
+number-back (suc zero) v = refl
+number-back (suc (suc zero)) v = refl
+number-back (suc (suc (suc zero))) v = refl
+number-back (suc (suc (suc (suc k)))) v = simp (ne-eqb (suc (suc (suc (suc k)))) 0 (λ h. omega (arith, h)), ne-eqb (suc (suc (suc (suc k)))) 3 (λ h. omega (arith, h)))
+
+pub values-back : (v : LaidCourse) → laidValuesOf (laidAnswer 0 v) ≡ v
+unfolding laidAnswer laidValuesOf
+values-back v = refl
+
 -- ---- laws of the calls. Lay refuses by 2 exactly where a column is short, and then by 3 exactly where the list is
 laid-cause : (short fallback : Bool) (ps : List TrackPoint) → laidCauseOf (answered short fallback ps) ≡ cond short 3 0
-unfolding answered laidCauseOf
-laid-cause true fallback ps = refl
-laid-cause false fallback ps = refl
+unfolding answered
+laid-cause short fallback ps = number-back (cond short 3 0) (laidFigures fallback ps)
 
 cause-at : (c : CoursePoints) (l : Lent) (b : Bool) → roomy l ≡ b → laidCauseOf (layAt (layCause l) c l .answer) ≡ cond b (cond (ltb (length (l .list)) (cellsOf (c .points))) 3 0) 2
 unfolding layInto laidCauseOf

@@ -101,7 +101,12 @@ pub record Edged : Type 0 where
 abbrev pub edged : CurbAnswer → List Float → List ℕ → Edged
 edged r q w = record { answer = r; quads = q; white = w }
 
--- number and value of each case
+-- number and value of each case: the count where no cause holds (0), else the cause's number
+unfoldable pub curbAnswer : ℕ → ℕ → CurbAnswer
+curbAnswer zero m = Count m
+curbAnswer (suc k) m = Refused (suc k)
+
+-- the same read back from an answer; a refusal has no count (0)
 unfoldable pub curbCauseOf : CurbAnswer → ℕ
 curbCauseOf (Count m) = 0
 curbCauseOf (Refused k) = k
@@ -119,8 +124,8 @@ curbCause b x y k q w = givenCause (curbRoom q w) b x y k
 
 unfoldable pub curbsAt : ℕ → List Float → List Float → List Float → ℕ → List Float → List ℕ → Edged
 curbsAt zero b x y k q w =
-    edged (Count (length (whitesTo b x y k k))) (filled mostNumbers (quadsTo b x y k k) q) (filledMarks mostPoints (whitesTo b x y k k) w)
-curbsAt (suc c) b x y k q w = edged (Refused (suc c)) q w
+    edged (curbAnswer 0 (length (whitesTo b x y k k))) (filled mostNumbers (quadsTo b x y k k) q) (filledMarks mostPoints (whitesTo b x y k k) w)
+curbsAt (suc c) b x y k q w = edged (curbAnswer (suc c) 0) q w
 
 unfoldable pub curbsCall : List Float → List Float → List Float → ℕ → List Float → List ℕ → Edged
 curbsCall b x y k q w = curbsAt (curbCause b x y k q w) b x y k q w

@@ -10,11 +10,10 @@ use Rattle.course.specs.Trig.{sineOf, cosineOf}
 use Rattle.course.specs.Checkpoints.{checkpointsOf}
 use Rattle.course.specs.Walk.{Trail, walkOf}
 use Rattle.course.specs.Track.{trackOf}
-use Rattle.course.specs.Lent.{Lent, Outcome, outcome, roomyOf, layInto}
+use Rattle.course.specs.Lent.{Lent, Outcome, outcome, roomyOf, noValues, laidAnswer, layInto}
 use Rattle.course.specs.declared.checkpoints.Checkpoint.{Checkpoint}
 use Rattle.course.specs.declared.step.TrackStep.{TrackStep}
 use Rattle.course.specs.declared.tiles.TrackPoint.{TrackPoint}
-use Rattle.course.specs.declared.points.Laid.the-variants.{Refused}
 
 -- ---- attempts
 
@@ -80,7 +79,7 @@ layCause l = cond (roomyOf (l .alpha) (l .beta) (l .x) (l .y) (l .tiles) (l .off
 -- a call refused by a cause leaves the columns as they were; else the course is laid, or cause 3 holds
 unfoldable pub layAt : ℕ → CoursePoints → Lent → Outcome
 layAt zero c l = layInto (c .fallback) (c .points) l
-layAt (suc k) c l = outcome (Refused (suc k)) l
+layAt (suc k) c l = outcome (laidAnswer (suc k) noValues) l
 
 unfoldable pub layCall : ℕ → ℕ → Lent → Outcome
 layCall attempts seed l = layAt (layCause l) (courseWithin attempts seed) l

@@ -2,7 +2,7 @@
 use Prim.Native.Nat.{ℕ, _-_}
 use mathlib.Core.Bool.{Bool, true, false, cond, _&&_}
 use mathlib.Core.List.{List, [], _++_}
-use lib.Dec.{leb, ltb}
+use lib.Dec.{leb, ltb, eqb}
 use lib.ListN.{length, getD, drop, replicate}
 use lib.Ieee.{Float}
 use Rattle.course.specs.Arithmetic.{nought}
@@ -10,6 +10,7 @@ use Rattle.course.specs.Lengths.{mostPoints, mostNumbers, offsetCount}
 use Rattle.course.specs.Tiles.{noPoint}
 use Rattle.course.specs.Course.{Course, fromPoints, cellsOf}
 use Rattle.course.specs.declared.tiles.TrackPoint.{TrackPoint}
+use Rattle.course.specs.declared.points.LaidCourse.{LaidCourse}
 use Rattle.course.specs.declared.points.Laid.{Laid}
 use Rattle.course.specs.declared.points.Laid.the-variants.{Course as Made, Short, Refused}
 
@@ -57,39 +58,38 @@ written short c l = record {
   list = cond short (l .list) (c .list ++ drop (length (c .list)) (l .list));
 }
 
--- the answer: n, fallback, list length and the first point; cause 3 with the length needed
+-- ---- what is answered
+
+-- the values of a course's answer: n, fallback, list length and the first point
+unfoldable pub laidFigures : Bool → List TrackPoint → LaidCourse
+laidFigures fallback ps = record { n = length ps; fallback = fallback; entries = cellsOf ps; first = getD ps 0 noPoint }
+
+-- where a case has no values: zeros, no fallback and a point of noughts
+abbrev pub noValues : LaidCourse
+noValues = record { n = 0; fallback = false; entries = 0; first = record { beta = nought; x = nought; y = nought } }
+
+-- number and values of each case: the values where no cause holds (0), for cause 3 the length needed, else the cause's number alone
+unfoldable pub laidAnswer : ℕ → LaidCourse → Laid
+laidAnswer k v = cond (eqb k 0) (Made v) (cond (eqb k 3) (Short (v .entries)) (Refused k))
+
+-- the same read back from an answer; a case's missing values are zeros, no fallback and a point of noughts
+unfoldable pub laidCauseOf : Laid → ℕ
+laidCauseOf (Made v) = 0
+laidCauseOf (Short length-needed) = 3
+laidCauseOf (Refused k) = k
+
+unfoldable pub laidValuesOf : Laid → LaidCourse
+laidValuesOf (Made v) = v
+laidValuesOf (Short length-needed) = record { n = 0; fallback = false; entries = length-needed; first = noValues .first }
+laidValuesOf (Refused k) = noValues
+
+-- the answer of a call with room, by whether the list is too short: cause 3 or none
 unfoldable pub answered : Bool → Bool → List TrackPoint → Laid
-answered true fallback ps = Short (cellsOf ps)
-answered false fallback ps = Made (length ps) fallback (cellsOf ps) (getD ps 0 noPoint)
+answered short fallback ps = laidAnswer (cond short 3 0) (laidFigures fallback ps)
+
+-- ---- what is done
 
 -- what lay and points do once the course's points are known
 unfoldable pub layInto : Bool → List TrackPoint → Lent → Outcome
 layInto fallback ps l =
     outcome (answered (ltb (length (l .list)) (cellsOf ps)) fallback ps) (written (ltb (length (l .list)) (cellsOf ps)) (fromPoints ps) l)
-
--- ---- number and values of each case of an answer; 0 and no point where a case has none
-
-unfoldable pub laidCauseOf : Laid → ℕ
-laidCauseOf (Made n fallback entries first) = 0
-laidCauseOf (Short length-needed) = 3
-laidCauseOf (Refused k) = k
-
-unfoldable pub laidCountOf : Laid → ℕ
-laidCountOf (Made n fallback entries first) = n
-laidCountOf (Short length-needed) = 0
-laidCountOf (Refused k) = 0
-
-unfoldable pub fallbackOf : Laid → Bool
-fallbackOf (Made n fallback entries first) = fallback
-fallbackOf (Short length-needed) = false
-fallbackOf (Refused k) = false
-
-unfoldable pub lengthOf : Laid → ℕ
-lengthOf (Made n fallback entries first) = entries
-lengthOf (Short length-needed) = length-needed
-lengthOf (Refused k) = 0
-
-unfoldable pub firstOf : Laid → TrackPoint
-firstOf (Made n fallback entries first) = first
-firstOf (Short length-needed) = record { beta = nought; x = nought; y = nought }
-firstOf (Refused k) = record { beta = nought; x = nought; y = nought }

@@ -9,9 +9,8 @@ use Rattle.course.specs.Arithmetic.{natural}
 use Rattle.course.specs.Numeric.{within}
 use Rattle.course.specs.Lengths.{mostPoints}
 use Rattle.course.specs.Tiles.{pointsOf}
-use Rattle.course.specs.Lent.{Lent, Outcome, outcome, roomyOf, layInto}
+use Rattle.course.specs.Lent.{Lent, Outcome, outcome, roomyOf, noValues, laidAnswer, layInto}
 use Rattle.course.specs.declared.tiles.TrackPoint.{TrackPoint}
-use Rattle.course.specs.declared.points.Laid.the-variants.{Refused}
 
 -- beta within ±16, x and y within ±1,000
 unfoldable pub goodPoint : TrackPoint → Bool
@@ -41,7 +40,7 @@ pointsCause b x y k l = givenCause (roomyOf (l .alpha) (l .beta) (l .x) (l .y) (
 -- an accepted call lays the course of the given points; a refused one leaves the columns as they were
 unfoldable pub pointsAt : ℕ → List TrackPoint → Lent → Outcome
 pointsAt zero ps l = layInto false ps l
-pointsAt (suc k) ps l = outcome (Refused (suc k)) l
+pointsAt (suc k) ps l = outcome (laidAnswer (suc k) noValues) l
 
 unfoldable pub pointsCall : List Float → List Float → List Float → ℕ → Lent → Outcome
 pointsCall b x y k l = pointsAt (pointsCause b x y k l) (pointsOf b x y k) l

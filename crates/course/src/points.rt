@@ -17,10 +17,22 @@ use crate::numeric;
 use crate::tiles;
 use crate::tiles::TrackPoint;
 
+// The values of a course's answer.
+pub struct LaidCourse {
+    // how many points and tiles the course has
+    pub n: u32,
+    // whether it is the ring
+    pub fallback: bool,
+    // the length of its index list
+    pub entries: u32,
+    // its first point
+    pub first: TrackPoint,
+}
+
 // What lay and points answer.
 pub enum Laid {
-    // n, fallback, list length, first point
-    Course(u32, bool, u32, TrackPoint),
+    // the course stands in the lent columns
+    Course(LaidCourse),
     // cause 3, with the list length needed
     Short(u32),
     // another cause's number
@@ -129,7 +141,12 @@ pub(crate) fn finish(
     if built.short {
         return Laid::Short(need);
     }
-    Laid::Course(n as u32, fallback, need, first)
+    Laid::Course(LaidCourse {
+        n: n as u32,
+        fallback,
+        entries: need,
+        first,
+    })
 }
 
 // The course of the given points in the lent columns.

@@ -147,8 +147,15 @@ fn call_points(
 
 fn line_laid(answer: Laid) {
     match answer {
-        Laid::Course(n, fallback, length, first) => {
-            vectors::lines_course(n, fallback, length, first.beta, first.x, first.y)
+        Laid::Course(c) => {
+            vectors::lines_course(
+                c.n,
+                c.fallback,
+                c.entries,
+                c.first.beta,
+                c.first.x,
+                c.first.y,
+            )
         }
         Laid::Short(need) => vectors::lines_short(need),
         Laid::Refused(cause) => vectors::line_refused(cause),
