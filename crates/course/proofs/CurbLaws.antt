@@ -15,7 +15,7 @@ use Rattle.course.specs.Tiles.{pointAt, pointsOf, beforeOf, eight}
 use Rattle.course.specs.CourseSteps.{puts}
 use Rattle.course.specs.Lent.{filled}
 use Rattle.course.specs.Points.{givenCause, givenOf, allGood}
-use Rattle.course.specs.Curbs.{curbRoom, afterOf, bordered, curbQuad, whiteOf, quadsTo, whitesTo, filledMarks, Edged, edged, curbAnswer, curbCause, curbsAt, curbsCall}
+use Rattle.course.specs.Curbs.{curbRoom, afterOf, bordered, curbQuad, whiteOf, quadsTo, whitesTo, filledMarks, Edged, edged, curbAnswer, curbCauseOf, curbCountOf, curbCause, curbsAt, curbsCall}
 use Rattle.course.specs.CourseSteps.{Curbed, CurbsTo}
 use Rattle.course.specs.declared.curbs.CurbAnswer.{CurbAnswer}
 use Rattle.course.specs.declared.curbs.CurbAnswer.the-variants.{Count, Refused}
@@ -138,6 +138,16 @@ all-edged b e n k m q q1 q2 w w1 w2 h few t pq pw =
 
 pub curbs-at : (b e n : List Float) (k i m : ℕ) (q q1 : List Float) (w w1 : List ℕ) → CurbsTo b e n k i m q w q1 w1 → i ≡ k → CurbsTo b e n k k m q w q1 w1
 curbs-at b e n k i m q q1 w w1 t h = subst (λ (z : ℕ). CurbsTo b e n k z m q w q1 w1) h t
+
+-- ---- an answer gives its number back, and a count's answer the count
+pub curb-number-back : (k m : ℕ) → curbCauseOf (curbAnswer k m) ≡ k
+unfolding curbAnswer curbCauseOf
+curb-number-back zero m = refl
+curb-number-back (suc k) m = refl
+
+pub curb-count-back : (m : ℕ) → curbCountOf (curbAnswer 0 m) ≡ m
+unfolding curbAnswer curbCountOf
+curb-count-back m = refl
 
 -- ---- the spread read forward, as the Rust does it: a marked point gives a curb to itself and to the three before it
 pub after-before : (k i : ℕ) → i < k → afterOf k (beforeOf k i) ≡ i

@@ -33,7 +33,7 @@ pub same-outcome : {r r′ : Laid} {a a′ b b′ e e′ n n′ t t′ : List Fl
     → outcome r (lent a b e n t o l) ≡ outcome r′ (lent a′ b′ e′ n′ t′ o′ l′)
 same-outcome pr pa pb pe pn pt po pl = λ i. outcome (pr i) (lent (pa i) (pb i) (pe i) (pn i) (pt i) (po i) (pl i))
 
-abbrev pub figures : ℕ → Bool → ℕ → TrackPoint → LaidCourse
+abbrev figures : ℕ → Bool → ℕ → TrackPoint → LaidCourse
 figures k f m p = record { n = k; fallback = f; entries = m; first = p }
 
 same-made : {k k′ m m′ : ℕ} {p p′ : TrackPoint} {f : Bool} → k ≡ k′ → m ≡ m′ → p ≡ p′ → Made (figures k f m p) ≡ Made (figures k′ f m′ p′)

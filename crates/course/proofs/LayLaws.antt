@@ -63,7 +63,7 @@ finish-room a b x y t o a′ b′ x′ y′ h ea eb ex ey =
     let r = room a b x y t o h in
     record { alpha = rw ea (r .alpha); beta = rw eb (r .beta); x = rw ex (r .x); y = rw ey (r .y); tiles = r .tiles; offsets = r .offsets }
 
--- ---- an answer gives its number back, and a course's answer its values
+-- ---- an answer gives its number back, a course's answer its values, and cause 3 the length needed
 pub number-back : (k : ℕ) (v : LaidCourse) → laidCauseOf (laidAnswer k v) ≡ k
 unfolding laidAnswer laidCauseOf
 number-back zero v = refl
@@ -75,6 +75,10 @@ number-back (suc (suc (suc (suc k)))) v = simp (ne-eqb (suc (suc (suc (suc k))))
 pub values-back : (v : LaidCourse) → laidValuesOf (laidAnswer 0 v) ≡ v
 unfolding laidAnswer laidValuesOf
 values-back v = refl
+
+pub length-back : (v : LaidCourse) → laidValuesOf (laidAnswer 3 v) .entries ≡ v .entries
+unfolding laidAnswer laidValuesOf
+length-back v = refl
 
 -- ---- laws of the calls. Lay refuses by 2 exactly where a column is short, and then by 3 exactly where the list is
 laid-cause : (short fallback : Bool) (ps : List TrackPoint) → laidCauseOf (answered short fallback ps) ≡ cond short 3 0

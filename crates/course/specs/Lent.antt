@@ -1,6 +1,6 @@
 -- Document 01, "Lay" (Lent) and "Refusals by cause": what a course leaves in the lent columns, and what is answered. Assumes nothing.
 use Prim.Native.Nat.{ℕ, _-_}
-use mathlib.Core.Bool.{Bool, true, false, cond, _&&_}
+use mathlib.Core.Bool.{Bool, false, cond, _&&_}
 use mathlib.Core.List.{List, [], _++_}
 use lib.Dec.{leb, ltb, eqb}
 use lib.ListN.{length, getD, drop, replicate}
@@ -72,7 +72,7 @@ noValues = record { n = 0; fallback = false; entries = 0; first = record { beta 
 unfoldable pub laidAnswer : ℕ → LaidCourse → Laid
 laidAnswer k v = cond (eqb k 0) (Made v) (cond (eqb k 3) (Short (v .entries)) (Refused k))
 
--- the same read back from an answer; a case's missing values are zeros, no fallback and a point of noughts
+-- the same read back from an answer; `noValues` for what a case does not have
 unfoldable pub laidCauseOf : Laid → ℕ
 laidCauseOf (Made v) = 0
 laidCauseOf (Short length-needed) = 3
