@@ -1,33 +1,39 @@
-/* The grader's C boundary: target/staticlib/libabi.a, which `rt staticlib abi` writes. x86-64 Linux; link it alone.
+/* The grader's C boundary: target/staticlib/libabi.a, which `rt staticlib abi` writes. x86-64 Linux; link it alone. C99 or later, or C++.
  *
  * Columns. `IN(T, p)` is lent for reading, `OUT(T, p)` for writing: a pointer, then a length in elements. The pointer is
- * aligned and not null, even where the length is 0; a column lent for writing overlaps no other argument. The grader keeps no
- * pointer and allocates nothing: all memory is the caller's, before and after.
+ * aligned and not null, even where the length is 0; a column lent for writing overlaps no other argument. The same goes for
+ * `T p[N]`, which is a pointer to N elements. The grader keeps no pointer and allocates nothing: all memory is the caller's,
+ * before and after.
  *
  * Answers. Every call returns; none has a precondition beyond the above. `cause` is 0 where the call is accepted, else the
- * number of the first cause that holds (see below); the other fields are then 0 and false, and a state is what it was
- * (a refused start returns the state of zeros, which later calls refuse by 4).
+ * number of the first cause that holds (see below); the other fields are then 0 and false, and a run is what it was
+ * (a refused start returns the run of zeros, which later calls refuse by 4). A refused call writes nothing.
  *
- * Threads. A call reads and writes its arguments alone, so calls may run at once on different columns and states. */
+ * Threads. A call reads and writes its arguments alone, so calls may run at once on different columns and runs. */
 #ifndef GRADER_H
 #define GRADER_H
 #include <stdbool.h>
 #include <stddef.h>
 #include <stdint.h>
 
+#ifdef __cplusplus
+extern "C" {
+#endif
+
 /* Lengths of lent columns: alpha, beta, x and y; tiles and curb quads; offsets; white marks. The index list has none: 1,736
  * entries were the most of 200,000 seeds, and cause 3 answers the length needed. */
 enum { GRADER_POINTS = 2500, GRADER_TILES = 20000, GRADER_OFFSETS = 4490, GRADER_MARKS = 2500 };
 
-/* Words of a run's sets: the credited tiles, and four times as many for the wheels. */
-enum { GRADER_CREDITED = 40, GRADER_WHEELS = 160 };
+/* Words of a run's sets: the credited tiles, and four times as many for the wheels. Numbers of its car, of the four motions and of the
+ * four forces, each struct's in its own order. */
+enum { GRADER_CREDITED = 40, GRADER_WHEELS = 160, GRADER_CAR = 21, GRADER_MOTIONS = 20, GRADER_FORCES = 12 };
 
 /* Why a call is refused. */
 enum {
     GRADER_SETTINGS = 1,    /* lap share NaN or outside 0 to 1; tick limit outside 1 to 1,000,000 */
     GRADER_SHORT = 2,       /* a lent column is too short, or start's n is outside 1 to 2,500 */
     GRADER_SHORT_LIST = 3,  /* the index list is too short; `entries` is the length needed */
-    GRADER_NO_RUN = 4,      /* the state is no run's, or the run has ended */
+    GRADER_NO_RUN = 4,      /* what is passed is no run, or the run has ended */
     GRADER_TURN = 5,        /* drive and settle alternate, drive first */
     GRADER_TICK_LIMIT = 6,  /* the tick limit is reached */
     GRADER_ACTION = 7,      /* an action above 4 */
@@ -44,25 +50,24 @@ typedef struct { double tile, step, off_playfield; } grader_weights;
 typedef struct { grader_pose wheels[4]; } grader_poses;     /* front left, front right, rear left, rear right */
 typedef struct { grader_motion wheels[4]; } grader_motions;
 
-/* The state of a run. Keep it as it is and pass on what the last call returned. */
+/* A run, in records by who writes them: start all of it, settle progress and sets, drive the car and the flag `driven`, which says that
+ * a drive awaits its settle. Keep the run where you like and change nothing in it. */
+typedef struct { uint32_t n, tick_limit; double lap_share; bool fallback; } grader_setup;
+typedef struct { uint32_t visited_count, tick; bool lap, ended, driven; } grader_progress;
+typedef struct { grader_wheel ctl[4]; double fuel_spent; } grader_car;
 typedef struct {
-    uint32_t n, visited_count, tick, tick_limit;
-    double lap_share;
-    bool lap, ended, fallback, driven;
-    grader_wheel ctl[4];
-    double fuel_spent;
-} grader_core;
-typedef struct {
-    grader_core core;
-    uint64_t credited[GRADER_CREDITED];
-    uint64_t wheels[GRADER_WHEELS];
+    grader_setup setup;
+    grader_progress progress;
+    grader_car car;
+    uint64_t credited[GRADER_CREDITED]; /* tile t is bit t % 64 of word t / 64 */
+    uint64_t wheels[GRADER_WHEELS];     /* the tiles that a wheel touched at the last contact, wheel by wheel */
 } grader_run;
 
 typedef struct { uint32_t cause, n, entries; bool fallback; double beta, x, y; } grader_laid; /* beta, x, y: the first point */
 typedef struct { uint32_t cause, count; } grader_curbs_found;
 typedef struct { uint32_t cause, count; bool lap; grader_run run; } grader_started;
-typedef struct { uint32_t cause; grader_force forces[4]; grader_run run; } grader_driven;
-typedef struct { uint32_t cause, new_tiles, n; bool off, lap, ended; grader_run run; } grader_settled;
+typedef struct { uint32_t cause; grader_progress progress; } grader_driven;
+typedef struct { uint32_t cause, new_tiles, n; bool off, lap, ended; grader_progress progress; } grader_settled;
 typedef struct { uint32_t cause, tick, credited, n, share; bool lap, ended, fallback; } grader_figures;
 typedef struct { grader_laid laid; uint32_t start_cause, start_count; bool start_lap; grader_figures sheet; } grader_replayed;
 typedef struct { uint32_t cause; double value; } grader_angle;
@@ -80,40 +85,30 @@ grader_laid grader_points(IN(double, given_beta), IN(double, given_x), IN(double
 grader_curbs_found grader_curbs(IN(double, beta), IN(double, x), IN(double, y), uint32_t count, OUT(double, quads), OUT(uint8_t, white));
 
 /* A run: start (causes 1, 2, 8, 10), then drive (4, 5, 6, 7, 8) and settle (4, 5, 6, 2, 8, 10) in turn, with the host's
- * physics between them; sheet (4) at any time. */
+ * physics between them; sheet (4) at any time. A host calls these three by `grader_drive`, `grader_settle` and `grader_sheet` below. */
 grader_started grader_start(COURSE_IN, uint32_t n, bool fallback, double lap_share, uint32_t tick_limit, grader_poses poses);
-grader_driven grader_drive(grader_run run, uint32_t action, grader_motions motions);
-grader_settled grader_settle(grader_run run, COURSE_IN, double hull_x, double hull_y, grader_poses poses);
-grader_figures grader_sheet(grader_run run);
 double grader_reward(grader_weights weights, uint32_t new_tiles, uint32_t n, bool off);
 
-/* Drive and settle for a host that keeps a run where it stands, which is faster: the same answers and the same state after. Lent are
- * the controls (five numbers to a wheel), the sets' words, the motions (five to a wheel) and the forces (three), so many as the calls below
- * say: other lengths are refused by 4. A refused drive writes no forces. */
-typedef struct {
-    uint32_t n, visited_count, tick, tick_limit;
-    double lap_share;
-    bool lap, ended, fallback, driven;
-    double fuel_spent;
-} grader_counts; /* a core but for its controls */
-typedef struct { uint32_t cause; bool driven; double fuel_spent; } grader_drove_lent; /* the two counts that a drive changes */
-typedef struct { uint32_t cause, new_tiles, n; bool off, lap, ended; grader_core core; } grader_settled_lent;
-grader_drove_lent grader_drive_lent(grader_counts counts, OUT(double, controls), IN(uint64_t, wheels), uint32_t action, IN(double, motions), OUT(double, forces));
-grader_settled_lent grader_settle_lent(grader_core core, OUT(uint64_t, credited), OUT(uint64_t, wheels), COURSE_IN, double hull_x, double hull_y, grader_poses poses);
+/* The three on a run's parts: setup and progress by value, the others lent. The progress after the call is in the answer, and is what it
+ * was where the call is refused. */
+grader_driven grader_drive_parts(grader_setup setup, grader_progress progress, double car[GRADER_CAR], const uint64_t wheels[GRADER_WHEELS], uint32_t action, const double motions[GRADER_MOTIONS], double forces[GRADER_FORCES]);
+grader_settled grader_settle_parts(grader_setup setup, grader_progress progress, uint64_t credited[GRADER_CREDITED], uint64_t wheels[GRADER_WHEELS], COURSE_IN, double hull_x, double hull_y, grader_poses poses);
+grader_figures grader_sheet_parts(grader_setup setup, grader_progress progress);
 
-/* The two on a run in place. The drive answers its cause, 0 where the forces are written; the settle all but the state. */
-static inline uint32_t grader_drive_in_place(grader_run *run, uint32_t action, const grader_motions *motions, grader_force forces[4]) {
-    grader_core *c = &run->core;
-    grader_counts counts = {c->n, c->visited_count, c->tick, c->tick_limit, c->lap_share, c->lap, c->ended, c->fallback, c->driven, c->fuel_spent};
-    grader_drove_lent d = grader_drive_lent(counts, (double *)c->ctl, 20, run->wheels, GRADER_WHEELS, action, (const double *)motions, 20, (double *)forces, 12);
-    c->driven = d.driven;
-    c->fuel_spent = d.fuel_spent;
+/* The three on a run where it stands. Drive answers its cause, 0 where the forces are written. Car, motions and forces are lent as the
+ * numbers that they are: all their members are doubles. */
+static inline uint32_t grader_drive(grader_run *run, uint32_t action, const grader_motions *motions, grader_force forces[4]) {
+    grader_driven d = grader_drive_parts(run->setup, run->progress, (double *)&run->car, run->wheels, action, (const double *)motions, (double *)forces);
+    run->progress = d.progress;
     return d.cause;
 }
-static inline grader_settled_lent grader_settle_in_place(grader_run *run, COURSE_IN, double hull_x, double hull_y, grader_poses poses) {
-    grader_settled_lent s = grader_settle_lent(run->core, run->credited, GRADER_CREDITED, run->wheels, GRADER_WHEELS, tiles, tiles_len, offsets, offsets_len, list, list_len, hull_x, hull_y, poses);
-    run->core = s.core;
+static inline grader_settled grader_settle(grader_run *run, COURSE_IN, double hull_x, double hull_y, grader_poses poses) {
+    grader_settled s = grader_settle_parts(run->setup, run->progress, run->credited, run->wheels, tiles, tiles_len, offsets, offsets_len, list, list_len, hull_x, hull_y, poses);
+    run->progress = s.progress;
     return s;
+}
+static inline grader_figures grader_sheet(const grader_run *run) {
+    return grader_sheet_parts(run->setup, run->progress);
 }
 
 /* A whole run from a list: four words and twenty numbers to a call, four words and twelve numbers to an answer. A call: kind (0 is
@@ -133,4 +128,8 @@ grader_drawn grader_draw(uint64_t state);
 #undef OUT
 #undef COURSE_OUT
 #undef COURSE_IN
+
+#ifdef __cplusplus
+}
+#endif
 #endif

@@ -112,59 +112,33 @@ type Run = port::State;
 type Motions = [port::Motion; 4];
 type Poses = [port::Pose; 4];
 
-fn drive_in_place(run: &mut Run, action: u32, m: &Motions) {
+fn driven(run: &mut Run, action: u32, m: &Motions) {
     let mut forces = [port::Force::default(); 4];
-    black_box(port::drive_in_place(run, action, m, &mut forces));
+    black_box(port::drive(run, action, m, &mut forces));
     black_box(&forces);
 }
 
-fn drive_by_value(run: &mut Run, action: u32, m: &Motions) {
-    let d = port::drive(*run, action, *m);
-    *run = d.run;
-    black_box(&d.forces);
-}
-
-fn settle_in_place(run: &mut Run, c: port::Columns, p: Poses) -> (u32, bool) {
-    let s = port::settle_in_place(run, c, HULL.x, HULL.y, p);
+fn settled(run: &mut Run, c: port::Columns, p: Poses) -> (u32, bool) {
+    let s = port::settle(run, c, HULL.x, HULL.y, p);
     (s.new_tiles, s.ended)
 }
 
-fn settle_by_value(run: &mut Run, c: port::Columns, p: Poses) -> (u32, bool) {
-    let s = port::settle(*run, c, HULL.x, HULL.y, p);
-    *run = s.run;
-    (s.new_tiles, s.ended)
-}
-
-/// The tyre pass, which the Rust does in place, and the port's drive in both forms.
 pub fn drives(rounds: Rounds) {
     head("Drives, through the C boundary", &BESIDE);
     let ground = Ground::laid(0);
-    for (name, most, gas, omega, action) in [("no wheel slips", 2.0, 0.0, 1.0, 0), ("all wheels slip", 20.0, 0.2, 20.0, 3)] {
-        let ctl = [gas, omega];
-        drive(&format!("tyre pass, drive in place: {name}"), rounds, &ground, most, ctl, action, drive_in_place);
-        drive(&format!("the same, drive by value: {name}"), rounds, &ground, most, ctl, action, drive_by_value);
-    }
+    drive("tyre pass, drive: no wheel slips", rounds, &ground, 2.0, [0.0, 1.0], 0);
+    drive("tyre pass, drive: all wheels slip", rounds, &ground, 20.0, [0.2, 20.0], 3);
 }
 
 pub fn runs(rounds: Rounds) {
     head("Runs, through the C boundary", &BESIDE);
     let grounds: Vec<Ground> = (0..10).map(Ground::laid).collect();
-    settle("`contact_pass`, settle in place", rounds, &grounds, settle_in_place);
-    settle("the same, settle by value", rounds, &grounds, settle_by_value);
-    tick("`Game::step`, drive and settle in place", rounds, &grounds, drive_in_place, settle_in_place);
-    tick("the same, drive and settle by value", rounds, &grounds, drive_by_value, settle_by_value);
+    settle("`contact_pass`, settle", rounds, &grounds);
+    tick("`Game::step`, drive and settle", rounds, &grounds);
 }
 
 /// The Rust's tyre pass with the action rule before it, and the port's drive; the state goes on in both, and `driven` is put back.
-fn drive(
-    name: &str,
-    rounds: Rounds,
-    ground: &Ground,
-    most: f64,
-    [gas, omega]: [f64; 2],
-    action: u32,
-    drive: impl Fn(&mut Run, u32, &Motions),
-) {
+fn drive(name: &str, rounds: Rounds, ground: &Ground, most: f64, [gas, omega]: [f64; 2], action: u32) {
     let ms = motions(512, most);
     let here: Vec<_> = ms.iter().map(port_motions).collect();
     let spun = [Cell::new(0.0), Cell::new(0.0)];
@@ -184,14 +158,14 @@ fn drive(
     };
     let port = || {
         let mut run = ground.start(0.95);
-        run.core.ctl.iter_mut().for_each(|c| (c.gas, c.omega) = (gas, omega));
+        run.car.ctl.iter_mut().for_each(|c| (c.gas, c.omega) = (gas, omega));
         let t = each(here.len(), || {
             for m in &here {
-                drive(&mut run, action, m);
-                run.core.driven = false;
+                driven(&mut run, action, m);
+                run.progress.driven = false;
             }
         });
-        spun[1].set(run.core.ctl[0].omega);
+        spun[1].set(run.car.ctl[0].omega);
         t
     };
     versus(name, rounds, rust, port);
@@ -199,7 +173,7 @@ fn drive(
 }
 
 /// The contact pass alone, and the whole settle, a car on each point of ten courses in turn.
-fn settle(name: &str, rounds: Rounds, grounds: &[Ground], settle: impl Fn(&mut Run, port::Columns, Poses) -> (u32, bool)) {
+fn settle(name: &str, rounds: Rounds, grounds: &[Ground]) {
     let total: usize = grounds.iter().map(|g| g.cars.len() - 1).sum();
     let counts = [Cell::new(0), Cell::new(0)];
     let rust = || {
@@ -219,13 +193,13 @@ fn settle(name: &str, rounds: Rounds, grounds: &[Ground], settle: impl Fn(&mut R
     let here: Vec<Vec<_>> = grounds.iter().map(|g| g.cars.iter().map(port_poses).collect()).collect();
     let port = || {
         let mut runs: Vec<_> = grounds.iter().map(|g| g.start(1.0)).collect();
-        runs.iter_mut().for_each(|r| r.core.driven = true);
+        runs.iter_mut().for_each(|r| r.progress.driven = true);
         let mut new = 0;
         let t = each(total, || {
             for ((run, g), cars) in runs.iter_mut().zip(grounds).zip(&here) {
                 for p in &cars[1..] {
-                    new += settle(run, g.course(), *p).0;
-                    run.core.driven = true;
+                    new += settled(run, g.course(), *p).0;
+                    run.progress.driven = true;
                 }
             }
         });
@@ -237,13 +211,7 @@ fn settle(name: &str, rounds: Rounds, grounds: &[Ground], settle: impl Fn(&mut R
 }
 
 /// A drive and a settle, against the whole `step` with the shimmed physics.
-fn tick(
-    name: &str,
-    rounds: Rounds,
-    grounds: &[Ground],
-    drive: impl Fn(&mut Run, u32, &Motions),
-    settle: impl Fn(&mut Run, port::Columns, Poses) -> (u32, bool),
-) {
+fn tick(name: &str, rounds: Rounds, grounds: &[Ground]) {
     let ms = motions(512, 10.0);
     let here: Vec<_> = ms.iter().map(port_motions).collect();
     let cars: Vec<Vec<_>> = grounds.iter().map(|g| g.cars.iter().map(port_poses).collect()).collect();
@@ -273,8 +241,8 @@ fn tick(
         let t = each(total, || {
             for ((run, g), cars) in runs.iter_mut().zip(grounds).zip(&cars) {
                 for (j, p) in cars.iter().enumerate().skip(1) {
-                    drive(run, (j % 5) as u32, &here[j % here.len()]);
-                    let (credited, ended) = settle(run, g.course(), *p);
+                    driven(run, (j % 5) as u32, &here[j % here.len()]);
+                    let (credited, ended) = settled(run, g.course(), *p);
                     new += credited;
                     ticks += 1;
                     if ended {

@@ -35,8 +35,8 @@ fn stacked(rounds: Rounds) {
         let t = alone(rounds, || {
             each(200, || {
                 for _ in 0..200 {
-                    run.core.driven = true;
-                    black_box(port::settle_in_place(&mut run, ground.course(), HULL.x, HULL.y, car).cause);
+                    run.progress.driven = true;
+                    black_box(port::settle(&mut run, ground.course(), HULL.x, HULL.y, car).cause);
                 }
             })
         });

@@ -1,6 +1,6 @@
 //! The port beside the Rust: medians of many rounds, by turns in one run, and the median of the rounds' ratios. The port is called through
-//! its C functions, as a host calls it, drive and settle in both of their forms: in place and by value; the Rust is called in place,
-//! but for its own `step`, which clones. Buffers and states are warm: each round meets what the round before left in the cache.
+//! its C functions, as a host calls it, drive and settle on a run that stays where it stands; so is the Rust, but for its own `step`,
+//! which clones. Buffers and states are warm: each round meets what the round before left in the cache.
 //! Run by host/bench/run, which builds the oracle and the port's static library first.
 mod beside;
 mod clock;

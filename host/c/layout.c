@@ -3,7 +3,9 @@
 
 #define SIZE(T, n) _Static_assert(sizeof(T) == (n), #T)
 #define AT(T, f, n) _Static_assert(offsetof(T, f) == (n), #T "." #f)
+#define NUMBERS(T, n) _Static_assert(sizeof(T) == (n) * sizeof(double), #T)
 
+SIZE(bool, 1);
 SIZE(grader_pose, 32);
 SIZE(grader_motion, 40);
 SIZE(grader_force, 24);
@@ -11,46 +13,54 @@ SIZE(grader_wheel, 40);
 SIZE(grader_weights, 24);
 SIZE(grader_poses, 128);
 SIZE(grader_motions, 160);
-SIZE(grader_core, 200);
-SIZE(grader_run, 1800);
+SIZE(grader_setup, 24);
+SIZE(grader_progress, 12);
+SIZE(grader_car, 168);
+SIZE(grader_run, 1808);
 SIZE(grader_laid, 40);
 SIZE(grader_curbs_found, 8);
-SIZE(grader_started, 1816);
-SIZE(grader_driven, 1904);
-SIZE(grader_settled, 1816);
-SIZE(grader_counts, 40);
-SIZE(grader_drove_lent, 16);
-SIZE(grader_settled_lent, 216);
+SIZE(grader_started, 1824);
+SIZE(grader_driven, 16);
+SIZE(grader_settled, 28);
 SIZE(grader_figures, 24);
 SIZE(grader_replayed, 80);
 SIZE(grader_angle, 16);
 SIZE(grader_drawn, 16);
 
-AT(grader_core, lap_share, 16);
-AT(grader_core, lap, 24);
-AT(grader_core, driven, 27);
-AT(grader_core, ctl, 32);
-AT(grader_core, fuel_spent, 192);
-AT(grader_run, credited, 200);
-AT(grader_run, wheels, 520);
+/* What is lent as numbers has no others beside them. */
+NUMBERS(grader_car, GRADER_CAR);
+NUMBERS(grader_motions, GRADER_MOTIONS);
+NUMBERS(grader_force[4], GRADER_FORCES);
+
+AT(grader_setup, n, 0);
+AT(grader_setup, tick_limit, 4);
+AT(grader_setup, lap_share, 8);
+AT(grader_setup, fallback, 16);
+AT(grader_progress, visited_count, 0);
+AT(grader_progress, tick, 4);
+AT(grader_progress, lap, 8);
+AT(grader_progress, ended, 9);
+AT(grader_progress, driven, 10);
+AT(grader_car, ctl, 0);
+AT(grader_car, fuel_spent, 160);
+AT(grader_run, setup, 0);
+AT(grader_run, progress, 24);
+AT(grader_run, car, 40);
+AT(grader_run, credited, 208);
+AT(grader_run, wheels, 528);
 AT(grader_laid, fallback, 12);
 AT(grader_laid, beta, 16);
+AT(grader_started, count, 4);
 AT(grader_started, lap, 8);
 AT(grader_started, run, 16);
-AT(grader_driven, forces, 8);
-AT(grader_driven, run, 104);
+AT(grader_driven, cause, 0);
+AT(grader_driven, progress, 4);
+AT(grader_settled, new_tiles, 4);
+AT(grader_settled, n, 8);
 AT(grader_settled, off, 12);
+AT(grader_settled, lap, 13);
 AT(grader_settled, ended, 14);
-AT(grader_settled, run, 16);
-AT(grader_counts, lap_share, 16);
-AT(grader_counts, lap, 24);
-AT(grader_counts, driven, 27);
-AT(grader_counts, fuel_spent, 32);
-AT(grader_drove_lent, driven, 4);
-AT(grader_drove_lent, fuel_spent, 8);
-AT(grader_settled_lent, off, 12);
-AT(grader_settled_lent, ended, 14);
-AT(grader_settled_lent, core, 16);
+AT(grader_settled, progress, 16);
 AT(grader_figures, share, 16);
 AT(grader_figures, lap, 20);
 AT(grader_replayed, start_cause, 40);

@@ -1,14 +1,14 @@
 //! The port, called as a host calls it, by the functions and structs of the host's crate (../grader/src/ffi.rs), over this
-//! program's columns; and the functions of the boundary that the crate leaves out: drive and settle by value, and three that no host needs.
+//! program's columns; and the three functions of the boundary that no host needs.
 #[path = "../grader/src/ffi.rs"]
 mod ffi;
 
 use crate::lent::Lent;
-pub use ffi::{atan2, cell, cosine, drive as drive_in_place, reward, settle as settle_in_place, sheet, sine, sqrt};
-pub use ffi::{Angle, Columns, Core, CurbsFound, Figures, Force, Laid, Motion, Opening, Pose, State, Weights, Wheel};
+pub use ffi::{atan2, cell, cosine, drive, reward, settle, sheet, sine, sqrt};
+pub use ffi::{
+    Angle, Car, Columns, CurbsFound, Figures, Force, Laid, Motion, Opening, Pose, Progress, Setup, State, Weights, Wheel,
+};
 
-type F = *const f64;
-type I = *const u32;
 type Fm = *mut f64;
 type Im = *mut u32;
 type N = usize;
@@ -30,35 +30,8 @@ struct CheckpointList {
     checkpoints: [Checkpoint; 12],
 }
 
-#[repr(C)]
-struct Motions {
-    wheels: [Motion; 4],
-}
-
-/// What drive answers by value, and the state after.
-#[repr(C)]
-pub struct Driven {
-    pub cause: u32,
-    pub forces: [Force; 4],
-    pub run: State,
-}
-
-/// What settle answers by value, and the state after.
-#[repr(C)]
-pub struct Settled {
-    pub cause: u32,
-    pub new_tiles: u32,
-    pub n: u32,
-    pub off: bool,
-    pub lap: bool,
-    pub ended: bool,
-    pub run: State,
-}
-
 #[rustfmt::skip]
 extern "C" {
-    fn grader_drive(run: State, action: u32, motions: Motions) -> Driven;
-    fn grader_settle(run: State, t: F, tl: N, o: I, ol: N, l: I, ll: N, x: f64, y: f64, poses: ffi::Poses) -> Settled;
     fn grader_lay_attempts(attempts: u32, seed: u32, a: Fm, al: N, b: Fm, bl: N, x: Fm, xl: N, y: Fm, yl: N, t: Fm, tl: N, o: Im, ol: N, l: Im, ll: N) -> Laid;
     fn grader_lay_checkpoints(cs: CheckpointList, a: Fm, al: N, b: Fm, bl: N, x: Fm, xl: N, y: Fm, yl: N, t: Fm, tl: N, o: Im, ol: N, l: Im, ll: N) -> Laid;
     fn grader_overlap(a: Quad, b: Quad) -> bool;
@@ -115,18 +88,6 @@ pub fn curbs([beta, x, y]: [&[f64]; 3], count: u32, quads: &mut [f64], white: &m
 
 pub fn start(c: Columns, n: u32, fallback: bool, lap_share: f64, tick_limit: u32, poses: [Pose; 4]) -> ffi::Started {
     ffi::start(c, n, fallback, Opening { lap_share, tick_limit, poses })
-}
-
-pub fn drive(run: State, action: u32, motions: [Motion; 4]) -> Driven {
-    unsafe { grader_drive(run, action, Motions { wheels: motions }) }
-}
-
-#[rustfmt::skip]
-pub fn settle(run: State, c: Columns, x: f64, y: f64, poses: [Pose; 4]) -> Settled {
-    unsafe {
-        grader_settle(run, c.tiles.as_ptr(), c.tiles.len(), c.offsets.as_ptr(), c.offsets.len(), c.list.as_ptr(), c.list.len(),
-            x, y, ffi::Poses { wheels: poses })
-    }
 }
 
 pub fn overlap(a: [[f64; 2]; 4], b: [[f64; 2]; 4]) -> bool {

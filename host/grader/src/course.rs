@@ -179,7 +179,7 @@ mod tests {
     /// cell. Each of the 67 * 67 cells then lists the tiles 0 to 2,499.
     #[test]
     fn the_longest_index_lists_every_tile_in_every_cell() {
-        let corner = |i: usize| if i % 2 == 0 { 1000.0 } else { -1000.0 };
+        let corner = |i: usize| [1000.0, -1000.0][i % 2];
         let points: Vec<Point> = (0..POINTS).map(|i| Point { beta: 0.0, x: corner(i), y: corner(i) }).collect();
         let course = Course::from_points(&points).expect("2,500 points within 1,000 are taken");
         assert_eq!((course.n(), course.entries()), (2_500, 11_222_500));

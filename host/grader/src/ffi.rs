@@ -2,9 +2,9 @@
 //! slices. The only file with `unsafe`.
 //!
 //! Why each `unsafe` below is sound: the grader asks of a lent column that its pointer is aligned, not null and good for
-//! the length beside it, and that a column lent for writing overlaps no other argument. Slices have the first, `&mut`
-//! has the second. It keeps no pointer, and has no other precondition. Every struct and bool that it returns is
-//! made by it whole.
+//! the length beside it, or for the length that the header names, and that a column lent for writing overlaps no other
+//! argument. Slices and references to arrays have the first, `&mut` has the second. It keeps no pointer, and has no other
+//! precondition. Every struct and bool that it returns is made by it whole.
 
 /// Where a wheel is, and the cosine and sine of its heading: it rolls along (-sin, cos).
 #[repr(C)]
@@ -36,7 +36,7 @@ pub struct Force {
     pub fy: f64,
 }
 
-/// A wheel's controls, kept in the state.
+/// A wheel's controls, kept in the run's car.
 #[repr(C)]
 #[derive(Clone, Copy, Debug, Default, PartialEq)]
 pub struct Wheel {
@@ -62,29 +62,43 @@ impl Default for Weights {
     }
 }
 
-/// The state of a run but for its tile sets.
+/// What a start fixes for the run.
 #[repr(C)]
 #[derive(Clone, Copy, Debug, PartialEq)]
-pub struct Core {
+pub struct Setup {
     pub n: u32,
-    pub visited_count: u32,
-    pub tick: u32,
     pub tick_limit: u32,
     pub lap_share: f64,
+    pub fallback: bool,
+}
+
+/// How far the run has come. Settles write it; `driven` says that a drive awaits its settle.
+#[repr(C)]
+#[derive(Clone, Copy, Debug, PartialEq)]
+pub struct Progress {
+    pub visited_count: u32,
+    pub tick: u32,
     pub lap: bool,
     pub ended: bool,
-    pub fallback: bool,
     pub driven: bool,
+}
+
+/// What drives write: the wheels' controls, and the fuel spent. All of it is f64s, 21 of them.
+#[repr(C)]
+#[derive(Clone, Copy, Debug, PartialEq)]
+pub struct Car {
     pub ctl: [Wheel; 4],
     pub fuel_spent: f64,
 }
 
-/// The state of a run. Tile t is bit t % 64 of word t / 64 of `credited`; a wheel's tiles at the last contact are forty words
-/// of `wheels`, wheel by wheel. Keep it as it is.
+/// The state of a run, in records by who writes them. Tile t is bit t % 64 of word t / 64 of `credited`; a wheel's tiles at
+/// the last contact are forty words of `wheels`, wheel by wheel. Keep it as it is.
 #[repr(C)]
 #[derive(Clone, Copy, Debug, PartialEq)]
 pub struct State {
-    pub core: Core,
+    pub setup: Setup,
+    pub progress: Progress,
+    pub car: Car,
     pub credited: [u64; 40],
     pub wheels: [u64; 160],
 }
@@ -116,27 +130,10 @@ pub struct Started {
     pub run: State,
 }
 
-/// A state but for its controls and sets.
 #[repr(C)]
-#[derive(Clone, Copy)]
-struct Counts {
-    n: u32,
-    visited_count: u32,
-    tick: u32,
-    tick_limit: u32,
-    lap_share: f64,
-    lap: bool,
-    ended: bool,
-    fallback: bool,
-    driven: bool,
-    fuel_spent: f64,
-}
-
-#[repr(C)]
-struct DroveLent {
+struct Driven {
     cause: u32,
-    driven: bool,
-    fuel_spent: f64,
+    progress: Progress,
 }
 
 #[repr(C)]
@@ -147,7 +144,7 @@ pub struct Settled {
     pub off: bool,
     pub lap: bool,
     pub ended: bool,
-    pub core: Core,
+    progress: Progress,
 }
 
 #[repr(C)]
@@ -194,8 +191,6 @@ type F = *const f64;
 type Fm = *mut f64;
 type I = *const u32;
 type Im = *mut u32;
-type W = *const u64;
-type Wm = *mut u64;
 type N = usize;
 
 #[rustfmt::skip]
@@ -204,9 +199,9 @@ extern "C" {
     fn grader_points(gb: F, gbl: N, gx: F, gxl: N, gy: F, gyl: N, count: u32, a: Fm, al: N, b: Fm, bl: N, x: Fm, xl: N, y: Fm, yl: N, t: Fm, tl: N, o: Im, ol: N, l: Im, ll: N) -> Laid;
     fn grader_curbs(gb: F, gbl: N, gx: F, gxl: N, gy: F, gyl: N, count: u32, q: Fm, ql: N, w: *mut u8, wl: N) -> CurbsFound;
     fn grader_start(t: F, tl: N, o: I, ol: N, l: I, ll: N, n: u32, fallback: bool, share: f64, limit: u32, poses: Poses) -> Started;
-    fn grader_drive_lent(counts: Counts, c: Fm, cl: N, w: W, wl: N, action: u32, m: F, ml: N, f: Fm, fl: N) -> DroveLent;
-    fn grader_settle_lent(core: Core, c: Wm, cl: N, w: Wm, wl: N, t: F, tl: N, o: I, ol: N, l: I, ll: N, x: f64, y: f64, poses: Poses) -> Settled;
-    fn grader_sheet(run: State) -> Figures;
+    fn grader_drive_parts(setup: Setup, progress: Progress, car: &mut Car, wheels: &[u64; 160], action: u32, motions: &[Motion; 4], forces: &mut [Force; 4]) -> Driven;
+    fn grader_settle_parts(setup: Setup, progress: Progress, credited: &mut [u64; 40], wheels: &mut [u64; 160], t: F, tl: N, o: I, ol: N, l: I, ll: N, x: f64, y: f64, poses: Poses) -> Settled;
+    fn grader_sheet_parts(setup: Setup, progress: Progress) -> Figures;
     fn grader_reward(weights: Weights, new_tiles: u32, n: u32, off: bool) -> f64;
     fn grader_replay(seed: u32, a: Fm, al: N, b: Fm, bl: N, x: Fm, xl: N, y: Fm, yl: N, t: Fm, tl: N, o: Im, ol: N, l: Im, ll: N, share: f64, limit: u32, poses: Poses, many: u32, c: I, cl: N, g: F, gl: N, w: Im, wl: N, n: Fm, nl: N) -> Replayed;
     fn grader_sine(a: f64) -> Angle;
@@ -279,37 +274,28 @@ pub fn start(c: Columns, n: u32, fallback: bool, opening: Opening) -> Started {
     }
 }
 
-/// The state goes on where it stands: its controls and sets are lent, what else there is of it goes in by value. Answers the cause; the
-/// forces are written where it is 0. A wheel's control, motion and force are numbers alone, so four of them are as many numbers in a row.
-#[rustfmt::skip]
+/// The run goes on where it stands. Answers the cause; the forces are written where it is 0. The grader takes car, motions and
+/// forces as 21, 20 and 12 numbers in a row, which is what they are.
 pub fn drive(run: &mut State, action: u32, motions: &[Motion; 4], forces: &mut [Force; 4]) -> u32 {
-    let c = &mut run.core;
-    let counts = Counts {
-        n: c.n, visited_count: c.visited_count, tick: c.tick, tick_limit: c.tick_limit, lap_share: c.lap_share,
-        lap: c.lap, ended: c.ended, fallback: c.fallback, driven: c.driven, fuel_spent: c.fuel_spent,
-    };
-    let d = unsafe {
-        grader_drive_lent(counts, c.ctl.as_mut_ptr().cast(), 20, run.wheels.as_ptr(), run.wheels.len(), action,
-            motions.as_ptr().cast(), 20, forces.as_mut_ptr().cast(), 12)
-    };
-    (c.driven, c.fuel_spent) = (d.driven, d.fuel_spent);
+    let d = unsafe { grader_drive_parts(run.setup, run.progress, &mut run.car, &run.wheels, action, motions, forces) };
+    run.progress = d.progress;
     d.cause
 }
 
-/// The same for a settle, which changes the sets and is lent no controls: the core goes in and out by value.
+/// The same for a settle, which changes the sets.
 #[rustfmt::skip]
 pub fn settle(run: &mut State, c: Columns, x: f64, y: f64, poses: [Pose; 4]) -> Settled {
     let s = unsafe {
-        grader_settle_lent(run.core, run.credited.as_mut_ptr(), run.credited.len(), run.wheels.as_mut_ptr(), run.wheels.len(),
+        grader_settle_parts(run.setup, run.progress, &mut run.credited, &mut run.wheels,
             c.tiles.as_ptr(), c.tiles.len(), c.offsets.as_ptr(), c.offsets.len(), c.list.as_ptr(), c.list.len(),
             x, y, Poses { wheels: poses })
     };
-    run.core = s.core;
+    run.progress = s.progress;
     s
 }
 
-pub fn sheet(run: State) -> Figures {
-    unsafe { grader_sheet(run) }
+pub fn sheet(run: &State) -> Figures {
+    unsafe { grader_sheet_parts(run.setup, run.progress) }
 }
 
 pub fn reward(weights: Weights, new_tiles: u32, n: u32, off: bool) -> f64 {
@@ -370,12 +356,9 @@ mod tests {
     fn sizes_are_those_of_the_header() {
         assert_eq!([size_of::<Pose>(), size_of::<Motion>(), size_of::<Force>(), size_of::<Wheel>()], [32, 40, 24, 40]);
         assert_eq!([size_of::<Weights>(), size_of::<Poses>()], [24, 128]);
-        assert_eq!([size_of::<Core>(), size_of::<State>()], [200, 1800]);
+        assert_eq!([size_of::<Setup>(), size_of::<Progress>(), size_of::<Car>(), size_of::<State>()], [24, 12, 168, 1808]);
         assert_eq!([size_of::<Laid>(), size_of::<CurbsFound>(), size_of::<Figures>(), size_of::<Replayed>()], [40, 8, 24, 80]);
-        assert_eq!(
-            [size_of::<Started>(), size_of::<Counts>(), size_of::<DroveLent>(), size_of::<Settled>()],
-            [1816, 40, 16, 216]
-        );
+        assert_eq!([size_of::<Started>(), size_of::<Driven>(), size_of::<Settled>()], [1824, 16, 28]);
         assert_eq!([size_of::<Angle>(), size_of::<Drawn>()], [16, 16]);
     }
 
@@ -390,14 +373,15 @@ mod tests {
         places!(Force: motor 0, fx 8, fy 16);
         places!(Wheel: gas 0, brake 8, steer 16, omega 24, phase 32);
         places!(Weights: tile 0, step 8, off_playfield 16);
-        places!(Core: n 0, visited_count 4, tick 8, tick_limit 12, lap_share 16, lap 24, ended 25, fallback 26, driven 27, ctl 32, fuel_spent 192);
-        places!(State: core 0, credited 200, wheels 520);
+        places!(Setup: n 0, tick_limit 4, lap_share 8, fallback 16);
+        places!(Progress: visited_count 0, tick 4, lap 8, ended 9, driven 10);
+        places!(Car: ctl 0, fuel_spent 160);
+        places!(State: setup 0, progress 24, car 40, credited 208, wheels 528);
         places!(Laid: cause 0, n 4, entries 8, fallback 12, beta 16, x 24, y 32);
         places!(CurbsFound: cause 0, count 4);
         places!(Started: cause 0, count 4, lap 8, run 16);
-        places!(Counts: n 0, visited_count 4, tick 8, tick_limit 12, lap_share 16, lap 24, ended 25, fallback 26, driven 27, fuel_spent 32);
-        places!(DroveLent: cause 0, driven 4, fuel_spent 8);
-        places!(Settled: cause 0, new_tiles 4, n 8, off 12, lap 13, ended 14, core 16);
+        places!(Driven: cause 0, progress 4);
+        places!(Settled: cause 0, new_tiles 4, n 8, off 12, lap 13, ended 14, progress 16);
         places!(Figures: cause 0, tick 4, credited 8, n 12, share 16, lap 20, ended 21, fallback 22);
         places!(Replayed: laid 0, start_cause 40, start_count 44, start_lap 48, sheet 52);
         places!(Angle: cause 0, value 8);

@@ -32,7 +32,7 @@ mod replay;
 mod run;
 
 pub use course::{Course, Curb, Point, Quad};
-pub use ffi::{Core, Force, Motion, Pose, State, Weights, Wheel};
+pub use ffi::{Car, Force, Motion, Pose, Progress, Setup, State, Weights, Wheel};
 pub use refusal::Refusal;
 pub use replay::{replay, Answer, Call, Replayed};
 pub use run::{Run, Settled, Sheet, Started};

@@ -86,12 +86,12 @@ impl Run {
 
     /// The figures so far, at any time. Only a run made by [`Run::from_state`] may be refused, by [`Refusal::NoRun`].
     pub fn sheet(&self) -> Result<Sheet, Refusal> {
-        Sheet::of(ffi::sheet(self.state))
+        Sheet::of(ffi::sheet(&self.state))
     }
 
     /// The tile was touched by a wheel at some contact of this run. False for a tile that the course has not.
     pub fn credited(&self, tile: u32) -> bool {
-        tile < self.state.core.n && self.state.credited.get(tile as usize / 64).is_some_and(|w| w >> (tile % 64) & 1 == 1)
+        tile < self.state.setup.n && self.state.credited.get(tile as usize / 64).is_some_and(|w| w >> (tile % 64) & 1 == 1)
     }
 
     /// The grader's state as it is: a plain value, good for [`Run::from_state`].

@@ -138,7 +138,7 @@ fn a_kept_state_goes_on() {
     assert_eq!(run.settle(&course, 0.0, 0.0, wheels(&course, 1)), other.settle(&course, 0.0, 0.0, wheels(&course, 1)));
     assert_eq!(run, other);
     let mut none = *run.state();
-    none.core.n = 0;
+    none.setup.n = 0;
     assert_eq!(Run::from_state(none).sheet(), Err(Refusal::NoRun));
 }
 
