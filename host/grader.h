@@ -7,7 +7,7 @@
  *
  * Answers. Every call returns; none has a precondition beyond the above. `cause` is 0 where the call is accepted, else the
  * number of the first cause that holds (see below); the other fields are then 0 and false, and a run is what it was
- * (a refused start returns the run of zeros, which later calls refuse by 4). A refused call writes nothing.
+ * (a refused start returns the run of zeros, which later calls refuse by 4).
  *
  * Threads. A call reads and writes its arguments alone, so calls may run at once on different columns and runs. */
 #ifndef GRADER_H
@@ -89,8 +89,8 @@ grader_curbs_found grader_curbs(IN(double, beta), IN(double, x), IN(double, y), 
 grader_started grader_start(COURSE_IN, uint32_t n, bool fallback, double lap_share, uint32_t tick_limit, grader_poses poses);
 double grader_reward(grader_weights weights, uint32_t new_tiles, uint32_t n, bool off);
 
-/* The three on a run's parts: setup and progress by value, the others lent. The progress after the call is in the answer, and is what it
- * was where the call is refused. */
+/* The three on a run's parts: setup and progress by value, the others lent. An accepted drive writes all numbers of car and forces, a
+ * settle both sets; a refused one writes nothing. The answer has the progress after the call, as it was where it is refused. */
 grader_driven grader_drive_parts(grader_setup setup, grader_progress progress, double car[GRADER_CAR], const uint64_t wheels[GRADER_WHEELS], uint32_t action, const double motions[GRADER_MOTIONS], double forces[GRADER_FORCES]);
 grader_settled grader_settle_parts(grader_setup setup, grader_progress progress, uint64_t credited[GRADER_CREDITED], uint64_t wheels[GRADER_WHEELS], COURSE_IN, double hull_x, double hull_y, grader_poses poses);
 grader_figures grader_sheet_parts(grader_setup setup, grader_progress progress);

@@ -30,11 +30,17 @@ static bool same(const grader_run *a, const grader_run *b) {
     return same_setup(a->setup, b->setup) && same_progress(a->progress, b->progress) && same_car(a, b) && same_sets(a, b);
 }
 
-/* Tiles in so many words. */
-static uint32_t count(const uint64_t *words, int many) {
-    uint32_t tiles_in = 0;
-    for (int i = 0; i < 64 * many; i++) tiles_in += words[i / 64] >> (i % 64) & 1;
-    return tiles_in;
+static uint32_t count(const uint64_t credited[GRADER_CREDITED]) {
+    uint32_t many = 0;
+    for (int t = 0; t < 64 * GRADER_CREDITED; t++) many += credited[t / 64] >> t % 64 & 1;
+    return many;
+}
+
+/* Each wheel is on the tile now, and the tile is credited. */
+static bool touched(const grader_run *run, uint32_t tile) {
+    uint64_t bit = run->credited[tile / 64] >> tile % 64;
+    for (int k = 0; k < 4; k++) bit &= run->wheels[GRADER_WHEELS / 4 * k + (int)tile / 64] >> tile % 64;
+    return bit & 1;
 }
 
 /* Four wheels on point i, and four motions of a car that stands. */
@@ -79,7 +85,7 @@ static grader_run started(double lap_share, uint32_t tick_limit) {
     CHECK(same_setup(s.run.setup, (grader_setup){course.n, tick_limit, lap_share, course.fallback}));
     CHECK(same_progress(s.run.progress, (grader_progress){s.count, 0, s.lap, false, false}));
     CHECK(same_car(&s.run, &(grader_run){0}));
-    CHECK(count(s.run.credited, GRADER_CREDITED) == s.count && count(s.run.wheels, GRADER_WHEELS) >= s.count);
+    CHECK(count(s.run.credited) == s.count && touched(&s.run, 0));
     return s.run;
 }
 
@@ -108,7 +114,7 @@ static grader_settled settled(grader_run *run, double hull_x, uint32_t i) {
     CHECK(s.cause == 0 && s.n == course.n && s.off == (hull_x > 333));
     CHECK(same_progress(run->progress, (grader_progress){before.progress.visited_count + s.new_tiles, before.progress.tick + 1, s.lap, s.ended, false}));
     CHECK(same_progress(s.progress, run->progress) && same_setup(run->setup, before.setup) && same_car(run, &before));
-    CHECK(count(run->credited, GRADER_CREDITED) == run->progress.visited_count);
+    CHECK(count(run->credited) == run->progress.visited_count && touched(run, i));
     return s;
 }
 

@@ -1,5 +1,5 @@
 //! The crate's calls beside what document 01 says of them, and the replay beside the same calls one by one.
-use grader::{numbers, replay, Answer, Call, Course, Motion, Point, Pose, Refusal, Run, Weights};
+use grader::{numbers, replay, Answer, Call, Course, Motion, Point, Pose, Progress, Refusal, Run, Weights};
 
 /// Four wheels at the course's point i.
 fn wheels(course: &Course, i: usize) -> [Pose; 4] {
@@ -102,6 +102,23 @@ fn a_refused_call_changes_nothing() {
     run.settle(&course, 0.0, 0.0, poses).unwrap();
     assert_eq!(run.drive(3, still()), Err(Refusal::TickLimit));
     assert!(!run.sheet().unwrap().ended);
+}
+
+#[test]
+fn a_drive_writes_the_car_and_a_settle_progress_and_sets() {
+    let course = Course::lay(0);
+    let mut run = begun(&course, 1000);
+    let start = *run.state();
+    run.drive(3, still()).unwrap();
+    let driven = *run.state();
+    assert_eq!((driven.setup, driven.credited, driven.wheels), (start.setup, start.credited, start.wheels));
+    assert_eq!(driven.progress, Progress { driven: true, ..start.progress });
+    assert!(driven.car.ctl[3].phase > 0.0 && driven.car.fuel_spent > 0.0);
+    let new = run.settle(&course, 0.0, 0.0, wheels(&course, 150)).unwrap().new_tiles;
+    let settled = *run.state();
+    assert_eq!((settled.setup, settled.car), (driven.setup, driven.car));
+    assert_eq!(settled.progress, Progress { tick: 1, visited_count: start.progress.visited_count + new, ..start.progress });
+    assert!(new > 0 && settled.credited != driven.credited && settled.wheels != driven.wheels);
 }
 
 #[test]
