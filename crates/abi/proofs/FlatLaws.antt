@@ -1,37 +1,44 @@
 -- From what a call below leaves, and its answer made flat, to the whole of what crosses the boundary. Assumes nothing.
+use mathlib.Core.Bool.{Bool, cond}
 use mathlib.Core.List.{List}
-use mathlib.Core.Path.{_≡_, refl, ap, _∙_}
+use mathlib.Core.Path.{_≡_, refl, sym, ap, _∙_}
 use Prim.Native.Nat.{ℕ}
+use lib.Dec.{eqb}
+use lib.ListN.{length}
 use lib.Ieee.{Float}
+use borrow.Author.Tests.{eq-eqb, ne-eqb}
 use Rattle.course.specs.Lent.{Lent, Outcome, outcome}
 use Rattle.course.specs.Lay.{layOnCall}
 use Rattle.course.specs.Curbs.{Edged, edged}
 use Rattle.course.specs.declared.checkpoints.Checkpoint.{Checkpoint}
 use Rattle.course.specs.declared.points.Laid.{Laid}
 use Rattle.course.specs.declared.curbs.CurbAnswer.{CurbAnswer}
-use Rattle.run.specs.State.{State, view}
-use Rattle.run.specs.Start.{Begun, begun}
-use Rattle.run.specs.Settle.{Done, done}
+use Rattle.run.specs.State.{view, Columns}
+use Rattle.run.specs.Start.{Begun, begun, startCauseOf, startValuesOf}
+use Rattle.run.specs.Drive.{driveCauseOf, drivePartsOf}
+use Rattle.run.specs.Settle.{settleCauseOf, settleValuesOf, SettledParts, settledParts, settlePartsOf}
+use Rattle.run.specs.Replay.{motionsFrom, forceNumbers}
 use Rattle.run.specs.Batch.{Replay, replay}
-use Rattle.run.specs.declared.state.Core.{Core}
 use Rattle.run.specs.declared.state.Run.{Run}
-use Rattle.run.specs.declared.dynamics.Force.{Force}
+use Rattle.run.specs.declared.state.Setup.{Setup}
+use Rattle.run.specs.declared.state.Progress.{Progress}
+use Rattle.run.specs.declared.state.Car.{Car}
+use Rattle.run.specs.declared.state.Pose.{Pose}
+use Rattle.run.specs.declared.dynamics.Motion.{Motion}
 use Rattle.run.specs.declared.start.StartAnswer.{StartAnswer}
-use Rattle.run.specs.declared.drive.Drove.{Drove}
+use Rattle.run.specs.declared.start.StartValues.{StartValues}
+use Rattle.run.specs.declared.drive.DroveParts.{DroveParts}
 use Rattle.run.specs.declared.settle.SettleAnswer.{SettleAnswer}
+use Rattle.run.specs.declared.settle.SettleValues.{SettleValues}
 use Rattle.run.specs.declared.sheet.SheetAnswer.{SheetAnswer}
-use Rattle.run.specs.Drive.{driveCauseOf}
-use Rattle.abi.specs.Flat.{flatLaid, flatCurbs, runOf, flatBegun, flatStarted, flatDriven, flatSettle, flatSettled, flatCoreSettled, flatSheet, flatAnswers, flatReplayed, replayColumns, columnsAfter}
+use Rattle.run.proofs.DriveLaws.{refused-keeps}
+use Rattle.abi.specs.Flat.{flatLaid, flatCurbs, runOf, flatStarted, flatDriven, flatSettled, flatSheet, flatAnswers, flatReplayed, replayColumns, columnsAfter}
+use Rattle.abi.specs.Lent.{carFrom, carNumbers, LentDriven, lentDriven, driveLent, lentSettled, settleLent}
 use Rattle.abi.specs.declared.flat.FlatLaid.{FlatLaid}
 use Rattle.abi.specs.declared.flat.FlatCurbs.{FlatCurbs}
-use Rattle.abi.specs.declared.flat.FlatBegun.{FlatBegun}
-use Rattle.abi.specs.declared.flat.FlatStarted.{FlatStarted}
-use Rattle.abi.specs.declared.flat.FlatDriven.{FlatDriven}
-use Rattle.abi.specs.declared.flat.FlatSettle.{FlatSettle}
-use Rattle.abi.specs.declared.flat.FlatSettled.{FlatSettled}
-use Rattle.abi.specs.declared.flat.FlatCoreSettled.{FlatCoreSettled}
 use Rattle.abi.specs.declared.flat.FlatSheet.{FlatSheet}
 use Rattle.abi.specs.declared.flat.FlatReplayed.{FlatReplayed}
+use Rattle.abi.proofs.CarLaws.{car-back}
 
 -- ---- courses
 
@@ -50,61 +57,57 @@ curbs-whole f a q w o e p =
 
 -- ---- the run
 
--- the struct that start returns: its answer's numbers beside the state
-abbrev startedFrom : FlatBegun → Run → FlatStarted
-startedFrom f r = record { cause = f .cause; count = f .count; lap = f .lap; run = r }
+-- the struct that start returns, from its answer and state
+pub started-whole : (a : StartAnswer) (r : Run) (b : Begun) (k : ℕ) (v : StartValues) → k ≡ startCauseOf a → v ≡ startValuesOf a → begun a (view r) ≡ b
+    → record { cause = k; count = v .count; lap = v .lap; run = r } ≡ flatStarted b
+unfolding flatStarted runOf view
+started-whole a r b k v ek ev p = (λ i. record { cause = ek i; count = ev i .count; lap = ev i .lap; run = r }) ∙ ap flatStarted p
 
-started-flat : (a : StartAnswer) (r : Run) → startedFrom (flatBegun a) r ≡ flatStarted (begun a (view r))
-unfolding flatBegun flatStarted runOf view
-started-flat a r = refl
+-- an accepted drive: what is written is the car and the forces after; a refused one writes nothing
+module _ (m most : ℕ) (u : Setup) (p : Progress) (car : List Float) (wheels : List ℕ) (action : ℕ) (motions forces : List Float) (d : DroveParts) (k : ℕ) (c : Car) (ms : List Motion)
+    (is : d ≡ drivePartsOf m most u p c wheels action ms) (ec : c ≡ carFrom car) (em : ms ≡ motionsFrom motions) (ek : k ≡ driveCauseOf (d .answer)) where
+  same : d ≡ drivePartsOf m most u p (carFrom car) wheels action (motionsFrom motions)
+  same = is ∙ (λ i. drivePartsOf m most u p (ec i) wheels action (em i))
 
-pub started-whole : (f : FlatBegun) (a : StartAnswer) (r : Run) (b : Begun) → f ≡ flatBegun a → begun a (view r) ≡ b → startedFrom f r ≡ flatStarted b
-started-whole f a r b e p = ap (λ (g : FlatBegun). startedFrom g r) e ∙ started-flat a r ∙ ap flatStarted p
+  written : DroveParts → List Float → LentDriven
+  written x fs = lentDriven (flatDriven (x .answer) (x .progress)) (carNumbers (x .car)) (cond (eqb (driveCauseOf (x .answer)) 0) (forceNumbers (x .forces)) fs)
 
-abbrev drivenFrom : ℕ → List Force → Run → FlatDriven
-drivenFrom k fs r = record { cause = k; forces = fs; run = r }
+  pub driven-accepted : (car′ forces′ : List Float) → k ≡ 0 → car′ ≡ carNumbers (d .car) → forces′ ≡ forceNumbers (d .forces)
+      → lentDriven (record { cause = k; progress = d .progress }) car′ forces′ ≡ driveLent m most u p car wheels action motions forces
+  unfolding driveLent flatDriven written
+  driven-accepted car′ forces′ z eq ef =
+      (λ i. lentDriven (record { cause = ek i; progress = d .progress }) (eq i)
+      ((ef ∙ ap (λ (b : Bool). cond b (forceNumbers (d .forces)) forces) (sym (eq-eqb (driveCauseOf (d .answer)) 0 (sym ek ∙ z)))) i))
+      ∙ ap (λ (x : DroveParts). written x forces) same
 
-driven-flat : (d : Drove) → drivenFrom (driveCauseOf (d .answer)) (d .forces) (d .run) ≡ flatDriven d
-unfolding flatDriven
-driven-flat d = refl
+  pub driven-refused : (k ≡ 0 → ⊥) → length car ≡ 21 → lentDriven (record { cause = k; progress = d .progress }) car forces ≡ driveLent m most u p car wheels action motions forces
+  unfolding driveLent flatDriven written
+  driven-refused z long =
+      (λ i. lentDriven (record { cause = ek i; progress = d .progress }) (kept i)
+      (ap (λ (b : Bool). cond b (forceNumbers (d .forces)) forces) (sym (ne-eqb (driveCauseOf (d .answer)) 0 (λ e. z (ek ∙ e)))) i))
+      ∙ ap (λ (x : DroveParts). written x forces) same
+    where
+      kept : car ≡ carNumbers (d .car)
+      kept =
+          sym (car-back car long)
+          ∙ ap carNumbers (sym (refused-keeps m most u p (carFrom car) wheels action (motionsFrom motions) (λ e. z (ek ∙ ap (λ (x : DroveParts). driveCauseOf (x .answer)) same ∙ e)) .1))
+          ∙ ap (λ (x : DroveParts). carNumbers (x .car)) (sym same)
 
-pub driven-whole : (k : ℕ) (d e : Drove) → k ≡ driveCauseOf (d .answer) → d ≡ e → drivenFrom k (d .forces) (d .run) ≡ flatDriven e
-driven-whole k d e q p = ap (λ (j : ℕ). drivenFrom j (d .forces) (d .run)) q ∙ driven-flat d ∙ ap flatDriven p
-
-abbrev settledFrom : FlatSettle → Run → FlatSettled
-settledFrom f r = record { cause = f .cause; «new_tiles» = f .«new_tiles»; n = f .n; off = f .off; lap = f .lap; ended = f .ended; run = r }
-
-settled-flat : (a : SettleAnswer) (r : Run) → settledFrom (flatSettle a) r ≡ flatSettled (done a (view r))
-unfolding flatSettle flatSettled runOf view
-settled-flat a r = refl
-
-pub settled-whole : (f : FlatSettle) (a : SettleAnswer) (r : Run) (d : Done) → f ≡ flatSettle a → done a (view r) ≡ d → settledFrom f r ≡ flatSettled d
-settled-whole f a r d e p = ap (λ (g : FlatSettle). settledFrom g r) e ∙ settled-flat a r ∙ ap flatSettled p
-
--- ---- the run where its sets are lent
-
-abbrev coreSettledFrom : FlatSettle → Core → FlatCoreSettled
-coreSettledFrom f s = record { cause = f .cause; «new_tiles» = f .«new_tiles»; n = f .n; off = f .off; lap = f .lap; ended = f .ended; core = s }
-
-core-settled-flat : (a : SettleAnswer) (s : State) → coreSettledFrom (flatSettle a) (s .core) ≡ flatCoreSettled (done a s)
-unfolding flatSettle flatCoreSettled
-core-settled-flat a s = refl
-
-pub core-settled-whole : (f : FlatSettle) (a : SettleAnswer) (s : State) (d : Done) → f ≡ flatSettle a → done a s ≡ d → (coreSettledFrom f (s .core) ≡ flatCoreSettled d) × (s ≡ d .state)
-core-settled-whole f a s d e p = (ap (λ (g : FlatSettle). coreSettledFrom g (s .core)) e ∙ core-settled-flat a s ∙ ap flatCoreSettled p, ap (λ (z : Done). z .state) p)
+pub settled-whole : (m most : ℕ) (u : Setup) (p : Progress) (c w : List ℕ) (l : Columns) (x y : Float) (ps : List Pose) (a : SettleAnswer) (next : Progress) (c′ w′ : List ℕ) (k : ℕ) (v : SettleValues)
+    → k ≡ settleCauseOf a → v ≡ settleValuesOf a → settledParts a next c′ w′ ≡ settlePartsOf m most u p c w l x y ps
+    → lentSettled (record { cause = k; «new_tiles» = v .«new_tiles»; n = v .n; off = v .off; lap = v .lap; ended = v .ended; progress = next }) c′ w′ ≡ settleLent m most u p c w l x y ps
+unfolding settleLent flatSettled
+settled-whole m most u p c w l x y ps a next c′ w′ k v ek ev e =
+    (λ i. lentSettled (record { cause = ek i; «new_tiles» = ev i .«new_tiles»; n = ev i .n; off = ev i .off; lap = ev i .lap; ended = ev i .ended; progress = next }) c′ w′)
+    ∙ ap (λ (d : SettledParts). lentSettled (flatSettled (d .answer) (d .progress)) (d .credited) (d .wheels)) e
 
 -- ---- a whole replay
 
-abbrev replayedFrom : FlatLaid → FlatBegun → FlatSheet → FlatReplayed
-replayedFrom l b s = record { laid = l; «start_cause» = b .cause; «start_count» = b .count; «start_lap» = b .lap; sheet = s }
-
-answers-flat : (l : Laid) (b : StartAnswer) (s : SheetAnswer) → replayedFrom (flatLaid l) (flatBegun b) (flatSheet s) ≡ flatAnswers l b s
-unfolding flatAnswers flatBegun
-answers-flat l b s = refl
-
-pub answers-whole : (fl : FlatLaid) (fb : FlatBegun) (fs : FlatSheet) (l : Laid) (b : StartAnswer) (s : SheetAnswer)
-    → fl ≡ flatLaid l → fb ≡ flatBegun b → fs ≡ flatSheet s → replayedFrom fl fb fs ≡ flatAnswers l b s
-answers-whole fl fb fs l b s el eb es = (λ i. replayedFrom (el i) (eb i) (es i)) ∙ answers-flat l b s
+pub answers-whole : (fl : FlatLaid) (k : ℕ) (v : StartValues) (fs : FlatSheet) (l : Laid) (b : StartAnswer) (s : SheetAnswer)
+    → fl ≡ flatLaid l → k ≡ startCauseOf b → v ≡ startValuesOf b → fs ≡ flatSheet s
+    → record { laid = fl; «start_cause» = k; «start_count» = v .count; «start_lap» = v .lap; sheet = fs } ≡ flatAnswers l b s
+unfolding flatAnswers
+answers-whole fl k v fs l b s el ek ev es = λ i. record { laid = el i; «start_cause» = ek i; «start_count» = ev i .count; «start_lap» = ev i .lap; sheet = es i }
 
 pub replayed-whole : (f : FlatReplayed) (a : Laid) (b : StartAnswer) (s : SheetAnswer) (l : Lent) (ws : List ℕ) (ns : List Float) (q : Replay)
     → f ≡ flatAnswers a b s → replay a b s l ws ns ≡ q → (f ≡ flatReplayed q) × (replayColumns l ws ns ≡ columnsAfter q)

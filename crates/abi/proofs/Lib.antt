@@ -1,1 +1,2 @@
+pub mod CarLaws
 pub mod FlatLaws

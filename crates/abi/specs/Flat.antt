@@ -4,7 +4,7 @@ use Prim.Native.Nat.{ℕ}
 use lib.ListN.{getD}
 use lib.Ieee.{Float, nan}
 use Rattle.rng.specs.declared.Draw.{Draw as Drawn}
-use Rattle.course.specs.Lent.{Lent, laidCauseOf, laidCountOf, lengthOf, fallbackOf, firstOf}
+use Rattle.course.specs.Lent.{Lent, laidCauseOf, laidValuesOf}
 use Rattle.course.specs.Curbs.{curbCauseOf, curbCountOf}
 use Rattle.course.specs.Angle.{angleCauseOf, valueOf}
 use Rattle.course.specs.declared.checkpoints.Checkpoint.{Checkpoint}
@@ -12,24 +12,22 @@ use Rattle.course.specs.declared.points.Laid.{Laid}
 use Rattle.course.specs.declared.curbs.CurbAnswer.{CurbAnswer}
 use Rattle.course.specs.declared.trig.Angle.{Angle}
 use Rattle.run.specs.State.{State}
-use Rattle.run.specs.Start.{Begun, startCauseOf, startCountOf, startLapOf}
+use Rattle.run.specs.Start.{Begun, startCauseOf, startValuesOf}
 use Rattle.run.specs.Drive.{driveCauseOf}
-use Rattle.run.specs.Settle.{Done, settleCauseOf, settleNewOf, settleCountOf, settleOffOf, settleLapOf, settleEndedOf}
+use Rattle.run.specs.Settle.{settleCauseOf, settleValuesOf}
 use Rattle.run.specs.Sheet.{sheetCauseOf, sheetFiguresOf}
 use Rattle.run.specs.Batch.{Replay}
 use Rattle.run.specs.declared.state.Run.{Run}
 use Rattle.run.specs.declared.start.StartAnswer.{StartAnswer}
-use Rattle.run.specs.declared.drive.Drove.{Drove}
+use Rattle.run.specs.declared.state.Progress.{Progress}
+use Rattle.run.specs.declared.drive.DriveAnswer.{DriveAnswer}
 use Rattle.run.specs.declared.settle.SettleAnswer.{SettleAnswer}
 use Rattle.run.specs.declared.sheet.SheetAnswer.{SheetAnswer}
 use Rattle.abi.specs.declared.flat.FlatLaid.{FlatLaid}
 use Rattle.abi.specs.declared.flat.FlatCurbs.{FlatCurbs}
 use Rattle.abi.specs.declared.flat.FlatStarted.{FlatStarted}
-use Rattle.abi.specs.declared.flat.FlatBegun.{FlatBegun}
 use Rattle.abi.specs.declared.flat.FlatDriven.{FlatDriven}
 use Rattle.abi.specs.declared.flat.FlatSettled.{FlatSettled}
-use Rattle.abi.specs.declared.flat.FlatCoreSettled.{FlatCoreSettled}
-use Rattle.abi.specs.declared.flat.FlatSettle.{FlatSettle}
 use Rattle.abi.specs.declared.flat.FlatSheet.{FlatSheet}
 use Rattle.abi.specs.declared.flat.FlatAngle.{FlatAngle}
 use Rattle.abi.specs.declared.flat.FlatReplayed.{FlatReplayed}
@@ -43,12 +41,12 @@ unfoldable pub flatLaid : Laid → FlatLaid
 flatLaid a =
     record {
       cause = laidCauseOf a;
-      n = laidCountOf a;
-      entries = lengthOf a;
-      fallback = fallbackOf a;
-      beta = firstOf a .beta;
-      x = firstOf a .x;
-      y = firstOf a .y;
+      n = laidValuesOf a .n;
+      entries = laidValuesOf a .entries;
+      fallback = laidValuesOf a .fallback;
+      beta = laidValuesOf a .first .beta;
+      x = laidValuesOf a .first .x;
+      y = laidValuesOf a .first .y;
     }
 
 unfoldable pub flatCurbs : CurbAnswer → FlatCurbs
@@ -95,51 +93,30 @@ cornersFrom q = pairAt q 0 ∷ pairAt q 1 ∷ pairAt q 2 ∷ pairAt q 3 ∷ []
 
 -- a state whose sets have the full width, as the struct that is passed
 unfoldable pub runOf : State → Run
-runOf s = record { core = s .core; credited = s .credited; wheels = s .wheels }
-
-unfoldable pub flatBegun : StartAnswer → FlatBegun
-flatBegun a = record { cause = startCauseOf a; count = startCountOf a; lap = startLapOf a }
+runOf s = record { setup = s .setup; progress = s .progress; car = s .car; credited = s .credited; wheels = s .wheels }
 
 unfoldable pub flatStarted : Begun → FlatStarted
-flatStarted b = record { cause = startCauseOf (b .answer); count = startCountOf (b .answer); lap = startLapOf (b .answer); run = runOf (b .state) }
+flatStarted b =
+    record {
+      cause = startCauseOf (b .answer);
+      count = startValuesOf (b .answer) .count;
+      lap = startValuesOf (b .answer) .lap;
+      run = runOf (b .state);
+    }
 
-unfoldable pub flatDriven : Drove → FlatDriven
-flatDriven d = record { cause = driveCauseOf (d .answer); forces = d .forces; run = d .run }
+unfoldable pub flatDriven : DriveAnswer → Progress → FlatDriven
+flatDriven a p = record { cause = driveCauseOf a; progress = p }
 
-unfoldable pub flatSettle : SettleAnswer → FlatSettle
-flatSettle a =
+unfoldable pub flatSettled : SettleAnswer → Progress → FlatSettled
+flatSettled a p =
     record {
       cause = settleCauseOf a;
-      «new_tiles» = settleNewOf a;
-      n = settleCountOf a;
-      off = settleOffOf a;
-      lap = settleLapOf a;
-      ended = settleEndedOf a;
-    }
-
-unfoldable pub flatSettled : Done → FlatSettled
-flatSettled d =
-    record {
-      cause = settleCauseOf (d .answer);
-      «new_tiles» = settleNewOf (d .answer);
-      n = settleCountOf (d .answer);
-      off = settleOffOf (d .answer);
-      lap = settleLapOf (d .answer);
-      ended = settleEndedOf (d .answer);
-      run = runOf (d .state);
-    }
-
--- where the sets are lent, what is passed back is the state but for them
-unfoldable pub flatCoreSettled : Done → FlatCoreSettled
-flatCoreSettled d =
-    record {
-      cause = settleCauseOf (d .answer);
-      «new_tiles» = settleNewOf (d .answer);
-      n = settleCountOf (d .answer);
-      off = settleOffOf (d .answer);
-      lap = settleLapOf (d .answer);
-      ended = settleEndedOf (d .answer);
-      core = d .state .core;
+      «new_tiles» = settleValuesOf a .«new_tiles»;
+      n = settleValuesOf a .n;
+      off = settleValuesOf a .off;
+      lap = settleValuesOf a .lap;
+      ended = settleValuesOf a .ended;
+      progress = p;
     }
 
 unfoldable pub flatSheet : SheetAnswer → FlatSheet
@@ -162,8 +139,8 @@ flatAnswers l b s =
     record {
       laid = flatLaid l;
       «start_cause» = startCauseOf b;
-      «start_count» = startCountOf b;
-      «start_lap» = startLapOf b;
+      «start_count» = startValuesOf b .count;
+      «start_lap» = startValuesOf b .lap;
       sheet = flatSheet s;
     }
 

@@ -1,20 +1,23 @@
 // What crosses the boundary: each answer as a struct of numbers, 0 and false where a case has none, and structs around
 // the arrays that C cannot pass by value.
 ghost use mathlib.Core.Path.{_≡_};
-ghost use Rattle.abi.specs.Flat.{flatLaid, flatCurbs, flatBegun, flatSettle, flatSheet, flatAngle, flatAnswers};
+ghost use Rattle.run.specs.Start.{startCauseOf, startValuesOf};
 ghost use Rattle.run.specs.Drive.{driveCauseOf};
+ghost use Rattle.run.specs.Settle.{settleCauseOf, settleValuesOf};
+ghost use Rattle.abi.specs.Flat.{flatLaid, flatCurbs, flatSheet, flatAngle, flatAnswers};
 use course::curbs::CurbAnswer;
+use course::points;
 use course::points::Laid;
 use course::trig::Angle;
 use run::drive::DriveAnswer;
-use run::dynamics::Force;
-use run::dynamics::Motion;
 use run::replay::Replayed;
 use run::settle::SettleAnswer;
+use run::settle::SettleValues;
 use run::sheet::SheetAnswer;
 use run::start::StartAnswer;
-use run::state::Core;
+use run::start::StartValues;
 use run::state::Pose;
+use run::state::Progress;
 use run::state::Run;
 
 // What lay and points answer: n, the list's length (at cause 3 the length needed), and the first point.
@@ -45,15 +48,14 @@ pub struct FlatStarted {
     pub run: Run,
 }
 
-// What drive answers, and the state after.
+// What drive answers: the number of the cause, 0 where it wrote forces, and the progress after.
 #[repr(C)]
 pub struct FlatDriven {
     pub cause: u32,
-    pub forces: [Force; 4],
-    pub run: Run,
+    pub progress: Progress,
 }
 
-// What settle answers, and the state after.
+// What settle answers, and the progress after.
 #[repr(C)]
 pub struct FlatSettled {
     pub cause: u32,
@@ -62,19 +64,7 @@ pub struct FlatSettled {
     pub off: bool,
     pub lap: bool,
     pub ended: bool,
-    pub run: Run,
-}
-
-// The same but for the state's sets, where they are lent.
-#[repr(C)]
-pub struct FlatCoreSettled {
-    pub cause: u32,
-    pub new_tiles: u32,
-    pub n: u32,
-    pub off: bool,
-    pub lap: bool,
-    pub ended: bool,
-    pub core: Core,
+    pub progress: Progress,
 }
 
 // The run sheet.
@@ -113,12 +103,6 @@ pub struct Poses {
     pub wheels: [Pose; 4],
 }
 
-// What the host says of the four wheels.
-#[repr(C)]
-pub struct Motions {
-    pub wheels: [Motion; 4],
-}
-
 // A corner of a quad.
 #[repr(C)]
 pub struct Corner {
@@ -153,55 +137,20 @@ pub struct Draw {
     pub state: u64,
 }
 
-// What start answers, without the state.
-pub(crate) struct FlatBegun {
-    pub cause: u32,
-    pub count: u32,
-    pub lap: bool,
-}
-
-// What settle answers, without the state.
-pub(crate) struct FlatSettle {
-    pub cause: u32,
-    pub new_tiles: u32,
-    pub n: u32,
-    pub off: bool,
-    pub lap: bool,
-    pub ended: bool,
-}
-
 // The answer of lay or points.
 pub(crate) fn laid(answer: Laid) -> FlatLaid
     ensures { λ r. ⌜ r ≡ flatLaid answer ⌝ }
 {
-    match answer {
-        Laid::Course(n, fallback, entries, first) => FlatLaid {
-            cause: 0,
-            n,
-            entries,
-            fallback,
-            beta: first.beta,
-            x: first.x,
-            y: first.y,
-        },
-        Laid::Short(entries) => FlatLaid {
-            cause: 3,
-            n: 0,
-            entries,
-            fallback: false,
-            beta: 0.0,
-            x: 0.0,
-            y: 0.0,
-        },
-        Laid::Refused(cause) => FlatLaid {
-            cause,
-            n: 0,
-            entries: 0,
-            fallback: false,
-            beta: 0.0,
-            x: 0.0,
-            y: 0.0,
-        },
+    let v = points::laid_values(answer);
+    let first = v.first;
+    FlatLaid {
+        cause: points::laid_cause(answer),
+        n: v.n,
+        entries: v.entries,
+        fallback: v.fallback,
+        beta: first.beta,
+        x: first.x,
+        y: first.y,
     }
 }
 
@@ -215,18 +164,23 @@ pub(crate) fn curbs(answer: CurbAnswer) -> FlatCurbs
     }
 }
 
-// The answer of start.
-pub(crate) fn begun(answer: StartAnswer) -> FlatBegun
-    ensures { λ r. ⌜ r ≡ flatBegun answer ⌝ }
+// The cause that start answered, 0 where it began a run.
+pub(crate) fn start_cause(answer: StartAnswer) -> u32
+    ensures { λ r. ⌜ r ≡ startCauseOf answer ⌝ }
 {
     match answer {
-        StartAnswer::Started(count, lap) => FlatBegun {
-            cause: 0,
-            count,
-            lap,
-        },
-        StartAnswer::Refused(cause) => FlatBegun {
-            cause,
+        StartAnswer::Started(_) => 0,
+        StartAnswer::Refused(cause) => cause,
+    }
+}
+
+// The values that start answered.
+pub(crate) fn start_values(answer: StartAnswer) -> StartValues
+    ensures { λ r. ⌜ r ≡ startValuesOf answer ⌝ }
+{
+    match answer {
+        StartAnswer::Started(values) => values,
+        StartAnswer::Refused(_) => StartValues {
             count: 0,
             lap: false,
         },
@@ -243,21 +197,23 @@ pub(crate) fn drive_cause(answer: DriveAnswer) -> u32
     }
 }
 
-// The answer of settle.
-pub(crate) fn settle(answer: SettleAnswer) -> FlatSettle
-    ensures { λ r. ⌜ r ≡ flatSettle answer ⌝ }
+// The cause that settle answered, 0 where it settled.
+pub(crate) fn settle_cause(answer: SettleAnswer) -> u32
+    ensures { λ r. ⌜ r ≡ settleCauseOf answer ⌝ }
 {
     match answer {
-        SettleAnswer::Settled(new_tiles, n, off, lap, ended) => FlatSettle {
-            cause: 0,
-            new_tiles,
-            n,
-            off,
-            lap,
-            ended,
-        },
-        SettleAnswer::Refused(cause) => FlatSettle {
-            cause,
+        SettleAnswer::Settled(_) => 0,
+        SettleAnswer::Refused(cause) => cause,
+    }
+}
+
+// The values that settle answered.
+pub(crate) fn settle_values(answer: SettleAnswer) -> SettleValues
+    ensures { λ r. ⌜ r ≡ settleValuesOf answer ⌝ }
+{
+    match answer {
+        SettleAnswer::Settled(values) => values,
+        SettleAnswer::Refused(_) => SettleValues {
             new_tiles: 0,
             n: 0,
             off: false,
@@ -312,12 +268,12 @@ pub(crate) fn replayed(r: Replayed) -> FlatReplayed
     let course = r.laid;
     let start = r.start;
     let last = r.sheet;
-    let f = begun(start);
+    let v = start_values(start);
     FlatReplayed {
         laid: laid(course),
-        start_cause: f.cause,
-        start_count: f.count,
-        start_lap: f.lap,
+        start_cause: start_cause(start),
+        start_count: v.count,
+        start_lap: v.lap,
         sheet: sheet(last),
     }
 }

@@ -6,6 +6,6 @@
 pub mod courses;
 pub mod flat;
 pub mod inner;
-pub mod lent;
 pub mod numbers;
+mod parts;
 pub mod runs;

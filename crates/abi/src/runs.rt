@@ -1,39 +1,44 @@
-// The calls of a run: start, drive, settle, sheet, reward and replay.
+// The calls of a run: start, drive, settle, sheet, reward and replay. A host keeps its run where it stands: drive, settle and sheet take the
+// small records by value, and the car and the sets are lent as arrays of their lengths.
 ghost use mathlib.Core.Path.{_≡_};
 ghost use Rattle.course.specs.Lent.{lent};
 ghost use Rattle.run.specs.Widths.{fullWords, mostTiles};
-ghost use Rattle.run.specs.State.{view, columns};
+ghost use Rattle.run.specs.State.{columns};
 ghost use Rattle.run.specs.Start.{startOf};
-ghost use Rattle.run.specs.Drive.{driveOf};
-ghost use Rattle.run.specs.Settle.{settleOf};
 ghost use Rattle.run.specs.Sheet.{sheetOf};
 ghost use Rattle.run.specs.Reward.{rewardOf};
 ghost use Rattle.run.specs.Batch.{replayOf};
-ghost use Rattle.abi.specs.Flat.{flatStarted, flatDriven, flatSettled, flatSheet, flatReplayed, replayColumns, columnsAfter};
+ghost use Rattle.abi.specs.Flat.{flatStarted, flatSheet, flatReplayed, replayColumns, columnsAfter};
+ghost use Rattle.abi.specs.Lent.{lentDriven, driveLent, lentSettled, settleLent};
 use crate::flat;
 use crate::flat::FlatDriven;
 use crate::flat::FlatReplayed;
 use crate::flat::FlatSettled;
 use crate::flat::FlatSheet;
 use crate::flat::FlatStarted;
-use crate::flat::Motions;
 use crate::flat::Poses;
+use crate::parts;
+use crate::parts::CAR_NUMBERS;
+use crate::parts::FORCE_NUMBERS;
+use crate::parts::MOTION_NUMBERS;
 use run::drive;
-use run::dynamics::Force;
 use run::replay;
 use run::reward;
 use run::reward::Weights;
 use run::settle;
 use run::sheet;
 use run::start;
-use run::state::Run;
+use run::state::Progress;
+use run::state::Setup;
+use run::widths::FULL_WORDS;
+use run::widths::WHEEL_WORDS;
 
 // The figures of a run, ended or not.
 #[no_mangle]
-pub extern "C" fn grader_sheet(run: Run) -> FlatSheet
-    ensures { λ r. ⌜ r ≡ flatSheet (sheetOf mostTiles run) ⌝ }
+pub extern "C" fn grader_sheet_parts(setup: Setup, progress: Progress) -> FlatSheet
+    ensures { λ r. ⌜ r ≡ flatSheet (sheetOf mostTiles setup progress) ⌝ }
 {
-    flat::sheet(sheet::sheet(run))
+    flat::sheet(sheet::sheet(setup, progress))
 }
 
 // tile * new_tiles / max(n, 1) + step, or the off value alone.
@@ -62,53 +67,50 @@ pub extern "C" fn grader_start(
     let s = start::start(tiles, offsets, list, n, fallback, share, limit, wheels);
     let answer = s.answer;
     let run = s.run;
-    let f = flat::begun(answer);
+    let v = flat::start_values(answer);
     FlatStarted {
-        cause: f.cause,
-        count: f.count,
-        lap: f.lap,
+        cause: flat::start_cause(answer),
+        count: v.count,
+        lap: v.lap,
         run,
     }
 }
 
-// Forces for the host; none, and the state as it was, where it is refused.
+// Forces for the host: the car is changed where it stands and the forces are written. A refusal changes nothing.
 #[no_mangle]
-pub extern "C" fn grader_drive(run: Run, action: u32, motions: Motions) -> FlatDriven
-    ensures { λ r. ⌜ r ≡ flatDriven (driveOf fullWords mostTiles run action (motions .wheels)) ⌝ }
+pub extern "C" fn grader_drive_parts(
+    setup: Setup,
+    progress: Progress,
+    car: &mut [f64; CAR_NUMBERS],
+    wheels: &[u64; WHEEL_WORDS],
+    action: u32,
+    motions: &[f64; MOTION_NUMBERS],
+    forces: &mut [f64; FORCE_NUMBERS],
+) -> FlatDriven
+    ensures { λ r. ⌜ lentDriven r (now (car .exit)) (now (forces .exit)) ≡ driveLent fullWords mostTiles setup progress (now (car .entry)) (now (wheels .entry)) action (now (motions .entry)) (now (forces .entry)) ⌝ }
 {
-    let given = motions.wheels;
-    let core = run.core;
-    let credited = run.credited;
-    let wheels = run.wheels;
-    let d = drive::drive_in_place(core, &wheels, action, given);
+    let before = parts::car_from(car);
+    let given = parts::motions_from(motions);
+    let d = drive::drive_parts(setup, progress, before, wheels, action, given);
     let answer = d.answer;
-    let forces = d.forces;
-    let next = d.core;
-    let after = Run {
-        core: next,
-        credited,
-        wheels,
-    };
-    let z = Force {
-        motor: 0.0,
-        fx: 0.0,
-        fy: 0.0,
-    };
-    let mut driven = FlatDriven {
-        cause: flat::drive_cause(answer),
-        forces: [z, z, z, z],
-        run: after,
-    };
-    // Over numbers that are set one by one the compiler moves the forces number by number, else as bytes from the
-    // cause on, across the numbers just stored.
-    driven.forces = forces;
-    driven
+    let cause = flat::drive_cause(answer);
+    let progress = d.progress;
+    if cause == 0 {
+        let after = d.car;
+        let pushes = d.forces;
+        parts::put_car(after, car);
+        parts::put_forces(pushes, forces);
+    }
+    FlatDriven { cause, progress }
 }
 
-// The contact after physics; the state as it was where it is refused.
+// The contact after physics: the sets are changed where they stand. A refusal changes nothing.
 #[no_mangle]
-pub extern "C" fn grader_settle(
-    run: Run,
+pub extern "C" fn grader_settle_parts(
+    setup: Setup,
+    progress: Progress,
+    credited: &mut [u64; FULL_WORDS],
+    wheels: &mut [u64; WHEEL_WORDS],
     tiles: &[f64],
     offsets: &[u32],
     list: &[u32],
@@ -116,16 +118,14 @@ pub extern "C" fn grader_settle(
     y: f64,
     poses: Poses,
 ) -> FlatSettled
-    ensures { λ r. ⌜ r ≡ flatSettled (settleOf fullWords mostTiles (view run) (columns (now (tiles .entry)) (now (offsets .entry)) (now (list .entry))) x y (poses .wheels)) ⌝ }
+    ensures { λ r. ⌜ lentSettled r (now (credited .exit)) (now (wheels .exit)) ≡ settleLent fullWords mostTiles setup progress (now (credited .entry)) (now (wheels .entry)) (columns (now (tiles .entry)) (now (offsets .entry)) (now (list .entry))) x y (poses .wheels) ⌝ }
 {
     let given = poses.wheels;
-    let core = run.core;
-    let mut credited = run.credited;
-    let mut wheels = run.wheels;
-    let c = settle::settle_in_place(
-        core,
-        &mut credited,
-        &mut wheels,
+    let s = settle::settle_parts(
+        setup,
+        progress,
+        credited,
+        wheels,
         tiles,
         offsets,
         list,
@@ -133,22 +133,16 @@ pub extern "C" fn grader_settle(
         y,
         given,
     );
-    let answer = c.answer;
-    let f = flat::settle(answer);
-    let next = c.core;
-    let after = Run {
-        core: next,
-        credited,
-        wheels,
-    };
+    let answer = s.answer;
+    let v = flat::settle_values(answer);
     FlatSettled {
-        cause: f.cause,
-        new_tiles: f.new_tiles,
-        n: f.n,
-        off: f.off,
-        lap: f.lap,
-        ended: f.ended,
-        run: after,
+        cause: flat::settle_cause(answer),
+        new_tiles: v.new_tiles,
+        n: v.n,
+        off: v.off,
+        lap: v.lap,
+        ended: v.ended,
+        progress: s.progress,
     }
 }
 

@@ -65,8 +65,11 @@ unfoldable pub laidFigures : Bool → List TrackPoint → LaidCourse
 laidFigures fallback ps = record { n = length ps; fallback = fallback; entries = cellsOf ps; first = getD ps 0 noPoint }
 
 -- where a case has no values: zeros, no fallback and a point of noughts
+abbrev pub noCourse : ℕ → LaidCourse
+noCourse entries = record { n = 0; fallback = false; entries = entries; first = record { beta = nought; x = nought; y = nought } }
+
 abbrev pub noValues : LaidCourse
-noValues = record { n = 0; fallback = false; entries = 0; first = record { beta = nought; x = nought; y = nought } }
+noValues = noCourse 0
 
 -- number and values of each case: the values where no cause holds (0), for cause 3 the length needed, else the cause's number alone
 unfoldable pub laidAnswer : ℕ → LaidCourse → Laid
@@ -80,7 +83,7 @@ laidCauseOf (Refused k) = k
 
 unfoldable pub laidValuesOf : Laid → LaidCourse
 laidValuesOf (Made v) = v
-laidValuesOf (Short length-needed) = record { n = 0; fallback = false; entries = length-needed; first = noValues .first }
+laidValuesOf (Short length-needed) = noCourse length-needed
 laidValuesOf (Refused k) = noValues
 
 -- the answer of a call with room, by whether the list is too short: cause 3 or none

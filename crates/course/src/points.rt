@@ -5,7 +5,7 @@ ghost use Prim.Native.Nat.{_+_, _*_, _-_, _<_, _≤_};
 ghost use lib.ListN.{length, take, drop};
 ghost use Rattle.course.specs.Lengths.{mostPoints};
 ghost use Rattle.course.specs.Tiles.{pointsOf};
-ghost use Rattle.course.specs.Lent.{lent, outcome, roomyOf, layInto};
+ghost use Rattle.course.specs.Lent.{lent, outcome, roomyOf, layInto, noCourse, laidCauseOf, laidValuesOf};
 ghost use Rattle.course.specs.Points.{goodPoint, allGood, givenOf, givenCause, pointsCall};
 ghost use Rattle.course.specs.CourseSteps.{Roomy};
 use crate::columns;
@@ -37,6 +37,45 @@ pub enum Laid {
     Short(u32),
     // another cause's number
     Refused(u32),
+}
+
+// The number of the cause that lay or points answered, 0 where it made a course.
+pub fn laid_cause(answer: Laid) -> u32
+    ensures { λ r. ⌜ r ≡ laidCauseOf answer ⌝ }
+{
+    match answer {
+        Laid::Course(_) => 0,
+        Laid::Short(_) => 3,
+        Laid::Refused(cause) => cause,
+    }
+}
+
+// No course: at cause 3 the length needed stands in it.
+fn no_course(entries: u32) -> LaidCourse
+    ensures { λ r. ⌜ r ≡ noCourse entries ⌝ }
+{
+    let first = TrackPoint {
+        beta: 0.0,
+        x: 0.0,
+        y: 0.0,
+    };
+    LaidCourse {
+        n: 0,
+        fallback: false,
+        entries,
+        first,
+    }
+}
+
+// The values that lay or points answered, 0 and false where a case has none; at cause 3 the length needed.
+pub fn laid_values(answer: Laid) -> LaidCourse
+    ensures { λ r. ⌜ r ≡ laidValuesOf answer ⌝ }
+{
+    match answer {
+        Laid::Course(values) => values,
+        Laid::Short(entries) => no_course(entries),
+        Laid::Refused(_) => no_course(0),
+    }
 }
 
 // Whether a given point is within its range (cause 8).

@@ -14,10 +14,11 @@ use Rattle.course.specs.Constants.{maxAttempts}
 use Rattle.course.specs.Lengths.{mostNumbers, offsetCount, mostPoints}
 use Rattle.course.specs.Course.{cellsOf}
 use Rattle.course.specs.Lent as course
-use Rattle.course.specs.Lent.{Outcome, outcome, layInto, laidCauseOf, laidCountOf, fallbackOf, lengthOf}
+use Rattle.course.specs.Lent.{Outcome, outcome, layInto, laidFigures, laidAnswer, laidCauseOf, laidValuesOf}
 use Rattle.course.specs.Lay.{CoursePoints, courseOf, layCall}
 use Rattle.course.specs.declared.tiles.TrackPoint.{TrackPoint}
 use Rattle.course.specs.declared.points.Laid.{Laid}
+use Rattle.course.specs.declared.points.LaidCourse.{LaidCourse}
 use Rattle.course.specs.declared.points.Laid.the-variants.{Course as Made, Short, Refused as NotLaid}
 use Rattle.course.proofs.IndexLaws.{and-left, and-right}
 use Rattle.course.proofs.CourseSizes.{course-sized}
@@ -65,12 +66,12 @@ module _ (o : Outcome) where
   short-is l e = refl
 
   laid-is : (kt ko : ℕ) → shortOf (lentTo columnsOf kt ko) ≡ false
-      → lentBy o (laid (drop mostNumbers (take kt (o .lent .tiles))) (drop offsetCount (take ko (o .lent .offsets))) (drop (lengthOf (o .answer)) (o .lent .list))) ≡ lentTo columnsOf kt ko
+      → lentBy o (laid (drop mostNumbers (take kt (o .lent .tiles))) (drop offsetCount (take ko (o .lent .offsets))) (drop (laidValuesOf (o .answer) .entries) (o .lent .list))) ≡ lentTo columnsOf kt ko
   unfolding lentBy lentTo shortOf shortColumns
   laid-is kt ko e =
       let p = or-no (ltb (length (take kt (o .lent .tiles))) mostNumbers) (ltb (length (take ko (o .lent .offsets))) offsetCount) e in
       λ i. columns (front-of mostNumbers kt (o .lent .tiles) (ltb-false _ _ (p .0)) i) (front-of offsetCount ko (o .lent .offsets) (ltb-false _ _ (p .1)) i)
-      (take-append-drop (lengthOf (o .answer)) (o .lent .list) i)
+      (take-append-drop (laidValuesOf (o .answer) .entries) (o .lent .list) i)
 
   -- parts of the laid columns are the course's with what stands beyond, or too short
   parts : (kt ko : ℕ) → (by : Lending) × (lentBy o by ≡ lentTo columnsOf kt ko)
@@ -79,7 +80,7 @@ module _ (o : Outcome) where
       go : (b : Bool) → shortOf (lentTo columnsOf kt ko) ≡ b → (by : Lending) × (lentBy o by ≡ lentTo columnsOf kt ko)
       go true e = (short (lentTo columnsOf kt ko) e, short-is (lentTo columnsOf kt ko) e)
       go false e = (
-        laid (drop mostNumbers (take kt (o .lent .tiles))) (drop offsetCount (take ko (o .lent .offsets))) (drop (lengthOf (o .answer)) (o .lent .list)),
+        laid (drop mostNumbers (take kt (o .lent .tiles))) (drop offsetCount (take ko (o .lent .offsets))) (drop (laidValuesOf (o .answer) .entries) (o .lent .list)),
         laid-is kt ko e,
       )
 
@@ -217,12 +218,12 @@ module _ (b : Opening) (k : Lengths) (n : ℕ) (calls : List ℕ) (given : List 
     holds : (by : Lending) → shortOf (lentBy o by) ≡ false → Holds fullWords mostTiles c room some fits (lentBy o by)
     holds = lent-holds fullWords mostTiles c room some fits small fallback l whole
 
-    counted : laidCountOf (o .answer) ≡ length c
+    counted : laidValuesOf (o .answer) .n ≡ length c
     counted = count fallback c l whole fits
 
-    same-fallback : fallbackOf (o .answer) ≡ fallback
-    unfolding fallbackOf
-    same-fallback = ap (λ (x : Outcome). fallbackOf (x .answer)) (laid-whole fallback c l whole fits)
+    same-fallback : laidValuesOf (o .answer) .fallback ≡ fallback
+    unfolding laidValuesOf laidAnswer laidFigures
+    same-fallback = ap (λ (x : Outcome). laidValuesOf (x .answer) .fallback) (laid-whole fallback c l whole fits)
 
     -- the whole columns, as they are lent to start
     whole-lent : (by : Lending) × (lentBy o by ≡ columnsOf o)
@@ -265,13 +266,13 @@ module _ (b : Opening) (k : Lengths) (n : ℕ) (calls : List ℕ) (given : List 
           }
 
       pub course-plain : (sa : StartAnswer) (s : State)
-          → begun sa s ≡ startOf fullWords mostTiles (columnsOf o) (record { n = laidCountOf (o .answer); fallback = fallbackOf (o .answer); share = b .share; limit = b .limit; poses = b .poses })
+          → begun sa s ≡ startOf fullWords mostTiles (columnsOf o) (record { n = laidValuesOf (o .answer) .n; fallback = laidValuesOf (o .answer) .fallback; share = b .share; limit = b .limit; poses = b .poses })
           → Plain (startNumber c mostTiles k b) (record { points = c; fallback = fallback }) (columnsOf o) sa s
       course-plain sa s e = go (startNumber c mostTiles k b) refl
         where
           on : begun sa s ≡ startOn fullWords mostTiles o by fallback b
           on =
-              e ∙ ap₂ (λ (x : Columns) (f : Bool). startOf fullWords mostTiles x (record { n = laidCountOf (o .answer); fallback = f; share = b .share; limit = b .limit; poses = b .poses }))
+              e ∙ ap₂ (λ (x : Columns) (f : Bool). startOf fullWords mostTiles x (record { n = laidValuesOf (o .answer) .n; fallback = f; share = b .share; limit = b .limit; poses = b .poses }))
               (sym (whole-lent .1)) same-fallback
 
           number : startNumber c mostTiles (lengthsOf (lentBy o by)) b ≡ startNumber c mostTiles k b
@@ -294,9 +295,9 @@ lays : (seed : ℕ) (l : course.Lent) → laidCauseOf (layCall maxAttempts seed 
 unfolding layNumber courseOf
 lays seed l = lay-cause maxAttempts seed l
 
-no-count : (r : Laid) (q : ℕ) → laidCauseOf r ≡ suc q → laidCountOf r ≡ 0
-unfolding laidCauseOf laidCountOf
-no-count (Made n fallback entries first) q e = absurd (omega (arith, e))
+no-count : (r : Laid) (q : ℕ) → laidCauseOf r ≡ suc q → laidValuesOf r .n ≡ 0
+unfolding laidCauseOf laidValuesOf
+no-count (Made v) q e = absurd (omega (arith, e))
 no-count (Short need) q e = refl
 no-count (NotLaid k) q e = refl
 
@@ -307,35 +308,35 @@ module _ (seed : ℕ) (l : course.Lent) (b : Opening) (n : ℕ) (calls : List �
   -- lay, then a start with what it answered, then the calls
   replay-plain : (j : ℕ) → layNumber seed l ≡ j → (o : Outcome) → o ≡ layCall maxAttempts seed l → length (o .lent .tiles) ≡ length (l .tiles) → length (o .lent .offsets) ≡ length (l .offsets)
       → (sa : StartAnswer) (s : State)
-      → begun sa s ≡ startOf fullWords mostTiles (columnsOf o) (record { n = laidCountOf (o .answer); fallback = fallbackOf (o .answer); share = b .share; limit = b .limit; poses = b .poses })
+      → begun sa s ≡ startOf fullWords mostTiles (columnsOf o) (record { n = laidValuesOf (o .answer) .n; fallback = laidValuesOf (o .answer) .fallback; share = b .share; limit = b .limit; poses = b .poses })
       → Plain b lengths n calls given (startNumber (laidCourse j seed .points) mostTiles lengths b) (laidCourse j seed) (columnsOf o) sa s
   unfolding laidCourse layNumber
   replay-plain zero q o eo et ef sa s es =
       let p = no-cause (roomy l) (ltb (length (l .list)) (cellsOf (courseOf seed .points))) q in
       subst (λ (x : Outcome). length (x .lent .tiles) ≡ length (l .tiles) → length (x .lent .offsets) ≡ length (l .offsets)
-      → begun sa s ≡ startOf fullWords mostTiles (columnsOf x) (record { n = laidCountOf (x .answer); fallback = fallbackOf (x .answer); share = b .share; limit = b .limit; poses = b .poses })
+      → begun sa s ≡ startOf fullWords mostTiles (columnsOf x) (record { n = laidValuesOf (x .answer) .n; fallback = laidValuesOf (x .answer) .fallback; share = b .share; limit = b .limit; poses = b .poses })
       → Plain b lengths n calls given (startNumber (courseOf seed .points) mostTiles lengths b) (courseOf seed) (columnsOf x) sa s)
       (sym (eo ∙ lay-course seed l (p .0)))
       (λ t f e. course-plain b lengths n calls given (courseOf seed .points) (course-sized seed .some) (few-points seed) (courseOf seed .fallback) l (p .1) t f sa s e) et ef es
   replay-plain (suc j) q o eo et ef sa s es =
-      no-course b lengths n calls given (columnsOf o) (fallbackOf (o .answer)) sa s
-      (es ∙ ap (λ (x : ℕ). startOf fullWords mostTiles (columnsOf o) (record { n = x; fallback = fallbackOf (o .answer); share = b .share; limit = b .limit; poses = b .poses }))
+      no-course b lengths n calls given (columnsOf o) (laidValuesOf (o .answer) .fallback) sa s
+      (es ∙ ap (λ (x : ℕ). startOf fullWords mostTiles (columnsOf o) (record { n = x; fallback = laidValuesOf (o .answer) .fallback; share = b .share; limit = b .limit; poses = b .poses }))
       (no-count (o .answer) j (ap (λ (x : Outcome). laidCauseOf (x .answer)) eo ∙ lays seed l ∙ q)))
 
   -- all that it leaves, where the columns of calls and answers are long enough
-  pub replayed : (words : List ℕ) (numbers : List Float) (o : Outcome) (many : ℕ) (fb : Bool) (sa : StartAnswer) (s last : State) (sheet : SheetAnswer) (words′ : List ℕ) (numbers′ : List Float)
+  pub replayed : (words : List ℕ) (numbers : List Float) (o : Outcome) (v : LaidCourse) (sa : StartAnswer) (s last : State) (sheet : SheetAnswer) (words′ : List ℕ) (numbers′ : List Float)
       → roomFor n (length calls) (length given) (length words) (length numbers) ≡ true → o ≡ layCall maxAttempts seed l → length (o .lent .tiles) ≡ length (l .tiles) → length (o .lent .offsets) ≡ length (l .offsets)
-      → many ≡ laidCountOf (o .answer) → fb ≡ fallbackOf (o .answer)
-      → begun sa s ≡ startOf fullWords mostTiles (columnsOf o) (record { n = many; fallback = fb; share = b .share; limit = b .limit; poses = b .poses })
+      → v ≡ laidValuesOf (o .answer)
+      → begun sa s ≡ startOf fullWords mostTiles (columnsOf o) (record { n = v .n; fallback = v .fallback; share = b .share; limit = b .limit; poses = b .poses })
       → last ≡ stateAfter fullWords mostTiles s (callsTo (columnsOf o) calls given n)
       → words′ ≡ allWords (repliesOf fullWords mostTiles s (callsTo (columnsOf o) calls given n)) ++ drop (answerWords * n) words
       → numbers′ ≡ allNumbers (repliesOf fullWords mostTiles s (callsTo (columnsOf o) calls given n)) ++ drop (answerNumbers * n) numbers
       → sheet ≡ sheetIn last
       → record { laid = o .answer; start = sa; sheet = sheet; lent = o .lent; words = words′; numbers = numbers′ } ≡ replayOf seed l b n calls given words numbers
   unfolding replayOf replayOn
-  replayed words numbers o many fb sa s last sheet words′ numbers′ room eo et ef em eb es el ew en eh =
+  replayed words numbers o v sa s last sheet words′ numbers′ room eo et ef ev es el ew en eh =
       let p = replay-plain (layNumber seed l) refl o eo et ef sa s
-      (es ∙ (λ i. startOf fullWords mostTiles (columnsOf o) (record { n = em i; fallback = eb i; share = b .share; limit = b .limit; poses = b .poses }))) in
+      (es ∙ (λ i. startOf fullWords mostTiles (columnsOf o) (record { n = ev i .n; fallback = ev i .fallback; share = b .share; limit = b .limit; poses = b .poses }))) in
       rw room (λ i.
       record {
         laid = eo i .answer;
@@ -349,7 +350,7 @@ module _ (seed : ℕ) (l : course.Lent) (b : Opening) (n : ℕ) (calls : List �
   -- a column of calls or answers is short
   pub short-replay : (words : List ℕ) (numbers : List Float) → roomFor n (length calls) (length given) (length words) (length numbers) ≡ false
       → record { laid = NotLaid 2; start = NotStarted 2; sheet = NoSheet 4; lent = l; words = words; numbers = numbers } ≡ replayOf seed l b n calls given words numbers
-  unfolding replayOf startAnswer sheetAnswer
+  unfolding replayOf laidAnswer startAnswer sheetAnswer
   short-replay words numbers e = rw e
 
 -- room for n calls, column by column

@@ -14,7 +14,7 @@ use Rattle.course.specs.Lengths.{mostPoints, mostNumbers}
 use Rattle.course.specs.Tiles.{tilesOf, noPoint}
 use Rattle.course.specs.Course.{fromPoints, cellsOf}
 use Rattle.course.specs.Lent as course
-use Rattle.course.specs.Lent.{Outcome, outcome, roomyOf, written, answered, layInto, laidCauseOf, laidCountOf}
+use Rattle.course.specs.Lent.{Outcome, outcome, roomyOf, written, answered, layInto, laidCauseOf, laidValuesOf}
 use Rattle.course.specs.Lay.{courseOf, layCall}
 use Rattle.course.specs.declared.tiles.TrackPoint.{TrackPoint}
 use Rattle.course.proofs.CourseSizes.{Sized, course-sized}
@@ -63,7 +63,7 @@ zeros-after m most (g ∷ gs) = ap (λ (r : Replied). stateAfter m most (r .stat
 
 -- ---- a course c that laying left in o: its n is answered, and what is lent of it, where no column is short, holds it
 module _ (m most : ℕ) (c : List TrackPoint) (room : most ≤ 64 * m) (some : 0 < length c) (fits : length c ≤ most) (o : Outcome)
-    (counted : laidCountOf (o .answer) ≡ length c) (holds : (by : Lending) → shortOf (lentBy o by) ≡ false → Holds m most c room some fits (lentBy o by)) where
+    (counted : laidValuesOf (o .answer) .n ≡ length c) (holds : (by : Lending) → shortOf (lentBy o by) ≡ false → Holds m most c room some fits (lentBy o by)) where
   -- ---- each call of the list
   told-same : (g : Given) → toldBy m most c room some fits (callOf o g) ≡ toldOf o g
   unfolding callOf toldOf

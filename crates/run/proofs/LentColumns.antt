@@ -5,19 +5,18 @@ use mathlib.Core.Path.{_≡_, sym, ap, ap₂, _∙_}
 use Prim.Native.Nat.{ℕ, _+_, _-_, _≤_}
 use native.Mathlib.Omega.{arith}
 use lib.Dec.{ltb}
-use lib.ListN.{length, getD, take, drop, replicate, length-append, length-replicate}
+use lib.ListN.{length, take, drop, replicate, length-append, length-replicate}
 use lib.Seq.{take-at}
 use lib.Ieee.{Float}
 use borrow.Author.Tests.{le-ltb}
 use Rattle.course.specs.Arithmetic.{nought}
 use Rattle.course.specs.Lengths.{mostPoints, mostNumbers, cellCount, offsetCount}
-use Rattle.course.specs.Tiles.{noPoint, tilesOf}
+use Rattle.course.specs.Tiles.{tilesOf}
 use Rattle.course.specs.Rect.{holdsOf}
 use Rattle.course.specs.Index.{start}
 use Rattle.course.specs.Course.{fromPoints, cellsOf}
-use Rattle.course.specs.Lent.{Lent, Outcome, outcome, filled, written, answered, layInto, laidCauseOf, laidCountOf, lengthOf}
+use Rattle.course.specs.Lent.{Lent, Outcome, outcome, filled, written, answered, layInto, laidFigures, laidAnswer, laidCauseOf, laidValuesOf}
 use Rattle.course.specs.declared.tiles.TrackPoint.{TrackPoint}
-use Rattle.course.specs.declared.points.Laid.the-variants.{Course as Made}
 use Rattle.course.proofs.CourseTiles.{tiles-long}
 use Rattle.course.proofs.IndexLaws.{table-length, index-length}
 use Rattle.course.proofs.CourseRects.{needed-start}
@@ -64,24 +63,24 @@ same-columns p q r = λ i. columns (p i) (q i) (r i)
 
 module _ (fallback : Bool) (c : List TrackPoint) (l : Lent) (fits : ltb (length (l .list)) (cellsOf c) ≡ false) (few : length c ≤ mostPoints) where
   -- the list is long enough: all is written, and the answer is the course
-  pub laid-whole : layInto fallback c l ≡ outcome (Made (length c) fallback (cellsOf c) (getD c 0 noPoint)) (written false (fromPoints c) l)
+  pub laid-whole : layInto fallback c l ≡ outcome (laidAnswer 0 (laidFigures fallback c)) (written false (fromPoints c) l)
   unfolding layInto answered
   laid-whole = ap (λ (s : Bool). outcome (answered s fallback c) (written s (fromPoints c) l)) fits
 
   -- n is the number of points
-  pub count : laidCountOf (layInto fallback c l .answer) ≡ length c
-  unfolding laidCountOf
-  count = ap (λ (o : Outcome). laidCountOf (o .answer)) laid-whole
+  pub count : laidValuesOf (layInto fallback c l .answer) .n ≡ length c
+  unfolding laidValuesOf laidAnswer laidFigures
+  count = ap (λ (o : Outcome). laidValuesOf (o .answer) .n) laid-whole
 
   -- laying is not refused
   pub cause : laidCauseOf (layInto fallback c l .answer) ≡ 0
-  unfolding laidCauseOf
+  unfolding laidCauseOf laidAnswer
   cause = ap (λ (o : Outcome). laidCauseOf (o .answer)) laid-whole
 
   -- the course's own tiles, zeros and what is lent beyond; all its offsets and index entries and what is lent beyond
   pub lent-laid : (ts : List Float) (offs l′ : List ℕ) → lentBy (layInto fallback c l) (laid ts offs l′)
       ≡ columns (tilesOf c ++ (replicate (mostNumbers - length (tilesOf c)) nought ++ ts)) (fromPoints c .offsets ++ offs) (fromPoints c .list ++ l′)
-  unfolding lentBy lengthOf written fromPoints
+  unfolding lentBy laidValuesOf laidAnswer laidFigures written fromPoints
   lent-laid ts offs l′ =
       ap (λ (o : Outcome). lentBy o (laid ts offs l′)) laid-whole
       ∙ same-columns (filled-front mostNumbers (tilesOf c) (l .tiles) ts (tiles-few c few))

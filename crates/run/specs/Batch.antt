@@ -7,11 +7,10 @@ use lib.Dec.{leb, eqb}
 use lib.ListN.{length, getD, drop, replicate}
 use lib.Ieee.{Float}
 use Rattle.course.specs.Constants.{maxAttempts}
-use Rattle.course.specs.Lent.{Lent}
+use Rattle.course.specs.Lent.{Lent, noValues, laidAnswer}
 use Rattle.course.specs.Lay.{CoursePoints, courseOf, layCall}
 use Rattle.course.specs.declared.tiles.TrackPoint.{TrackPoint}
 use Rattle.course.specs.declared.points.Laid.{Laid}
-use Rattle.course.specs.declared.points.Laid.the-variants.{Refused as NotLaid}
 use Rattle.run.specs.Widths.{mostTiles}
 use Rattle.run.specs.Start.{startAnswer, noStart}
 use Rattle.run.specs.Sheet.{shareOf, sheetAnswer, noFigures}
@@ -110,4 +109,4 @@ replayOf seed l b n calls given words numbers =
     let c = laidCourse (layNumber seed l) seed in
     cond (roomFor n (length calls) (length given) (length words) (length numbers))
     (replayOn l seed c (startNumber (c .points) mostTiles k b) b n (toldsTo k calls given n) words numbers)
-    (record { laid = NotLaid 2; start = startAnswer 2 noStart; sheet = sheetAnswer 4 noFigures; lent = l; words = words; numbers = numbers })
+    (record { laid = laidAnswer 2 noValues; start = startAnswer 2 noStart; sheet = sheetAnswer 4 noFigures; lent = l; words = words; numbers = numbers })

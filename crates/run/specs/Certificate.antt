@@ -6,16 +6,14 @@ use mathlib.Core.Bool.{Bool, true, false, cond, not, _&&_}
 use mathlib.Core.List.{List, [], _∷_, _++_, map}
 use Prim.Native.Nat.{ℕ, _+_, _<_}
 use lib.Dec.{eqb, ltb}
-use lib.ListN.{length, getD, take, replicate}
+use lib.ListN.{length, take, replicate}
 use lib.Ieee.{Float}
 use Rattle.course.specs.Lengths.{mostNumbers, offsetCount}
 use Rattle.course.specs.Constants.{maxAttempts}
-use Rattle.course.specs.Tiles.{noPoint}
 use Rattle.course.specs.Course.{fromPoints, cellsOf}
-use Rattle.course.specs.Lent.{Lent, Outcome, outcome, roomyOf, written, laidCauseOf, laidCountOf, lengthOf}
+use Rattle.course.specs.Lent.{Lent, Outcome, outcome, roomyOf, written, laidFigures, laidAnswer, laidCauseOf, laidValuesOf}
 use Rattle.course.specs.Lay.{courseOf, layCall}
 use Rattle.course.specs.declared.tiles.TrackPoint.{TrackPoint}
-use Rattle.course.specs.declared.points.Laid.the-variants.{Course as Made}
 use Rattle.run.specs.Widths.{fullWords, mostTiles}
 use Rattle.run.specs.State.{State, Columns, columns, shortOf}
 use Rattle.run.specs.Words.{member}
@@ -40,7 +38,7 @@ pub data Lending : Type 0 where
 -- the columns of a lending, where `o` is what laying left and answered
 unfoldable pub lentBy : Outcome → Lending → Columns
 lentBy o (laid ts offs l) =
-    columns (take mostNumbers (o .lent .tiles) ++ ts) (take offsetCount (o .lent .offsets) ++ offs) (take (lengthOf (o .answer)) (o .lent .list) ++ l)
+    columns (take mostNumbers (o .lent .tiles) ++ ts) (take offsetCount (o .lent .offsets) ++ offs) (take (laidValuesOf (o .answer) .entries) (o .lent .list) ++ l)
 lentBy o (short l is) = l
 
 unfoldable pub lengthsOf : Columns → Lengths
@@ -99,7 +97,7 @@ allOccur (c ∷ cs) (r ∷ rs) = occurs c r && allOccur cs rs
 
 -- what start is told of the course that laying left in o: its n as answered
 abbrev pub settingsOn : Outcome → Bool → Opening → Settings
-settingsOn o fallback b = record { n = laidCountOf (o .answer); fallback = fallback; share = b .share; limit = b .limit; poses = b .poses }
+settingsOn o fallback b = record { n = laidValuesOf (o .answer) .n; fallback = fallback; share = b .share; limit = b .limit; poses = b .poses }
 
 abbrev pub startOn : ℕ → ℕ → Outcome → Lending → Bool → Opening → Begun
 startOn m most o by fallback b = startOf m most (lentBy o by) (settingsOn o fallback b)
@@ -156,6 +154,6 @@ pub record Certificate (seed : ℕ) (l : Lent) (by : Lending) (fallback : Bool) 
   -- lay refuses exactly when document 01 has a cause for it
   pub lays : laidCauseOf (layCall maxAttempts seed l .answer) ≡ layNumber seed l
   -- the course is exactly the one that document 01 gives the seed: all that is answered and written
-  pub course : layNumber seed l ≡ 0 → layCall maxAttempts seed l ≡ outcome (Made (length (courseOf seed .points)) (courseOf seed .fallback) (cellsOf (courseOf seed .points)) (getD (courseOf seed .points) 0 noPoint)) (written false (fromPoints (courseOf seed .points)) l)
+  pub course : layNumber seed l ≡ 0 → layCall maxAttempts seed l ≡ outcome (laidAnswer 0 (laidFigures (courseOf seed .fallback) (courseOf seed .points))) (written false (fromPoints (courseOf seed .points)) l)
   -- and on it the run is the plain scorer's
   pub run : layNumber seed l ≡ 0 → Demand3 fullWords mostTiles (courseOf seed .points) (layCall maxAttempts seed l) by fallback b cs

@@ -10,7 +10,7 @@ ghost use Rattle.run.specs.Calls.{Call, replyOf, repliesOf, stateAfter};
 ghost use Rattle.run.specs.Replay.{callWords, callNumbers, answerWords, answerNumbers, motionsFrom, posesFrom, numberAt, wordsOf, numbersOf, allWords, allNumbers};
 ghost use Rattle.run.specs.ReplaySteps.{callFrom, callsTo};
 ghost use Rattle.run.specs.Batch.{roomFor, replay, replayOf};
-ghost use Rattle.course.specs.Lent.{lent, laidCountOf, fallbackOf};
+ghost use Rattle.course.specs.Lent.{lent, laidValuesOf};
 use crate::answer;
 use crate::call;
 use crate::drive;
@@ -22,6 +22,7 @@ use crate::start::StartAnswer;
 use crate::state::Pose;
 use crate::state::Run;
 use course::lay;
+use course::points;
 use course::points::Laid;
 
 // Words and numbers of a call, and of its answer.
@@ -167,28 +168,6 @@ pub(crate) fn replies(
     state
 }
 
-// How many tiles lay answered; none where it was refused.
-fn count_of(laid: Laid) -> u32
-    ensures { λ r. ⌜ r ≡ laidCountOf laid ⌝ }
-{
-    match laid {
-        Laid::Course(n, _, _, _) => n,
-        Laid::Short(_) => 0,
-        Laid::Refused(_) => 0,
-    }
-}
-
-// Whether lay answered with the ring.
-fn is_fallback(laid: Laid) -> bool
-    ensures { λ r. ⌜ r ≡ fallbackOf laid ⌝ }
-{
-    match laid {
-        Laid::Course(_, fallback, _, _) => fallback,
-        Laid::Short(_) => false,
-        Laid::Refused(_) => false,
-    }
-}
-
 // The columns of calls and answers, by their lengths, have room for so many calls.
 fn room_for(many: u32, calls: usize, given: usize, words: usize, numbers: usize) -> bool
     ensures { λ r. ⌜ r ≡ roomFor many calls given words numbers ⌝ }
@@ -229,12 +208,13 @@ pub fn replay(
         };
     }
     let laid = lay::lay(seed, alpha, beta, x, y, tiles, offsets, list);
+    let course = points::laid_values(laid);
     let s = start::start(
         tiles,
         offsets,
         list,
-        count_of(laid),
-        is_fallback(laid),
+        course.n,
+        course.fallback,
         share,
         limit,
         poses,

@@ -1,0 +1,72 @@
+-- Drive and settle for a host that keeps its run where it stands: the car and the sets are lent and changed in place, motions are read and forces written as
+-- numbers. What such a call answers and leaves is said by the call on the parts of a state. For sets of m words that hold `most` tiles. Assumes nothing.
+use mathlib.Core.Bool.{Bool, cond}
+use mathlib.Core.List.{List, [], _∷_}
+use Prim.Native.Nat.{ℕ, _+_}
+use lib.Dec.{eqb}
+use lib.Ieee.{Float}
+use Rattle.run.specs.State.{Columns}
+use Rattle.run.specs.Pass.{ctlAt}
+use Rattle.run.specs.Drive.{driveCauseOf, drivePartsOf}
+use Rattle.run.specs.Settle.{settlePartsOf}
+use Rattle.run.specs.Replay.{numberAt, motionsFrom, forceNumbers}
+use Rattle.run.specs.declared.state.WheelCtl.{WheelCtl}
+use Rattle.run.specs.declared.state.Setup.{Setup}
+use Rattle.run.specs.declared.state.Progress.{Progress}
+use Rattle.run.specs.declared.state.Car.{Car}
+use Rattle.run.specs.declared.state.Pose.{Pose}
+use Rattle.abi.specs.Flat.{flatDriven, flatSettled}
+use Rattle.abi.specs.declared.flat.FlatDriven.{FlatDriven}
+use Rattle.abi.specs.declared.flat.FlatSettled.{FlatSettled}
+
+-- ---- a car as numbers: five to a wheel, then the fuel spent
+
+unfoldable pub wheelFrom : List Float → ℕ → WheelCtl
+wheelFrom l i =
+    record { gas = numberAt l i; brake = numberAt l (i + 1); steer = numberAt l (i + 2); omega = numberAt l (i + 3); phase = numberAt l (i + 4) }
+
+unfoldable pub carFrom : List Float → Car
+carFrom l = record { ctl = wheelFrom l 0 ∷ wheelFrom l 5 ∷ wheelFrom l 10 ∷ wheelFrom l 15 ∷ []; «fuel_spent» = numberAt l 20 }
+
+-- and back
+unfoldable pub carNumbers : Car → List Float
+carNumbers car =
+    ctlAt (car .ctl) 0 .gas ∷ ctlAt (car .ctl) 0 .brake ∷ ctlAt (car .ctl) 0 .steer ∷ ctlAt (car .ctl) 0 .omega ∷ ctlAt (car .ctl) 0 .phase
+    ∷ ctlAt (car .ctl) 1 .gas ∷ ctlAt (car .ctl) 1 .brake ∷ ctlAt (car .ctl) 1 .steer ∷ ctlAt (car .ctl) 1 .omega ∷ ctlAt (car .ctl) 1 .phase
+    ∷ ctlAt (car .ctl) 2 .gas ∷ ctlAt (car .ctl) 2 .brake ∷ ctlAt (car .ctl) 2 .steer ∷ ctlAt (car .ctl) 2 .omega ∷ ctlAt (car .ctl) 2 .phase
+    ∷ ctlAt (car .ctl) 3 .gas ∷ ctlAt (car .ctl) 3 .brake ∷ ctlAt (car .ctl) 3 .steer ∷ ctlAt (car .ctl) 3 .omega ∷ ctlAt (car .ctl) 3 .phase
+    ∷ car .«fuel_spent»
+    ∷ []
+
+-- ---- drive
+
+-- what it answers, and what it leaves in the lent car and forces
+pub record LentDriven : Type 0 where
+  pub answer : FlatDriven
+  pub car : List Float
+  pub forces : List Float
+
+abbrev pub lentDriven : FlatDriven → List Float → List Float → LentDriven
+lentDriven r car forces = record { answer = r; car = car; forces = forces }
+
+-- the forces are written where it is accepted, and stay as they were lent where it is not
+unfoldable pub driveLent : ℕ → ℕ → Setup → Progress → List Float → List ℕ → ℕ → List Float → List Float → LentDriven
+driveLent m most u p car wheels action motions forces =
+    let d = drivePartsOf m most u p (carFrom car) wheels action (motionsFrom motions) in
+    lentDriven (flatDriven (d .answer) (d .progress)) (carNumbers (d .car)) (cond (eqb (driveCauseOf (d .answer)) 0) (forceNumbers (d .forces)) forces)
+
+-- ---- settle
+
+-- what it answers, and what it leaves in the lent sets
+pub record LentSettled : Type 0 where
+  pub answer : FlatSettled
+  pub credited : List ℕ
+  pub wheels : List ℕ
+
+abbrev pub lentSettled : FlatSettled → List ℕ → List ℕ → LentSettled
+lentSettled r credited wheels = record { answer = r; credited = credited; wheels = wheels }
+
+unfoldable pub settleLent : ℕ → ℕ → Setup → Progress → List ℕ → List ℕ → Columns → Float → Float → List Pose → LentSettled
+settleLent m most u p credited wheels l x y ps =
+    let d = settlePartsOf m most u p credited wheels l x y ps in
+    lentSettled (flatSettled (d .answer) (d .progress)) (d .credited) (d .wheels)

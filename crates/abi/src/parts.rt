@@ -1,0 +1,125 @@
+// A run's car, the motions and the forces as a host lends them: numbers, one wheel after the other.
+ghost use mathlib.Core.Path.{_≡_};
+ghost use Prim.Native.Nat.{_+_, _≤_};
+ghost use lib.ListN.{length};
+ghost use Rattle.run.specs.Replay.{motionFrom, motionsFrom, forceNumbers};
+ghost use Rattle.abi.specs.Lent.{wheelFrom, carFrom, carNumbers};
+use run::dynamics::Force;
+use run::dynamics::Motion;
+use run::state::Car;
+use run::state::WheelCtl;
+
+// The fuel spent stands behind five numbers to a wheel.
+pub(crate) const CAR_NUMBERS: usize = 21;
+
+pub(crate) const MOTION_NUMBERS: usize = 20;
+
+// Three to a wheel.
+pub(crate) const FORCE_NUMBERS: usize = 12;
+
+// A wheel's control, from number i on.
+fn wheel_at(numbers: &[f64], i: usize) -> WheelCtl
+    requires { ⌜ i + 5 ≤ length (now numbers) ⌝ }
+    ensures { λ r. ⌜ r ≡ wheelFrom (now (numbers .entry)) i ⌝ }
+{
+    WheelCtl {
+        gas: numbers[i],
+        brake: numbers[i + 1],
+        steer: numbers[i + 2],
+        omega: numbers[i + 3],
+        phase: numbers[i + 4],
+    }
+}
+
+// The car that 21 numbers hold.
+pub(crate) fn car_from(numbers: &[f64; CAR_NUMBERS]) -> Car
+    ensures { λ r. ⌜ r ≡ carFrom (now (numbers .entry)) ⌝ }
+{
+    let a = wheel_at(numbers, 0);
+    let b = wheel_at(numbers, 5);
+    let c = wheel_at(numbers, 10);
+    let d = wheel_at(numbers, 15);
+    Car {
+        ctl: [a, b, c, d],
+        fuel_spent: numbers[20],
+    }
+}
+
+// A wheel's motion, from number i on.
+fn motion_at(numbers: &[f64], i: usize) -> Motion
+    requires { ⌜ i + 5 ≤ length (now numbers) ⌝ }
+    ensures { λ r. ⌜ r ≡ motionFrom (now (numbers .entry)) i ⌝ }
+{
+    Motion {
+        joint_angle: numbers[i],
+        sin: numbers[i + 1],
+        cos: numbers[i + 2],
+        vx: numbers[i + 3],
+        vy: numbers[i + 4],
+    }
+}
+
+// The motions that 20 numbers hold.
+pub(crate) fn motions_from(numbers: &[f64; MOTION_NUMBERS]) -> [Motion; 4]
+    ensures { λ r. ⌜ r ≡ motionsFrom (now (numbers .entry)) ⌝ }
+{
+    let a = motion_at(numbers, 0);
+    let b = motion_at(numbers, 5);
+    let c = motion_at(numbers, 10);
+    let d = motion_at(numbers, 15);
+    [a, b, c, d]
+}
+
+// The car's numbers are written.
+pub(crate) fn put_car(car: Car, numbers: &mut [f64; CAR_NUMBERS])
+    ensures { λ _. ⌜ now (numbers .exit) ≡ carNumbers car ⌝ }
+{
+    let ctl = car.ctl;
+    let a = ctl[0];
+    let b = ctl[1];
+    let c = ctl[2];
+    let d = ctl[3];
+    numbers[0] = a.gas;
+    numbers[1] = a.brake;
+    numbers[2] = a.steer;
+    numbers[3] = a.omega;
+    numbers[4] = a.phase;
+    numbers[5] = b.gas;
+    numbers[6] = b.brake;
+    numbers[7] = b.steer;
+    numbers[8] = b.omega;
+    numbers[9] = b.phase;
+    numbers[10] = c.gas;
+    numbers[11] = c.brake;
+    numbers[12] = c.steer;
+    numbers[13] = c.omega;
+    numbers[14] = c.phase;
+    numbers[15] = d.gas;
+    numbers[16] = d.brake;
+    numbers[17] = d.steer;
+    numbers[18] = d.omega;
+    numbers[19] = d.phase;
+    numbers[20] = car.fuel_spent;
+}
+
+// The forces are written.
+pub(crate) fn put_forces(forces: [Force; 4], numbers: &mut [f64; FORCE_NUMBERS])
+    ensures { λ _. ⌜ now (numbers .exit) ≡ forceNumbers forces ⌝ }
+{
+    let a = forces[0];
+    let b = forces[1];
+    let c = forces[2];
+    let d = forces[3];
+    numbers[0] = a.motor;
+    numbers[1] = a.fx;
+    numbers[2] = a.fy;
+    numbers[3] = b.motor;
+    numbers[4] = b.fx;
+    numbers[5] = b.fy;
+    numbers[6] = c.motor;
+    numbers[7] = c.fx;
+    numbers[8] = c.fy;
+    numbers[9] = d.motor;
+    numbers[10] = d.fx;
+    numbers[11] = d.fy;
+}
