@@ -4,7 +4,6 @@ use mathlib.Core.List.{List}
 use mathlib.Core.Path.{_≡_, refl, sym, ap, _∙_}
 use Prim.Native.Nat.{ℕ}
 use lib.Dec.{eqb}
-use lib.ListN.{length}
 use lib.Ieee.{Float}
 use borrow.Author.Tests.{eq-eqb, ne-eqb}
 use Rattle.course.specs.Lent.{Lent, Outcome, outcome}
@@ -38,7 +37,6 @@ use Rattle.abi.specs.declared.flat.FlatLaid.{FlatLaid}
 use Rattle.abi.specs.declared.flat.FlatCurbs.{FlatCurbs}
 use Rattle.abi.specs.declared.flat.FlatSheet.{FlatSheet}
 use Rattle.abi.specs.declared.flat.FlatReplayed.{FlatReplayed}
-use Rattle.abi.proofs.CarLaws.{car-back}
 
 -- ---- courses
 
@@ -80,18 +78,18 @@ module _ (m most : ℕ) (u : Setup) (p : Progress) (car : List Float) (wheels : 
       ((ef ∙ ap (λ (b : Bool). cond b (forceNumbers (d .forces)) forces) (sym (eq-eqb (driveCauseOf (d .answer)) 0 (sym ek ∙ z)))) i))
       ∙ ap (λ (x : DroveParts). written x forces) same
 
-  pub driven-refused : (k ≡ 0 → ⊥) → length car ≡ 21 → lentDriven (record { cause = k; progress = d .progress }) car forces ≡ driveLent m most u p car wheels action motions forces
+  pub driven-refused : (k ≡ 0 → ⊥) → carNumbers c ≡ car → lentDriven (record { cause = k; progress = d .progress }) car forces ≡ driveLent m most u p car wheels action motions forces
   unfolding driveLent flatDriven written
-  driven-refused z long =
+  driven-refused z back =
       (λ i. lentDriven (record { cause = ek i; progress = d .progress }) (kept i)
       (ap (λ (b : Bool). cond b (forceNumbers (d .forces)) forces) (sym (ne-eqb (driveCauseOf (d .answer)) 0 (λ e. z (ek ∙ e)))) i))
       ∙ ap (λ (x : DroveParts). written x forces) same
     where
       kept : car ≡ carNumbers (d .car)
       kept =
-          sym (car-back car long)
-          ∙ ap carNumbers (sym (refused-keeps m most u p (carFrom car) wheels action (motionsFrom motions) (λ e. z (ek ∙ ap (λ (x : DroveParts). driveCauseOf (x .answer)) same ∙ e)) .1))
-          ∙ ap (λ (x : DroveParts). carNumbers (x .car)) (sym same)
+          sym back
+          ∙ ap carNumbers (sym (refused-keeps m most u p c wheels action ms (λ e. z (ek ∙ ap (λ (x : DroveParts). driveCauseOf (x .answer)) is ∙ e)) .1))
+          ∙ ap (λ (x : DroveParts). carNumbers (x .car)) (sym is)
 
 pub settled-whole : (m most : ℕ) (u : Setup) (p : Progress) (c w : List ℕ) (l : Columns) (x y : Float) (ps : List Pose) (a : SettleAnswer) (next : Progress) (c′ w′ : List ℕ) (k : ℕ) (v : SettleValues)
     → k ≡ settleCauseOf a → v ≡ settleValuesOf a → settledParts a next c′ w′ ≡ settlePartsOf m most u p c w l x y ps

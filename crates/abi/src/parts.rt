@@ -3,7 +3,7 @@ ghost use mathlib.Core.Path.{_≡_};
 ghost use Prim.Native.Nat.{_+_, _≤_};
 ghost use lib.ListN.{length};
 ghost use Rattle.run.specs.Replay.{motionFrom, motionsFrom, forceNumbers};
-ghost use Rattle.abi.specs.Lent.{wheelFrom, carFrom, carNumbers};
+ghost use Rattle.abi.specs.Lent.{carLong, motionsLong, forcesLong, wheelFrom, carFrom, carNumbers};
 use run::dynamics::Force;
 use run::dynamics::Motion;
 use run::state::Car;
@@ -31,9 +31,11 @@ fn wheel_at(numbers: &[f64], i: usize) -> WheelCtl
     }
 }
 
-// The car that 21 numbers hold.
-pub(crate) fn car_from(numbers: &[f64; CAR_NUMBERS]) -> Car
+// The car that its numbers hold.
+pub(crate) fn car_from(numbers: &[f64]) -> Car
+    requires { ⌜ length (now numbers) ≡ carLong ⌝ }
     ensures { λ r. ⌜ r ≡ carFrom (now (numbers .entry)) ⌝ }
+    ensures { λ r. ⌜ carNumbers r ≡ now (numbers .entry) ⌝ }
 {
     let a = wheel_at(numbers, 0);
     let b = wheel_at(numbers, 5);
@@ -59,8 +61,9 @@ fn motion_at(numbers: &[f64], i: usize) -> Motion
     }
 }
 
-// The motions that 20 numbers hold.
-pub(crate) fn motions_from(numbers: &[f64; MOTION_NUMBERS]) -> [Motion; 4]
+// The motions that their numbers hold.
+pub(crate) fn motions_from(numbers: &[f64]) -> [Motion; 4]
+    requires { ⌜ length (now numbers) ≡ motionsLong ⌝ }
     ensures { λ r. ⌜ r ≡ motionsFrom (now (numbers .entry)) ⌝ }
 {
     let a = motion_at(numbers, 0);
@@ -71,7 +74,8 @@ pub(crate) fn motions_from(numbers: &[f64; MOTION_NUMBERS]) -> [Motion; 4]
 }
 
 // The car's numbers are written.
-pub(crate) fn put_car(car: Car, numbers: &mut [f64; CAR_NUMBERS])
+pub(crate) fn put_car(car: Car, numbers: &mut [f64])
+    requires { ⌜ length (now numbers) ≡ carLong ⌝ }
     ensures { λ _. ⌜ now (numbers .exit) ≡ carNumbers car ⌝ }
 {
     let ctl = car.ctl;
@@ -103,7 +107,8 @@ pub(crate) fn put_car(car: Car, numbers: &mut [f64; CAR_NUMBERS])
 }
 
 // The forces are written.
-pub(crate) fn put_forces(forces: [Force; 4], numbers: &mut [f64; FORCE_NUMBERS])
+pub(crate) fn put_forces(forces: [Force; 4], numbers: &mut [f64])
+    requires { ⌜ length (now numbers) ≡ forcesLong ⌝ }
     ensures { λ _. ⌜ now (numbers .exit) ≡ forceNumbers forces ⌝ }
 {
     let a = forces[0];

@@ -134,6 +134,7 @@ pub extern "C" fn grader_settle_parts(
         given,
     );
     let answer = s.answer;
+    let next = s.progress;
     let v = flat::settle_values(answer);
     FlatSettled {
         cause: flat::settle_cause(answer),
@@ -142,7 +143,7 @@ pub extern "C" fn grader_settle_parts(
         off: v.off,
         lap: v.lap,
         ended: v.ended,
-        progress: s.progress,
+        progress: next,
     }
 }
 
