@@ -1,19 +1,20 @@
 -- Laws of the cells of wheels' boxes: the four wheels' in one list, and a cell that is the same as the one before it. Assumes nothing.
-use mathlib.Core.Bool.{Bool, true, false, not, _&&_, _||_, false≢true}
+use mathlib.Core.Bool.{Bool, true, false, not, _&&_, _||_, false≢true, and-assoc, or-assoc, and-self, or-self}
 use mathlib.Core.List.{List, [], _∷_, _++_}
-use mathlib.Core.Path.{_≡_, refl, sym, ap, ap₂, _∙_, subst}
+use mathlib.Core.Path.{_≡_, refl, sym, ap, ap₂, _∙_}
 use Prim.Native.Nat.{ℕ, zero, suc, _+_, _-_, _*_, _≤_, _<_}
 use native.Mathlib.Omega.{arith}
 use native.Mathlib.Numerals.{add-one}
-use lib.ListN.{length, getD, take, drop}
+use lib.ListN.{length, getD, set, take, drop, replicate}
 use lib.Dec.{eqb}
 use lib.Ieee.{Float}
 use borrow.Author.Tests.{eqb-true}
+use Rattle.course.proofs.IndexLaws.{and-left, and-right}
 use Rattle.run.specs.Below.{someOf, everyOf, everyBelow}
 use Rattle.run.specs.Overlap.{leastOn, greatestOn, apartOn, apartAlong, apartByEdges, overlapOf}
 use Rattle.run.specs.Wheel.{quadOf, boxCells}
 use Rattle.run.specs.Touch.{soundCell, soundQuad, soundPoses}
-use Rattle.run.specs.TouchSteps.{sideAlong, firstSide, beyond, sixteenCells, again}
+use Rattle.run.specs.TouchSteps.{sideAlong, firstSide, beyond, apartByOthers, sixteenCells, again, Looked}
 use Rattle.run.specs.declared.state.Pose.{Pose}
 use Rattle.run.specs.declared.quad.Side.{Side}
 use Rattle.run.proofs.TouchLaws.{some-take, every-take}
@@ -23,10 +24,10 @@ pub side-is : (nx ny low high : Float) (q : List (List Float)) → low ≡ least
     → _≡_ {A = Side} (record { nx = nx; ny = ny; low = low; high = high }) (sideAlong nx ny q)
 side-is nx ny low high q el eh = λ i. record { nx = nx; ny = ny; low = el i; high = eh i }
 
--- a quad that lies beyond a wheel's first side does not overlap the wheel
-pub beyond-misses : (s : Side) (q b : List (List Float)) → s ≡ firstSide q → beyond s b ≡ true → overlapOf q b ≡ false
-unfolding overlapOf apartByEdges apartAlong apartOn firstSide beyond
-beyond-misses s q b e h = ap (λ (x : Bool). not ((x || (apartAlong q 1 2 q b || (apartAlong q 2 3 q b || apartAlong q 3 0 q b))) || apartByEdges b q b)) (ap (λ (x : Side). beyond x b) (sym e) ∙ h)
+-- the overlap test, its first normal by the side
+pub overlap-by-side : (s : Side) (a b : List (List Float)) → s ≡ firstSide a → overlapOf a b ≡ not ((beyond s b || apartByOthers a a b) || apartByEdges b a b)
+unfolding overlapOf apartByEdges apartByOthers apartAlong apartOn firstSide beyond
+overlap-by-side s a b e = ap (λ (x : Side). not ((beyond x b || apartByOthers a a b) || apartByEdges b a b)) (sym e)
 
 -- ---- a cell again
 pub again-none : (ks : List ℕ) (i : ℕ) → i ≡ 0 → false ≡ again ks i
@@ -42,14 +43,10 @@ again-at ks (suc i) n = ap (λ (k : ℕ). eqb (getD ks (suc i) 0) (getD ks k 0))
     less k = omega arith
 
 or-again : (a b : Bool) → ((a || b) || b) ≡ (a || b)
-or-again true b = refl
-or-again false true = refl
-or-again false false = refl
+or-again a b = or-assoc a b b ∙ ap (λ (x : Bool). a || x) (or-self b)
 
 and-again : (a b : Bool) → ((a && b) && b) ≡ (a && b)
-and-again true true = refl
-and-again true false = refl
-and-again false b = refl
+and-again a b = and-assoc a b b ∙ ap (λ (x : Bool). a && x) (and-self b)
 
 -- it adds nothing to a test of the cells before it
 pub some-again : (p : ℕ → Bool) (ks : List ℕ) (i : ℕ) → again ks i ≡ true → i < length ks → someOf p (take (i + 1) ks) ≡ someOf p (take i ks)
@@ -75,46 +72,75 @@ every-next p ks i h n b = go (again ks i) refl
     go false e = every-take p ks i b ∙ ap₂ _&&_ h (sym (ap (λ (x : Bool). x || p (getD ks i 0)) e) ∙ n)
 
 -- ---- the cells of four wheels
-pub cells-are : (a b c d : List ℕ) (ps : List Pose) → a ≡ boxCells (quadOf ps 0) → b ≡ boxCells (quadOf ps 1) → c ≡ boxCells (quadOf ps 2) → d ≡ boxCells (quadOf ps 3)
-    → (getD a 0 0 ∷ getD a 1 0 ∷ getD a 2 0 ∷ getD a 3 0 ∷ getD b 0 0 ∷ getD b 1 0 ∷ getD b 2 0 ∷ getD b 3 0
-    ∷ getD c 0 0 ∷ getD c 1 0 ∷ getD c 2 0 ∷ getD c 3 0 ∷ getD d 0 0 ∷ getD d 1 0 ∷ getD d 2 0 ∷ getD d 3 0 ∷ []) ≡ sixteenCells ps
-unfolding sixteenCells boxCells
-cells-are a b c d ps ea eb ec ed = λ i.
-    getD (ea i) 0 0 ∷ getD (ea i) 1 0 ∷ getD (ea i) 2 0 ∷ getD (ea i) 3 0 ∷ getD (eb i) 0 0 ∷ getD (eb i) 1 0 ∷ getD (eb i) 2 0 ∷ getD (eb i) 3 0
-    ∷ getD (ec i) 0 0 ∷ getD (ec i) 1 0 ∷ getD (ec i) 2 0 ∷ getD (ec i) 3 0 ∷ getD (ed i) 0 0 ∷ getD (ed i) 1 0 ∷ getD (ed i) 2 0 ∷ getD (ed i) 3 0 ∷ []
+-- sixteen places, of which those of the first w wheels hold their cells
+abbrev pub withFour : List ℕ → ℕ → List ℕ → List ℕ
+withFour ks w b = set (set (set (set ks (4 * w) (getD b 0 0)) (4 * w + 1) (getD b 1 0)) (4 * w + 2) (getD b 2 0)) (4 * w + 3) (getD b 3 0)
+
+unfoldable pub filled : List Pose → ℕ → List ℕ
+filled ps zero = replicate 16 0
+filled ps (suc w) = withFour (filled ps w) w (boxCells (quadOf ps w))
+
+pub fill-more : (ps : List Pose) (w : ℕ) (ks b : List ℕ) → ks ≡ filled ps w → b ≡ boxCells (quadOf ps w) → withFour ks w b ≡ filled ps (w + 1)
+unfolding filled
+fill-more ps w ks b e f = ap₂ (λ (x y : List ℕ). withFour x w y) e f ∙ ap (filled ps) (sym (add-one w))
+
+pub all-filled : (ps : List Pose) (w : ℕ) → w ≤ 4 → 4 ≤ w → filled ps w ≡ sixteenCells ps
+unfolding filled sixteenCells boxCells
+all-filled ps w a b = let four : w ≡ 4 = omega arith in ap (filled ps) four
 
 -- a test of all of them is one of each wheel's
-and-assoc : (a b c : Bool) → (a && (b && c)) ≡ ((a && b) && c)
-and-assoc true b c = refl
-and-assoc false b c = refl
-
 every-append : (p : ℕ → Bool) (xs ys : List ℕ) → everyOf p (xs ++ ys) ≡ (everyOf p xs && everyOf p ys)
 unfolding everyOf
 every-append p [] ys = refl
-every-append p (x ∷ xs) ys = ap (λ (b : Bool). p x && b) (every-append p xs ys) ∙ and-assoc (p x) (everyOf p xs) (everyOf p ys)
+every-append p (x ∷ xs) ys = ap (λ (b : Bool). p x && b) (every-append p xs ys) ∙ sym (and-assoc (p x) (everyOf p xs) (everyOf p ys))
 
-pub sound-cells : (offs l : List ℕ) (n : ℕ) (ps : List Pose) → everyOf (soundCell offs l n) (sixteenCells ps) ≡ soundPoses offs l n ps
+-- the look-ups of four poses are sound exactly where those of their sixteen cells are
+pub poses-sound-by-cells : (offs l : List ℕ) (n : ℕ) (ps : List Pose) → soundPoses offs l n ps ≡ everyOf (soundCell offs l n) (sixteenCells ps)
 unfolding sixteenCells soundPoses soundQuad everyBelow
-sound-cells offs l n ps =
+poses-sound-by-cells offs l n ps =
     let p = soundCell offs l n in
     let k : ℕ → List ℕ = λ w. boxCells (quadOf ps w) in
     let e : ℕ → Bool = λ w. everyOf p (k w) in
-    every-append p (k 0) (k 1 ++ (k 2 ++ k 3))
-    ∙ ap (λ (b : Bool). e 0 && b) (every-append p (k 1) (k 2 ++ k 3) ∙ ap (λ (b : Bool). e 1 && b) (every-append p (k 2) (k 3)))
-    ∙ and-assoc (e 0) (e 1) (e 2 && e 3) ∙ and-assoc (e 0 && e 1) (e 2) (e 3)
+    and-assoc (e 0 && e 1) (e 2) (e 3) ∙ and-assoc (e 0) (e 1) (e 2 && e 3)
+    ∙ ap (λ (b : Bool). e 0 && b) (ap (λ (b : Bool). e 1 && b) (sym (every-append p (k 2) (k 3))) ∙ sym (every-append p (k 1) (k 2 ++ k 3)))
+    ∙ sym (every-append p (k 0) (k 1 ++ (k 2 ++ k 3)))
+
+-- so cause 10 by the cells is cause 10 by the poses
+pub cells-sound-is : (offs l : List ℕ) (n : ℕ) (ps : List Pose) (ks : List ℕ) (b : Bool) → ks ≡ sixteenCells ps → b ≡ everyOf (soundCell offs l n) ks → b ≡ soundPoses offs l n ps
+cells-sound-is offs l n ps ks b e h = h ∙ ap (everyOf (soundCell offs l n)) e ∙ sym (poses-sound-by-cells offs l n ps)
+
+pub all-cells : (offs l : List ℕ) (n : ℕ) (ps : List Pose) (ks : List ℕ) → ks ≡ sixteenCells ps → soundPoses offs l n ps ≡ true → Looked offs l n (sixteenCells ps) ks
+all-cells offs l n ps ks e h = record { are = e; sound = cells-sound-is offs l n ps ks (everyOf (soundCell offs l n) ks) e refl ∙ h }
 
 pub cells-long : (ps : List Pose) (ks : List ℕ) → ks ≡ sixteenCells ps → length ks ≡ 16
 unfolding sixteenCells boxCells
 cells-long ps ks e = ap length e
 
 -- those of wheel w
-own-cells : (ps : List Pose) (w : ℕ) → w < 4 → take (w * 4 + 4 - w * 4) (drop (w * 4) (sixteenCells ps)) ≡ boxCells (quadOf ps w)
+part-cells : (ps : List Pose) (w : ℕ) → w < 4 → take (w * 4 + 4 - w * 4) (drop (w * 4) (sixteenCells ps)) ≡ boxCells (quadOf ps w)
 unfolding sixteenCells boxCells
-own-cells ps zero b = refl
-own-cells ps (suc zero) b = refl
-own-cells ps (suc (suc zero)) b = refl
-own-cells ps (suc (suc (suc zero))) b = refl
-own-cells ps (suc (suc (suc (suc w)))) b = absurd (omega arith)
+part-cells ps zero b = refl
+part-cells ps (suc zero) b = refl
+part-cells ps (suc (suc zero)) b = refl
+part-cells ps (suc (suc (suc zero))) b = refl
+part-cells ps (suc (suc (suc (suc w)))) b = absurd (omega arith)
 
-pub wheel-cells : (ps : List Pose) (w : ℕ) (ks : List ℕ) (q : List (List Float)) → ks ≡ sixteenCells ps → w < 4 → q ≡ quadOf ps w → take (w * 4 + 4 - w * 4) (drop (w * 4) ks) ≡ boxCells q
-wheel-cells ps w ks q e b eq = ap (λ (x : List ℕ). take (w * 4 + 4 - w * 4) (drop (w * 4) x)) e ∙ own-cells ps w b ∙ ap boxCells (sym eq)
+every-take-of : (p : ℕ → Bool) (xs : List ℕ) (k : ℕ) → everyOf p xs ≡ true → everyOf p (take k xs) ≡ true
+unfolding everyOf
+every-take-of p xs zero e = refl
+every-take-of p [] (suc k) e = refl
+every-take-of p (x ∷ xs) (suc k) e = ap₂ _&&_ (and-left (p x) (everyOf p xs) e) (every-take-of p xs k (and-right (p x) (everyOf p xs) e))
+
+every-drop-of : (p : ℕ → Bool) (xs : List ℕ) (k : ℕ) → everyOf p xs ≡ true → everyOf p (drop k xs) ≡ true
+unfolding everyOf
+every-drop-of p xs zero e = e
+every-drop-of p [] (suc k) e = refl
+every-drop-of p (x ∷ xs) (suc k) e = every-drop-of p xs k (and-right (p x) (everyOf p xs) e)
+
+pub own-cells : (offs l : List ℕ) (n : ℕ) (ps : List Pose) (w : ℕ) (ks : List ℕ) (q : List (List Float)) → Looked offs l n (sixteenCells ps) ks → w < 4 → q ≡ quadOf ps w
+    → Looked offs l n (boxCells q) (take (w * 4 + 4 - w * 4) (drop (w * 4) ks))
+own-cells offs l n ps w ks q h b e =
+    record {
+      are = ap (λ (x : List ℕ). take (w * 4 + 4 - w * 4) (drop (w * 4) x)) (h .are) ∙ part-cells ps w b ∙ ap boxCells (sym e);
+      sound = every-take-of (soundCell offs l n) (drop (w * 4) ks) (w * 4 + 4 - w * 4) (every-drop-of (soundCell offs l n) ks (w * 4) (h .sound));
+    }

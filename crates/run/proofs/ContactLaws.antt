@@ -1,254 +1,249 @@
--- What a wheel's contact leaves, by what it touches; and the wheels one after the other. Assumes nothing.
-use mathlib.Core.Bool.{Bool, true, false, not, _&&_, _||_}
-use mathlib.Core.List.{List, [], _∷_, _++_, append-nil, append-assoc}
+-- The sets of the four wheels one after the other: what each touches now, and then the credit of what it entered. Assumes nothing.
+use mathlib.Core.Bool.{Bool, true, false, not, _&&_, _||_, or-false, or-assoc, and-or-distrib-right}
+use mathlib.Core.List.{List, _++_, append-nil, append-assoc}
 use mathlib.Core.Path.{_≡_, refl, sym, ap, ap₂, _∙_, subst}
-use Prim.Native.Nat.{ℕ, zero, suc, _+_, _-_, _*_, _≤_, _<_}
+use Prim.Native.Nat.{ℕ, zero, suc, _+_, _-_, _*_, _^_, _≤_, _<_}
 use native.Mathlib.Omega.{arith}
 use native.Mathlib.Nat.{zero-mul, suc-mul, le-of-eq, le-trans, mul-le-mul-right}
 use native.Mathlib.Numerals.{add-one}
-use lib.ListN.{length, getD, take, drop, length-append, length-drop, drop-of-length-le}
-use lib.Seq.{take-at, drop-at, drop-drop, length-take-le}
+use native.Mathlib.Decide.{ℕ-discrete}
+use lib.ListN.{length, take, drop, length-append, length-drop, drop-of-length-le}
+use lib.Seq.{take-at, drop-at, drop-drop, take-all, length-take-le, take-append-le, drop-append-le}
 use lib.Ieee.{Float}
-use native.Mathlib.Decide.{decLt}
-use Rattle.course.proofs.IndexLaws.{and-left, and-right}
-use Rattle.run.specs.Below.{anyBelow, everyBelow, howMany}
+use Rattle.run.specs.Below.{anyBelow, howMany}
 use Rattle.run.specs.Arguments.{poseAt}
 use Rattle.run.specs.Wheel.{wheelQuad, quadOf}
-use Rattle.run.specs.Touch.{soundQuad, soundPoses}
+use Rattle.run.specs.Touch.{touchedBy}
+use Rattle.run.specs.TouchSteps.{sixteenCells, Room, Looked, Creditable, AllCreditable, inSets, enteredSince, Credits, credits, creditsOf}
 use Rattle.run.specs.declared.state.Pose.{Pose}
 use Rattle.run.specs.Words.{member, setOf}
-use Rattle.run.specs.Contact.{wheelPart, enters, entered, wheelSets, Contacted, contacted, contactOf}
-use Rattle.run.proofs.WordLaws.{Fit, member-setOf, setOf-cong, length-setOf, is-setOf, howMany-cong, howMany-or, howMany-none, or-chain}
-use Rattle.run.proofs.CreditLaws.{few}
-use Rattle.run.proofs.TouchLaws.{or-false, or-assoc}
+use Rattle.run.specs.Contact.{wheelPart, enters, entered, wheelSets, contacted, contactOf}
+use Rattle.run.proofs.WordLaws.{Fit, member-setOf, setOf-cong, length-setOf, is-setOf, howMany-cong, howMany-or, or-chain}
+use Rattle.run.proofs.CreditLaws.{few, howMany-false}
+use Rattle.run.proofs.BelowLaws.{any-cong}
+use Rattle.run.proofs.TouchLaws.{untouched}
+use Rattle.run.proofs.CellLaws.{own-cells}
 
--- ---- one wheel: the words `cur` hold the tiles with P
-module _ (m m′ : ℕ) (c l cur : List ℕ) (P : ℕ → Bool) (e : cur ≡ setOf m′ P) (s : m′ ≡ m) where
-  pub now-member : (t : ℕ) → t < 64 * m → member cur t ≡ P t
-  now-member t h = ap (λ (x : List ℕ). member x t) e ∙ member-setOf m′ t P (subst (λ (x : ℕ). t < 64 * x) (sym s) h)
-
-  pub now-set : cur ≡ setOf m P
-  now-set = e ∙ ap (λ (x : ℕ). setOf x P) s
-
-  pub now-credited : setOf m (λ t. member c t || (member cur t && not (member l t))) ≡ setOf m (λ t. member c t || (P t && not (member l t)))
-  now-credited =
-      setOf-cong m (λ t. member c t || (member cur t && not (member l t))) (λ t. member c t || (P t && not (member l t)))
-      (λ t h. ap (λ (b : Bool). member c t || (b && not (member l t))) (now-member t h))
-
-  pub now-fresh : howMany (64 * m) (λ t. (member cur t && not (member l t)) && not (member c t)) ≡ howMany (64 * m) (λ t. (P t && not (member l t)) && not (member c t))
-  now-fresh =
-      howMany-cong (64 * m) (λ t. (member cur t && not (member l t)) && not (member c t)) (λ t. (P t && not (member l t)) && not (member c t))
-      (λ t h. ap (λ (b : Bool). (b && not (member l t)) && not (member c t)) (now-member t h))
-
--- ---- the wheels one after the other: after w of them
-pub record Wheeled (m : ℕ) (c₀ W₀ : List ℕ) (P : ℕ → ℕ → Bool) (c W tested touched : List ℕ) (new : ℕ) (first : Bool) (w : ℕ) : Type 0 where
-  pub bound : w ≤ 4
-  pub tested-long : length tested ≡ m
-  pub touched-long : length touched ≡ m
-  pub credited : c ≡ setOf m (λ t. member c₀ t || anyBelow w (λ v. enters m W₀ P v t))
-  pub wheels : W ≡ wheelSets m P w ++ drop (w * m) W₀
-  pub fresh : new ≡ howMany (64 * m) (λ t. anyBelow w (λ v. enters m W₀ P v t) && not (member c₀ t))
-  pub zero : first ≡ anyBelow w (λ v. enters m W₀ P v 0)
-
-any-more : (w : ℕ) (f : ℕ → Bool) → anyBelow (w + 1) f ≡ (anyBelow w f || f w)
-unfolding anyBelow
-any-more w f = ap (λ (k : ℕ). anyBelow k f) (add-one w)
-
-sets-more : (m : ℕ) (P : ℕ → ℕ → Bool) (w : ℕ) → wheelSets m P (w + 1) ≡ wheelSets m P w ++ setOf m (P w)
-unfolding wheelSets
-sets-more m P w = ap (wheelSets m P) (add-one w)
-
-pub sets-long : (m : ℕ) (P : ℕ → ℕ → Bool) (w : ℕ) → length (wheelSets m P w) ≡ w * m
-unfolding wheelSets
-sets-long m P zero = sym (zero-mul m)
-sets-long m P (suc w) = length-append (wheelSets m P w) (setOf m (P w)) ∙ ap₂ _+_ (sets-long m P w) (length-setOf m (P w)) ∙ sym (suc-mul w m)
-
+-- ---- the sets of k wheels, and that of wheel w among them
 size : (a m : ℕ) → a + m - a ≡ m
 size a m = omega arith
 
 next : (w m : ℕ) → w * m + m ≡ (w + 1) * m
 next w m = sym (suc-mul w m) ∙ ap (λ (k : ℕ). k * m) (sym (add-one w))
 
--- the new tiles of two wheels, one after the other
-apart : (A N C : Bool) → ((N && not C) && not (A && not C)) ≡ (N && not (C || A))
-apart true true true = refl
-apart true true false = refl
-apart true false true = refl
-apart true false false = refl
-apart false true true = refl
-apart false true false = refl
-apart false false true = refl
-apart false false false = refl
-
-together : (A N C : Bool) → ((A && not C) || (N && not C)) ≡ ((A || N) && not C)
-together true N C = both (not C) (N && not C)
-  where
-    both : (a b : Bool) → (a || (N && a)) ≡ (true && a)
-    both true b = refl
-    both false b = none N
-      where
-        none : (x : Bool) → (x && false) ≡ false
-        none true = refl
-        none false = refl
-together false N C = refl
-
-module _ (m : ℕ) (c₀ W₀ : List ℕ) (P : ℕ → ℕ → Bool) where
-  E : ℕ → ℕ → Bool
-  E v t = enters m W₀ P v t
-
-  nothing : (n : ℕ) → howMany n (λ t. anyBelow 0 (λ v. enters m W₀ P v t) && not (member c₀ t)) ≡ 0
-  unfolding howMany anyBelow
-  nothing zero = refl
-  nothing (suc n) = ap (λ (x : ℕ). x + 0) (nothing n)
-
-  pub no-wheel : (tested touched : List ℕ) → length c₀ ≡ m → Fit c₀ → length tested ≡ m → length touched ≡ m → Wheeled m c₀ W₀ P c₀ W₀ tested touched 0 false 0
-  unfolding anyBelow wheelSets
-  no-wheel tested touched el f a b =
-      record {
-        bound = omega arith;
-        tested-long = a;
-        touched-long = b;
-        credited = is-setOf m c₀ (λ t. member c₀ t || false) el f (λ t _. sym (or-false (member c₀ t)));
-        wheels = sym (ap (λ (k : ℕ). drop k W₀) (zero-mul m));
-        fresh = sym (nothing (64 * m));
-        zero = refl;
-      }
-
-  -- wheel w's own last words, in the four wheels' words as they stand
-  pub last-part : (c W tested touched : List ℕ) (new : ℕ) (first : Bool) (w : ℕ) → Wheeled m c₀ W₀ P c W tested touched new first w
-      → take (w * m + m - w * m) (drop (w * m) W) ≡ wheelPart m W₀ w
-  unfolding wheelPart
-  last-part c W tested touched new first w h =
-      ap₂ (λ (k : ℕ) (x : List ℕ). take k x) (size (w * m) m)
-      (ap (drop (w * m)) (h .wheels) ∙ drop-at (wheelSets m P w) (drop (w * m) W₀) (w * m) (sets-long m P w))
-
-  pub one-wheel : (c W tested touched : List ℕ) (new : ℕ) (first : Bool) (w : ℕ) (c′ l′ W′ tested′ touched′ : List ℕ) (f : ℕ) (z : Bool) → Wheeled m c₀ W₀ P c W tested touched new first w → w < 4
-      → length tested′ ≡ m → length touched′ ≡ m
-      → c′ ≡ setOf m (λ t. member c t || (P w t && not (member (take (w * m + m - w * m) (drop (w * m) W)) t)))
-      → l′ ≡ setOf m (P w)
-      → f ≡ howMany (64 * m) (λ t. (P w t && not (member (take (w * m + m - w * m) (drop (w * m) W)) t)) && not (member c t))
-      → z ≡ (P w 0 && not (member (take (w * m + m - w * m) (drop (w * m) W)) 0))
-      → W′ ≡ take (w * m) W ++ (l′ ++ drop (w * m + m - w * m) (drop (w * m) W))
-      → Wheeled m c₀ W₀ P c′ W′ tested′ touched′ (new + f) (first || z) (w + 1)
-  unfolding enters
-  one-wheel c W tested touched new first w c′ l′ W′ tested′ touched′ f z h b a d ec el ef ez eW =
-      let part : take (w * m + m - w * m) (drop (w * m) W) ≡ wheelPart m W₀ w = last-part c W tested touched new first w h in
-      let A : ℕ → Bool = λ t. anyBelow w (λ v. enters m W₀ P v t) in
-      let N : ℕ → Bool = λ t. enters m W₀ P w t in
-      let inside : (t : ℕ) → t < 64 * m → member c t ≡ (member c₀ t || A t) = λ t k. ap (λ (x : List ℕ). member x t) (h .credited) ∙ member-setOf m t (λ u. member c₀ u || A u) k in
-      record {
-        bound = omega arith;
-        tested-long = a;
-        touched-long = d;
-        credited =
-            or-chain m c c′ (λ t. member c₀ t || A t) N (h .credited) (ec ∙ ap (λ (x : List ℕ). setOf m (λ t. member c t || (P w t && not (member x t)))) part)
-            ∙ setOf-cong m (λ t. (member c₀ t || A t) || N t) (λ t. member c₀ t || anyBelow (w + 1) (λ v. enters m W₀ P v t))
-            (λ t _. sym (or-assoc (member c₀ t) (A t) (N t)) ∙ ap (λ (x : Bool). member c₀ t || x) (sym (any-more w (λ v. enters m W₀ P v t))));
-        wheels =
-            eW
-            ∙ ap₂ (λ (x y : List ℕ). x ++ (y ++ drop (w * m + m - w * m) (drop (w * m) W))) (ap (take (w * m)) (h .wheels) ∙ take-at (wheelSets m P w) (drop (w * m) W₀) (w * m) (sets-long m P w)) el
-            ∙ ap (λ (x : List ℕ). wheelSets m P w ++ (setOf m (P w) ++ x))
-            (ap₂ (λ (k : ℕ) (x : List ℕ). drop k x) (size (w * m) m) (ap (drop (w * m)) (h .wheels) ∙ drop-at (wheelSets m P w) (drop (w * m) W₀) (w * m) (sets-long m P w))
-            ∙ drop-drop m (w * m) W₀ ∙ ap (λ (k : ℕ). drop k W₀) (next w m))
-            ∙ sym (append-assoc (wheelSets m P w) (setOf m (P w)) (drop ((w + 1) * m) W₀))
-            ∙ ap (λ (x : List ℕ). x ++ drop ((w + 1) * m) W₀) (sym (sets-more m P w));
-        fresh =
-            ap₂ _+_ (h .fresh)
-            (ef ∙ ap (λ (x : List ℕ). howMany (64 * m) (λ t. (P w t && not (member x t)) && not (member c t))) part
-            ∙ howMany-cong (64 * m) (λ t. N t && not (member c t)) (λ t. (N t && not (member c₀ t)) && not (A t && not (member c₀ t)))
-            (λ t k. ap (λ (x : Bool). N t && not x) (inside t k) ∙ sym (apart (A t) (N t) (member c₀ t))))
-            ∙ sym (howMany-or (64 * m) (λ t. A t && not (member c₀ t)) (λ t. N t && not (member c₀ t)))
-            ∙ howMany-cong (64 * m) (λ t. (A t && not (member c₀ t)) || (N t && not (member c₀ t))) (λ t. anyBelow (w + 1) (λ v. enters m W₀ P v t) && not (member c₀ t))
-            (λ t _. together (A t) (N t) (member c₀ t) ∙ ap (λ (x : Bool). x && not (member c₀ t)) (sym (any-more w (λ v. enters m W₀ P v t))));
-        zero =
-            ap₂ _||_ (h .zero) (ez ∙ ap (λ (x : List ℕ). P w 0 && not (member x 0)) part)
-            ∙ sym (any-more w (λ v. enters m W₀ P v 0));
-      }
-
-  -- all four wheels
-  pub record Passed (c W : List ℕ) (new : ℕ) (first : Bool) : Type 0 where
-    pub credited : c ≡ contactOf m c₀ W₀ P .credited
-    pub wheels : W ≡ contactOf m c₀ W₀ P .wheels
-    pub fresh : new ≡ contactOf m c₀ W₀ P .fresh
-    pub zero : first ≡ contactOf m c₀ W₀ P .zero
-
-  pub all-wheels : (c W tested touched : List ℕ) (new : ℕ) (first : Bool) (w : ℕ) → length W₀ ≡ 4 * m → 4 ≤ w → Wheeled m c₀ W₀ P c W tested touched new first w → Passed c W new first
-  unfolding contactOf entered
-  all-wheels c W tested touched new first w l b h =
-      let four : w ≡ 4 = omega (arith, h .bound) in
-      record {
-        credited = h .credited ∙ ap (λ (k : ℕ). setOf m (λ t. member c₀ t || anyBelow k (λ v. enters m W₀ P v t))) four;
-        wheels = h .wheels ∙ ap (λ (k : ℕ). wheelSets m P k ++ drop (k * m) W₀) four ∙ ap (λ (x : List ℕ). wheelSets m P 4 ++ x) (drop-of-length-le W₀ (le-of-eq l)) ∙ append-nil (wheelSets m P 4);
-        fresh = h .fresh ∙ ap (λ (k : ℕ). howMany (64 * m) (λ t. anyBelow k (λ v. enters m W₀ P v t) && not (member c₀ t))) four;
-        zero = h .zero ∙ ap (λ (k : ℕ). anyBelow k (λ v. enters m W₀ P v 0)) four;
-      }
+end-within : (w k m : ℕ) → w < k → w * m + m ≤ k * m
+end-within w k m h = le-trans (le-of-eq (sym (suc-mul w m))) (mul-le-mul-right m h)
 
 -- a wheel's words end within those of the four wheels
-pub within-four : (w m : ℕ) → w < 4 → w * m + m ≤ 4 * m
-within-four w m h = le-trans (le-of-eq (next w m)) (mul-le-mul-right m (omega arith))
+part-ends : (w m : ℕ) {d : ℕ} → d ≡ 4 * m → w < 4 → w * m + m ≤ d
+part-ends w m e h = subst (λ (x : ℕ). w * m + m ≤ x) (sym e) (end-within w 4 m h)
 
--- the four wheels' words keep their number
-pub wheels-long : (m : ℕ) (c₀ W₀ : List ℕ) (P : ℕ → ℕ → Bool) (c W tested touched : List ℕ) (new : ℕ) (first : Bool) (w : ℕ) → length W₀ ≡ 4 * m
-    → Wheeled m c₀ W₀ P c W tested touched new first w → length W ≡ 4 * m
-wheels-long m c₀ W₀ P c W tested touched new first w l h =
-    let b : w * m ≤ 4 * m = mul-le-mul-right m (h .bound) in
-    ap length (h .wheels) ∙ length-append (wheelSets m P w) (drop (w * m) W₀) ∙ ap₂ _+_ (sets-long m P w) (length-drop (w * m) W₀) ∙ omega (arith, b, l)
+sets-long : (m : ℕ) (P : ℕ → ℕ → Bool) (w : ℕ) → length (wheelSets m P w) ≡ w * m
+unfolding wheelSets
+sets-long m P zero = sym (zero-mul m)
+sets-long m P (suc w) = length-append (wheelSets m P w) (setOf m (P w)) ∙ ap₂ _+_ (sets-long m P w) (length-setOf m (P w)) ∙ sym (suc-mul w m)
 
--- the credited words keep theirs
-pub credited-long : (m : ℕ) (c₀ W₀ : List ℕ) (P : ℕ → ℕ → Bool) (c W tested touched : List ℕ) (new : ℕ) (first : Bool) (w : ℕ) → Wheeled m c₀ W₀ P c W tested touched new first w → length c ≡ m
-credited-long m c₀ W₀ P c W tested touched new first w h = ap length (h .credited) ∙ length-setOf m (λ t. member c₀ t || anyBelow w (λ v. enters m W₀ P v t))
+drop-long : (a d m : ℕ) → a + m ≤ d → m ≤ d - a
+drop-long a d m h = omega arith
+
+part-before : (m w : ℕ) (a b : List ℕ) → w * m + m ≤ length a → take m (drop (w * m) (a ++ b)) ≡ take m (drop (w * m) a)
+part-before m w a b h =
+    ap (take m) (drop-append-le (w * m) a b (omega arith))
+    ∙ take-append-le m (drop (w * m) a) b (subst (λ (x : ℕ). m ≤ x) (sym (length-drop (w * m) a)) (drop-long (w * m) (length a) m h))
+
+pub part-of : (m : ℕ) (P : ℕ → ℕ → Bool) (k w : ℕ) → w < k → wheelPart m (wheelSets m P k) w ≡ setOf m (P w)
+unfolding wheelPart wheelSets
+part-of m P zero w h = absurd (omega arith)
+part-of m P (suc k) w h =
+    elim (ℕ-discrete w k) [
+      | yes e ↦
+          ap (λ (x : ℕ). take m (drop (x * m) (wheelSets m P k ++ setOf m (P k)))) e
+          ∙ ap (take m) (drop-at (wheelSets m P k) (setOf m (P k)) (k * m) (sets-long m P k))
+          ∙ take-all m (setOf m (P k)) (le-of-eq (length-setOf m (P k)))
+          ∙ ap (λ (x : ℕ). setOf m (P x)) (sym e)
+      | no n ↦
+          part-before m w (wheelSets m P k) (setOf m (P k)) (subst (λ (x : ℕ). w * m + m ≤ x) (sym (sets-long m P k)) (end-within w k m (omega arith)))
+          ∙ part-of m P k w (omega arith)
+    ]
 
 -- a wheel's part has the words of one set
-pub part-long : (m w : ℕ) (W : List ℕ) → length W ≡ 4 * m → w < 4 → length (take (w * m + m - w * m) (drop (w * m) W)) ≡ m
+part-long : (m w : ℕ) (W : List ℕ) → length W ≡ 4 * m → w < 4 → length (wheelPart m W w) ≡ m
+unfolding wheelPart
 part-long m w W l h =
-    length-take-le (w * m + m - w * m) (drop (w * m) W) (subst (λ (x : ℕ). w * m + m - w * m ≤ x) (sym (length-drop (w * m) W)) (omega (arith, within-four w m h, l)))
-    ∙ size (w * m) m
+    length-take-le m (drop (w * m) W) (subst (λ (x : ℕ). m ≤ x) (sym (length-drop (w * m) W)) (drop-long (w * m) (length W) m (part-ends w m l h)))
 
--- one wheel, where the call speaks of m′ words and of the quad that it was given
-pub wheel-passed : (m : ℕ) (c₀ W₀ : List ℕ) (P : ℕ → ℕ → Bool) (m′ : ℕ) (Q : ℕ → Bool) (c W tested touched : List ℕ) (new : ℕ) (first : Bool) (w : ℕ) (c′ l′ tested′ touched′ : List ℕ) (f : ℕ) (z : Bool)
-    → m′ ≡ m → Q ≡ P w → Wheeled m c₀ W₀ P c W tested touched new first w → w < 4 → length tested′ ≡ m → length touched′ ≡ m
-    → c′ ≡ setOf m′ (λ t. member c t || (Q t && not (member (take (w * m + m - w * m) (drop (w * m) W)) t)))
-    → l′ ≡ setOf m′ Q
-    → f ≡ howMany (64 * m′) (λ t. (Q t && not (member (take (w * m + m - w * m) (drop (w * m) W)) t)) && not (member c t))
-    → z ≡ (Q 0 && not (member (take (w * m + m - w * m) (drop (w * m) W)) 0))
-    → Wheeled m c₀ W₀ P c′ (take (w * m) W ++ (l′ ++ drop (w * m + m - w * m) (drop (w * m) W))) tested′ touched′ (new + f) (first || z) (w + 1)
-wheel-passed m c₀ W₀ P m′ Q c W tested touched new first w c′ l′ tested′ touched′ f z em eq h b a d ec el ef ez =
-    let part = take (w * m + m - w * m) (drop (w * m) W) in
-    one-wheel m c₀ W₀ P c W tested touched new first w c′ l′ (take (w * m) W ++ (l′ ++ drop (w * m + m - w * m) (drop (w * m) W))) tested′ touched′ f z h b a d
-    (ec ∙ (λ i. setOf (em i) (λ t. member c t || (eq i t && not (member part t)))))
-    (el ∙ (λ i. setOf (em i) (eq i)))
-    (ef ∙ (λ i. howMany (64 * em i) (λ t. (eq i t && not (member part t)) && not (member c t))))
-    (ez ∙ (λ i. eq i 0 && not (member part 0)))
-    refl
+-- the same part by its first word and the word after its last
+lent-part : (m w : ℕ) (W : List ℕ) → wheelPart m W w ≡ take (w * m + m - w * m) (drop (w * m) W)
+unfolding wheelPart
+lent-part m w W = ap (λ (k : ℕ). take k (drop (w * m) W)) (sym (size (w * m) m))
 
--- a test of all numbers below n holds of each
-pub every-below-at : (n : ℕ) (p : ℕ → Bool) (i : ℕ) → everyBelow n p ≡ true → i < n → p i ≡ true
-unfolding everyBelow
-every-below-at zero p i e h = absurd (omega arith)
-every-below-at (suc n) p i e h =
-    elim (decLt i n) [
-      | yes l ↦ every-below-at n p i (and-left (everyBelow n p) (p n) e) l
-      | no l ↦ subst (λ (k : ℕ). p k ≡ true) (same i n h l) (and-right (everyBelow n p) (p n) e)
-    ]
-  where
-    same : (a b : ℕ) → a < suc b → (a < b → ⊥) → b ≡ a
-    same a b u v = omega arith
+-- ---- touch: after w wheels
+pub record Touched (m : ℕ) (W₀ : List ℕ) (P : ℕ → ℕ → Bool) (W tested : List ℕ) (w : ℕ) : Type 0 where
+  pub bound : w ≤ 4
+  pub scratch : length tested ≡ m
+  pub long : length W ≡ 4 * m
+  pub wheels : W ≡ wheelSets m P w ++ drop (w * m) W₀
 
--- the four wheels' look-ups are sound, so wheel w's are
-pub sound-wheel : (offs l : List ℕ) (n : ℕ) (ps : List Pose) (w : ℕ) (q : List (List Float)) → soundPoses offs l n ps ≡ true → w < 4 → q ≡ quadOf ps w → soundQuad offs l n q ≡ true
-unfolding soundPoses
-sound-wheel offs l n ps w q h b e = ap (soundQuad offs l n) e ∙ every-below-at 4 (λ v. soundQuad offs l n (quadOf ps v)) w h b
+pub wheel-ends : {m w : ℕ} {W₀ W tested : List ℕ} {P : ℕ → ℕ → Bool} → Touched m W₀ P W tested w → w < 4 → w * m + m ≤ length W
+wheel-ends {m = m} {w = w} h b = part-ends w m (h .long) b
 
 -- the quad of a wheel by its pose
 pub wheel-is : (ps : List Pose) (w : ℕ) (q : List (List Float)) → q ≡ wheelQuad (poseAt ps w) → q ≡ quadOf ps w
 unfolding quadOf
 wheel-is ps w q e = e
 
--- no more new tiles than the words have bits
-pub fresh-few : (m : ℕ) (c₀ W₀ : List ℕ) (P : ℕ → ℕ → Bool) (c W tested touched : List ℕ) (new : ℕ) (first : Bool) (w : ℕ) → Wheeled m c₀ W₀ P c W tested touched new first w → new ≤ 64 * m
-fresh-few m c₀ W₀ P c W tested touched new first w h = subst (λ (x : ℕ). x ≤ 64 * m) (sym (h .fresh)) (few (64 * m) (λ t. anyBelow w (λ v. enters m W₀ P v t) && not (member c₀ t)))
+module _ (m : ℕ) (W₀ : List ℕ) (P : ℕ → ℕ → Bool) (l : length W₀ ≡ 4 * m) where
+  pub no-set : (tested : List ℕ) → length tested ≡ m → Touched m W₀ P W₀ tested 0
+  unfolding wheelSets
+  no-set tested a = record { bound = omega arith; scratch = a; long = l; wheels = sym (ap (λ (k : ℕ). drop k W₀) (zero-mul m)) }
 
--- the four parts of a contact, where the words' number is known by an equation
-pub full-passed : (m m′ : ℕ) (c₀ W₀ : List ℕ) (P : ℕ → ℕ → Bool) (c W : List ℕ) (new : ℕ) {first : Bool} → m′ ≡ m → c ≡ contactOf m′ c₀ W₀ P .credited → W ≡ contactOf m′ c₀ W₀ P .wheels
-    → new ≡ contactOf m′ c₀ W₀ P .fresh → first ≡ contactOf m′ c₀ W₀ P .zero → contacted c W new first ≡ contactOf m c₀ W₀ P
-full-passed m m′ c₀ W₀ P c W new e ec ew ef ez = (λ i. contacted (ec i) (ew i) (ef i) (ez i)) ∙ ap (λ (k : ℕ). contactOf k c₀ W₀ P) e
+  module _ (W tested : List ℕ) (w : ℕ) (h : Touched m W₀ P W tested w) (b : w < 4) where
+    -- the lent part has room for what the wheel touches
+    pub own-room : (n : ℕ) (ts : List Float) → n ≤ 64 * m → n * 8 ≤ length ts → Room 1 n ts tested (take (w * m + m - w * m) (drop (w * m) W))
+    own-room n ts a d =
+        let k = ap length (sym (lent-part m w W)) ∙ part-long m w W (h .long) b in
+        record { sets = omega (arith, k, h .scratch); words = omega (arith, a, h .scratch); tiles = d }
+
+    rest : drop (w * m + m - w * m) (drop (w * m) W) ≡ drop ((w + 1) * m) W₀
+    rest =
+        ap₂ (λ (k : ℕ) (x : List ℕ). drop k x) (size (w * m) m) (ap (drop (w * m)) (h .wheels) ∙ drop-at (wheelSets m P w) (drop (w * m) W₀) (w * m) (sets-long m P w))
+        ∙ drop-drop m (w * m) W₀ ∙ ap (λ (k : ℕ). drop k W₀) (next w m)
+
+    pub one-set : (tested′ part : List ℕ) (Q : ℕ → Bool) → length tested′ ≡ length tested → part ≡ setOf (length tested) Q → Q ≡ P w
+        → Touched m W₀ P (take (w * m) W ++ (part ++ drop (w * m + m - w * m) (drop (w * m) W))) tested′ (w + 1)
+    unfolding wheelSets
+    one-set tested′ part Q a e q =
+        let whole : take (w * m) W ++ (part ++ drop (w * m + m - w * m) (drop (w * m) W)) ≡ wheelSets m P (w + 1) ++ drop ((w + 1) * m) W₀ =
+        ap₂ (λ (x y : List ℕ). x ++ y) (ap (take (w * m)) (h .wheels) ∙ take-at (wheelSets m P w) (drop (w * m) W₀) (w * m) (sets-long m P w))
+        (ap₂ (λ (x y : List ℕ). x ++ y) (e ∙ ap₂ setOf (h .scratch) q) rest)
+        ∙ sym (append-assoc (wheelSets m P w) (setOf m (P w)) (drop ((w + 1) * m) W₀))
+        ∙ ap (λ (k : ℕ). wheelSets m P k ++ drop ((w + 1) * m) W₀) (sym (add-one w)) in
+        record {
+          bound = omega arith;
+          scratch = a ∙ h .scratch;
+          long =
+              ap length whole ∙ length-append (wheelSets m P (w + 1)) (drop ((w + 1) * m) W₀)
+              ∙ ap₂ _+_ (sets-long m P (w + 1)) (length-drop ((w + 1) * m) W₀) ∙ omega (arith, part-ends w m l b, next w m, l);
+          wheels = whole;
+        }
+
+  pub four-sets : (W tested : List ℕ) (w : ℕ) → 4 ≤ w → Touched m W₀ P W tested w → W ≡ wheelSets m P 4
+  four-sets W tested w b h =
+      let four : w ≡ 4 = omega (arith, h .bound) in
+      h .wheels ∙ ap (λ (k : ℕ). wheelSets m P k ++ drop (k * m) W₀) four ∙ ap (λ (x : List ℕ). wheelSets m P 4 ++ x) (drop-of-length-le W₀ (le-of-eq l)) ∙ append-nil (wheelSets m P 4)
+
+-- ---- credit: what is entered, a part of it after the other
+pub no-credit : (c : List ℕ) (F : ℕ → ℕ → Bool) → Fit c → credits c 0 false ≡ creditsOf c (λ t. anyBelow 0 (λ w. F w t))
+unfolding creditsOf anyBelow
+no-credit c F f = λ i. credits (is-setOf (length c) c (λ t. member c t || false) refl f (λ t _. sym (or-false (member c t))) i) (sym (howMany-false (64 * length c)) i) false
+
+-- the new tiles of two parts, one after the other
+apart : (A N C : Bool) → (N && not (C || A)) ≡ ((N && not C) && not (A && not C))
+apart A true true = refl
+apart true true false = refl
+apart false true false = refl
+apart A false C = refl
+
+module _ (c₀ c : List ℕ) (E : ℕ → Bool) {new : ℕ} {first : Bool} (h : credits c new first ≡ creditsOf c₀ E) where
+  pub credited-is : c ≡ setOf (length c₀) (λ t. member c₀ t || E t)
+  unfolding creditsOf
+  credited-is = ap (λ (r : Credits). r .credited) h
+
+  pub credited-long : length c ≡ length c₀
+  credited-long = ap length credited-is ∙ length-setOf (length c₀) (λ t. member c₀ t || E t)
+
+  fresh-is : new ≡ howMany (64 * length c₀) (λ t. E t && not (member c₀ t))
+  unfolding creditsOf
+  fresh-is = ap (λ (r : Credits). r .fresh) h
+
+  -- no more new tiles than the words have bits
+  pub few-credits : new ≤ 64 * length c₀
+  few-credits = subst (λ (x : ℕ). x ≤ 64 * length c₀) (sym fresh-is) (few (64 * length c₀) (λ t. E t && not (member c₀ t)))
+
+  pub more-credit : (c′ : List ℕ) (N : ℕ → Bool) {f : ℕ} {z : Bool} → credits c′ f z ≡ creditsOf c N → credits c′ (new + f) (first || z) ≡ creditsOf c₀ (λ t. E t || N t)
+  unfolding creditsOf
+  more-credit c′ N k =
+      let m = length c₀ in
+      let k′ = k ∙ ap (λ (x : ℕ). credits (setOf x (λ t. member c t || N t)) (howMany (64 * x) (λ t. N t && not (member c t))) (N 0)) credited-long in
+      let inside : (t : ℕ) → t < 64 * m → member c t ≡ (member c₀ t || E t) = λ t b. ap (λ (x : List ℕ). member x t) credited-is ∙ member-setOf m t (λ u. member c₀ u || E u) b in
+      let all = or-chain m c c′ (λ t. member c₀ t || E t) N credited-is (ap (λ (r : Credits). r .credited) k′)
+      ∙ setOf-cong m (λ t. (member c₀ t || E t) || N t) (λ t. member c₀ t || (E t || N t)) (λ t _. or-assoc (member c₀ t) (E t) (N t)) in
+      let count =
+      ap₂ _+_ fresh-is
+      (ap (λ (r : Credits). r .fresh) k′
+      ∙ howMany-cong (64 * m) (λ t. N t && not (member c t)) (λ t. (N t && not (member c₀ t)) && not (E t && not (member c₀ t)))
+      (λ t b. ap (λ (x : Bool). N t && not x) (inside t b) ∙ apart (E t) (N t) (member c₀ t)))
+      ∙ sym (howMany-or (64 * m) (λ t. E t && not (member c₀ t)) (λ t. N t && not (member c₀ t)))
+      ∙ howMany-cong (64 * m) (λ t. (E t && not (member c₀ t)) || (N t && not (member c₀ t))) (λ t. (E t || N t) && not (member c₀ t))
+      (λ t _. sym (and-or-distrib-right (E t) (N t) (not (member c₀ t)))) in
+      λ i. credits (all i) (count i) (h i .zero || k′ i .zero)
+
+-- one wheel more, by its parts of the four wheels' words
+pub parts-end : {m n w : ℕ} {B W : List ℕ} → AllCreditable m n B W → w < 4 → (w * m + m ≤ length B) × (w * m + m ≤ length W)
+parts-end {m = m} {w = w} h b = (part-ends w m (h .last) b, part-ends w m (h .long) b)
+
+module _ (n : ℕ) (c₀ B W : List ℕ) where
+  abbrev m : ℕ
+  m = length c₀
+
+  abbrev pub byWheels : ℕ → ℕ → Bool
+  byWheels w t = anyBelow w (λ v. enters m B (inSets m W) v t)
+
+  pub own-credit : (w m′ : ℕ) → AllCreditable m n B W → w < 4 → m′ ≡ m → Creditable m′ n (take (w * m + m - w * m) (drop (w * m) B)) (take (w * m + m - w * m) (drop (w * m) W))
+  own-credit w m′ h b e =
+      let k = subst (λ (x : ℕ). Creditable x n (wheelPart m B w) (wheelPart m W w)) (sym e) (h .each w b) in
+      let l = subst (λ (x : List ℕ). Creditable m′ n x (wheelPart m W w)) (lent-part m w B) k in
+      subst (λ (x : List ℕ). Creditable m′ n (take (w * m + m - w * m) (drop (w * m) B)) x) (lent-part m w W) l
+
+  pub one-credit : (w : ℕ) (c c′ : List ℕ) {new f : ℕ} {first z : Bool} → credits c new first ≡ creditsOf c₀ (byWheels w)
+      → credits c′ f z ≡ creditsOf c (λ t. member (take (w * m + m - w * m) (drop (w * m) W)) t && not (member (take (w * m + m - w * m) (drop (w * m) B)) t))
+      → credits c′ (new + f) (first || z) ≡ creditsOf c₀ (byWheels (w + 1))
+  unfolding anyBelow enters
+  one-credit w c c′ h k =
+      more-credit c₀ c (byWheels w) h c′ (λ t. enters m B (inSets m W) w t)
+      (k ∙ ap₂ (λ (x y : List ℕ). creditsOf c (λ t. member x t && not (member y t))) (sym (lent-part m w W)) (sym (lent-part m w B)))
+      ∙ ap (λ (k : ℕ). creditsOf c₀ (byWheels k)) (sym (add-one w))
+
+  pub four-credits : (w : ℕ) (c : List ℕ) {new : ℕ} {first : Bool} → w ≤ 4 → 4 ≤ w → credits c new first ≡ creditsOf c₀ (byWheels w) → credits c new first ≡ creditsOf c₀ (enteredSince m B W)
+  unfolding entered
+  four-credits w c a b h = let four : w ≡ 4 = omega arith in h ∙ ap (λ (k : ℕ). creditsOf c₀ (byWheels k)) four
+
+-- ---- the contact: touch, then credit
+module _ (m : ℕ) (W₀ : List ℕ) (P : ℕ → ℕ → Bool) (W : List ℕ) (e : W ≡ wheelSets m P 4) where
+  -- wheel w's set holds what it touches
+  in-set : (w t : ℕ) → w < 4 → t < 64 * m → inSets m W w t ≡ P w t
+  in-set w t b l = ap (λ (x : List ℕ). member (wheelPart m x w) t) e ∙ ap (λ (x : List ℕ). member x t) (part-of m P 4 w b) ∙ member-setOf m t (P w) l
+
+  entered-is : (t : ℕ) → t < 64 * m → enteredSince m W₀ W t ≡ entered m W₀ P t
+  unfolding entered enters
+  entered-is t l = any-cong 4 _ _ (λ w b. ap (λ (x : Bool). x && not (member (wheelPart m W₀ w) t)) (in-set w t b l))
+
+  pub contact-made : (c₀ c : List ℕ) {new : ℕ} {first : Bool} → length c₀ ≡ m → 0 < 64 * m → credits c new first ≡ creditsOf c₀ (enteredSince (length c₀) W₀ W)
+      → contacted c W new first ≡ contactOf m c₀ W₀ P
+  unfolding contactOf creditsOf
+  contact-made c₀ c {new} {first} s b k =
+      let E = enteredSince m W₀ W in
+      let h : credits c new first ≡ credits (setOf m (λ t. member c₀ t || E t)) (howMany (64 * m) (λ t. E t && not (member c₀ t))) (E 0) =
+      k ∙ ap (λ (x : ℕ). credits (setOf x (λ t. member c₀ t || enteredSince x W₀ W t)) (howMany (64 * x) (λ t. enteredSince x W₀ W t && not (member c₀ t))) (enteredSince x W₀ W 0)) s in
+      λ i. contacted ((ap (λ (r : Credits). r .credited) h ∙ setOf-cong m _ _ (λ t l. ap (λ (x : Bool). member c₀ t || x) (entered-is t l))) i) (e i)
+      ((ap (λ (r : Credits). r .fresh) h ∙ howMany-cong (64 * m) _ _ (λ t l. ap (λ (x : Bool). x && not (member c₀ t)) (entered-is t l))) i)
+      ((ap (λ (r : Credits). r .zero) h ∙ entered-is 0 b) i)
+
+-- what four wheels touch by sound look-ups may be credited
+pub touched-creditable : (m m′ n : ℕ) (W₀ W : List ℕ) (ts : List Float) (offs l ks : List ℕ) (ps : List Pose) → W ≡ wheelSets m (λ w. touchedBy ts offs l (quadOf ps w)) 4 → m′ ≡ m → length W₀ ≡ 4 * m
+    → 64 * m < 2 ^ 32 → 0 < n → n ≤ 64 * m → Looked offs l n (sixteenCells ps) ks → AllCreditable m′ n W₀ W
+touched-creditable m m′ n W₀ W ts offs l ks ps e s lb small some few look =
+    let P : ℕ → ℕ → Bool = λ w. touchedBy ts offs l (quadOf ps w) in
+    let lw : length W ≡ 4 * m = ap length e ∙ sets-long m P 4 in
+    subst (λ (x : ℕ). AllCreditable x n W₀ W) (sym s) (record {
+      last = lb;
+      long = lw;
+      each = λ w b. record {
+        last = part-long m w W₀ lb b;
+        long = part-long m w W lw b;
+        small = small;
+        some = some;
+        few = few;
+        past = λ t a u. in-set m W₀ P W e w t b u ∙ untouched ts offs l n (quadOf ps w) _ t (own-cells offs l n ps w ks (quadOf ps w) look b refl) a;
+      };
+    })

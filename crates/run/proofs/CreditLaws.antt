@@ -48,7 +48,7 @@ empty-words m ws el h = is-setOf m ws (λ t. false) el fit (λ t b. ap (λ (w : 
 pub ones-few : (w : ℕ) → w < 2 ^ 64 → ones w ≤ 64
 ones-few w h = subst (λ (x : ℕ). x ≤ 64) (sym (ones-bits w h)) (few 64 (bitOf w))
 
-howMany-false : (n : ℕ) → howMany n (λ t. false) ≡ 0
+pub howMany-false : (n : ℕ) → howMany n (λ t. false) ≡ 0
 unfolding howMany
 howMany-false zero = refl
 howMany-false (suc n) = ap (λ (x : ℕ). x + 0) (howMany-false n)

@@ -2,9 +2,9 @@ pub mod WordLaws
 pub mod CreditLaws
 pub mod TouchLaws
 pub mod CellLaws
+pub mod BelowLaws
 pub mod ContactLaws
 pub mod CallLaws
-pub mod InPlaceLaws
 pub mod Literals
 pub mod SmallForces
 pub mod MotorLaw
@@ -14,7 +14,6 @@ pub mod DriveLaws
 pub mod RoadLaws
 pub mod Examples
 pub mod SheetLaws
-pub mod BelowLaws
 pub mod PlainContact
 pub mod SetMembers
 pub mod ScoreLaws

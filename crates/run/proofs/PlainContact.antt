@@ -1,51 +1,18 @@
 -- A contact on sets of words that hold the tiles touched before, and those of each wheel at the contact before, leaves sets that hold them after it.
 -- For any number of words. Assumes nothing.
-use mathlib.Core.Bool.{Bool, true, false, not, _&&_, _||_, and-false}
+use mathlib.Core.Bool.{Bool, false, not, _&&_, _||_}
 use mathlib.Core.List.{List, _++_}
-use mathlib.Core.Path.{_≡_, refl, sym, ap, ap₂, _∙_, subst}
-use Prim.Native.Nat.{ℕ, zero, suc, _+_, _-_, _*_, _≤_, _<_}
-use native.Mathlib.Nat.{le-trans, le-of-eq, suc-mul, mul-le-mul-right}
+use mathlib.Core.Path.{_≡_, refl, sym, ap, ap₂, _∙_}
+use Prim.Native.Nat.{ℕ, zero, suc, _*_, _≤_, _<_}
 use native.Mathlib.Omega.{arith}
-use native.Mathlib.Decide.{ℕ-discrete}
-use lib.Dec.{ltb}
-use lib.ListN.{length, take, drop, length-drop}
-use lib.Seq.{take-all, take-append-le, drop-append-le, drop-at}
-use borrow.Author.Tests.{lt-ltb, le-ltb}
 use Rattle.run.specs.Below.{anyBelow, howMany}
 use Rattle.run.specs.Words.{member, setOf}
-use Rattle.run.specs.Contact.{wheelPart, enters, entered, wheelSets, Contacted, contacted, contactOf}
+use Rattle.run.specs.Contact.{wheelPart, enters, entered, wheelSets, contacted, contactOf}
 use Rattle.run.specs.Grip.{onRoad}
-use Rattle.run.proofs.WordLaws.{member-setOf, setOf-cong, length-setOf, howMany-cong}
-use Rattle.run.proofs.ContactLaws.{sets-long, within-four}
+use Rattle.run.proofs.WordLaws.{member-setOf, setOf-cong, howMany-cong}
+use Rattle.run.proofs.ContactLaws.{part-of}
 use Rattle.run.proofs.AnyLaws.{any-none}
 use Rattle.run.proofs.BelowLaws.{any-cong, below, below-in, below-out, by-side, any-within, howMany-within, any-entered, and-else, or-else}
-
--- ---- the set of wheel w among those of k wheels
-drop-long : (a d m : ℕ) → a + m ≤ d → m ≤ d - a
-drop-long a d m h = omega arith
-
-part-before : (m w : ℕ) (a b : List ℕ) → w * m + m ≤ length a → take m (drop (w * m) (a ++ b)) ≡ take m (drop (w * m) a)
-part-before m w a b h =
-    ap (take m) (drop-append-le (w * m) a b (omega arith))
-    ∙ take-append-le m (drop (w * m) a) b (subst (λ (x : ℕ). m ≤ x) (sym (length-drop (w * m) a)) (drop-long (w * m) (length a) m h))
-
-end-within : (w k m : ℕ) → w < k → w * m + m ≤ k * m
-end-within w k m h = le-trans (le-of-eq (sym (suc-mul w m))) (mul-le-mul-right m h)
-
-pub part-of : (m : ℕ) (P : ℕ → ℕ → Bool) (k w : ℕ) → w < k → wheelPart m (wheelSets m P k) w ≡ setOf m (P w)
-unfolding wheelPart wheelSets
-part-of m P zero w h = absurd (omega arith)
-part-of m P (suc k) w h =
-    elim (ℕ-discrete w k) [
-      | yes e ↦
-          ap (λ (x : ℕ). take m (drop (x * m) (wheelSets m P k ++ setOf m (P k)))) e
-          ∙ ap (take m) (drop-at (wheelSets m P k) (setOf m (P k)) (k * m) (sets-long m P k))
-          ∙ take-all m (setOf m (P k)) (le-of-eq (length-setOf m (P k)))
-          ∙ ap (λ (x : ℕ). setOf m (P x)) (sym e)
-      | no n ↦
-          part-before m w (wheelSets m P k) (setOf m (P k)) (subst (λ (x : ℕ). w * m + m ≤ x) (sym (sets-long m P k)) (end-within w k m (omega arith)))
-          ∙ part-of m P k w (omega arith)
-    ]
 
 pub sets-cong : (m : ℕ) (P Q : ℕ → ℕ → Bool) (k : ℕ) → ((w t : ℕ) → w < k → P w t ≡ Q w t) → wheelSets m P k ≡ wheelSets m Q k
 unfolding wheelSets

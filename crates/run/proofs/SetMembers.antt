@@ -10,7 +10,8 @@ use Rattle.run.specs.Words.{bitOf, member, setOf}
 use Rattle.run.specs.Contact.{wheelPart}
 use Rattle.run.proofs.WordLaws.{member-setOf, length-setOf, bit-none}
 use Rattle.run.proofs.BelowLaws.{below, below-out, by-side}
-use Rattle.run.proofs.PlainContact.{creditedBy, wheelsBy, part-of}
+use Rattle.run.proofs.PlainContact.{creditedBy, wheelsBy}
+use Rattle.run.proofs.ContactLaws.{part-of}
 
 -- no tile stands past the words
 past-words : (m t : ℕ) (p : ℕ → Bool) → 64 * m ≤ t → member (setOf m p) t ≡ false

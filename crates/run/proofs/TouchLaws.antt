@@ -1,5 +1,5 @@
 -- Laws of tests over lists, and one tile's test: what is tested and touched afterwards. Assumes nothing.
-use mathlib.Core.Bool.{Bool, true, false, not, _&&_, _||_, false≢true}
+use mathlib.Core.Bool.{Bool, true, false, _&&_, _||_, false≢true, and-true, and-false, and-assoc, or-true, or-false, or-assoc}
 use mathlib.Core.List.{List, [], _∷_, _++_}
 use mathlib.Core.Path.{_≡_, refl, sym, ap, ap₂, _∙_, subst}
 use Prim.Native.Nat.{ℕ, zero, suc, _+_, _*_, _≤_, _<_}
@@ -17,36 +17,20 @@ use Rattle.run.specs.Words.{member, setOf}
 use Rattle.course.specs.Index.{partOk, lookup}
 use Rattle.run.specs.Overlap.{overlapOf}
 use Rattle.run.specs.Wheel.{boxCells}
-use Rattle.run.specs.Touch.{tileOf, lists, listedBy, touchedBy, soundCell, soundQuad}
-use Rattle.run.specs.TouchSteps.{Tested}
+use Rattle.run.specs.Touch.{tileOf, lists, listedBy, touchedBy, soundCell}
+use Rattle.run.specs.TouchSteps.{overlapsTile, Tested, Tests, Room, Looked}
 use Rattle.run.proofs.WordLaws.{member-setOf, setOf-cong, or-chain}
 
 -- ---- tests over lists
-pub or-false : (b : Bool) → (b || false) ≡ b
-or-false true = refl
-or-false false = refl
-
-and-true : (b : Bool) → (b && true) ≡ b
-and-true true = refl
-and-true false = refl
-
-pub or-assoc : (a b c : Bool) → (a || (b || c)) ≡ ((a || b) || c)
-or-assoc true b c = refl
-or-assoc false b c = refl
-
-and-assoc : (a b c : Bool) → (a && (b && c)) ≡ ((a && b) && c)
-and-assoc true b c = refl
-and-assoc false b c = refl
-
 pub some-end : (p : ℕ → Bool) (xs : List ℕ) (x : ℕ) → someOf p (xs ++ (x ∷ [])) ≡ (someOf p xs || p x)
 unfolding someOf
 some-end p [] x = or-false (p x)
-some-end p (y ∷ xs) x = ap (λ (b : Bool). p y || b) (some-end p xs x) ∙ or-assoc (p y) (someOf p xs) (p x)
+some-end p (y ∷ xs) x = ap (λ (b : Bool). p y || b) (some-end p xs x) ∙ sym (or-assoc (p y) (someOf p xs) (p x))
 
 every-end : (p : ℕ → Bool) (xs : List ℕ) (x : ℕ) → everyOf p (xs ++ (x ∷ [])) ≡ (everyOf p xs && p x)
 unfolding everyOf
 every-end p [] x = and-true (p x)
-every-end p (y ∷ xs) x = ap (λ (b : Bool). p y && b) (every-end p xs x) ∙ and-assoc (p y) (everyOf p xs) (p x)
+every-end p (y ∷ xs) x = ap (λ (b : Bool). p y && b) (every-end p xs x) ∙ sym (and-assoc (p y) (everyOf p xs) (p x))
 
 pub some-take : (p : ℕ → Bool) (xs : List ℕ) (i : ℕ) → i < length xs → someOf p (take (i + 1) xs) ≡ (someOf p (take i xs) || p (getD xs i 0))
 some-take p xs i h = ap (λ (k : ℕ). someOf p (take k xs)) (add-one i) ∙ ap (someOf p) (take-suc xs i 0 h) ∙ some-end p (take i xs) (getD xs i 0)
@@ -84,10 +68,6 @@ module _ (m : ℕ) (o L : ℕ → Bool) (tested touched : List ℕ) (id : ℕ) (
   at-id : (t : ℕ) (p : Bool → Bool) (q : Bool) → (t ≡ id → q ≡ p true) → ((t ≡ id → ⊥) → q ≡ p false) → q ≡ p (eqb t id)
   at-id t p q f g = elim (ℕ-discrete t id) [ yes e ↦ f e ∙ ap p (sym (eq-eqb t id e)) | no n ↦ g n ∙ ap p (sym (ne-eqb t id n)) ]
 
-  or-true : (a : Bool) → (a || true) ≡ true
-  or-true true = refl
-  or-true false = refl
-
   pub tested-before : member tested id ≡ true → Tested m o (λ t. L t || eqb t id) tested touched
   tested-before s =
       let same : (t : ℕ) → t < 64 * m → L t ≡ (L t || eqb t id) = λ t _.
@@ -106,13 +86,9 @@ module _ (m : ℕ) (o L : ℕ → Bool) (tested touched : List ℕ) (id : ℕ) (
             or-chain m touched touched′ (λ t. L t && o t) (λ t. eqb t id) (h .hit) c
             ∙ setOf-cong m (λ t. (L t && o t) || eqb t id) (λ t. (L t || eqb t id) && o t)
             (λ t _. sym (at-id t (λ x. (L t && o t) || x) ((L t || eqb t id) && o t)
-            (λ e. ap₂ (λ (x y : Bool). (L t || x) && y) (eq-eqb t id e) (ap o e ∙ s) ∙ both (L t) ∙ sym (or-true (L t && o t)))
+            (λ e. ap₂ (λ (x y : Bool). (L t || x) && y) (eq-eqb t id e) (ap o e ∙ s) ∙ and-true (L t || true) ∙ or-true (L t) ∙ sym (or-true (L t && o t)))
             (λ n. ap (λ (x : Bool). (L t || x) && o t) (ne-eqb t id n) ∙ ap (λ (x : Bool). x && o t) (or-false (L t)) ∙ sym (or-false (L t && o t)))));
       }
-    where
-      both : (a : Bool) → ((a || true) && true) ≡ true
-      both true = refl
-      both false = refl
 
   pub tested-miss : (tested′ : List ℕ) → o id ≡ false → tested′ ≡ setOf m (λ t. member tested t || eqb t id) → Tested m o (λ t. L t || eqb t id) tested′ touched
   tested-miss tested′ s a =
@@ -122,13 +98,9 @@ module _ (m : ℕ) (o L : ℕ → Bool) (tested touched : List ℕ) (id : ℕ) (
             h .hit
             ∙ setOf-cong m (λ t. L t && o t) (λ t. (L t || eqb t id) && o t)
             (λ t _. at-id t (λ x. (L t || x) && o t) (L t && o t)
-            (λ e. ap (λ (x : Bool). L t && x) (ap o e ∙ s) ∙ none (L t) ∙ sym (ap₂ (λ (x y : Bool). x && y) (or-true (L t)) (ap o e ∙ s)))
+            (λ e. ap (λ (x : Bool). L t && x) (ap o e ∙ s) ∙ and-false (L t) ∙ sym (ap₂ (λ (x y : Bool). x && y) (or-true (L t)) (ap o e ∙ s)))
             (λ n. ap (λ (x : Bool). x && o t) (sym (or-false (L t)))));
       }
-    where
-      none : (a : Bool) → (a && false) ≡ false
-      none true = refl
-      none false = refl
 
 -- tested by a test that is the same
 pub tested-cong : (m : ℕ) (o L M : ℕ → Bool) (tested touched : List ℕ) → ((t : ℕ) → t < 64 * m → L t ≡ M t) → Tested m o L tested touched → Tested m o M tested touched
@@ -143,21 +115,24 @@ pub tested-is : {m : ℕ} {o L : ℕ → Bool} {a a′ b b′ : List ℕ} → a�
 tested-is p q h = record { all = p ∙ h .all; hit = q ∙ h .hit }
 
 -- a further test N after M, where the words' number is known by an equation
-pub touch-more : (m m′ : ℕ) (o L M N Z : ℕ → Bool) (a b a′ b′ : List ℕ) → m′ ≡ m → ((K : ℕ → Bool) → Tested m′ o K a b → Tested m′ o (λ t. K t || N t) a′ b′)
+pub touch-more : (m : ℕ) (o L M N Z : ℕ → Bool) (a b a′ b′ : List ℕ) → length a ≡ m → Tests o N a b a′ b′
     → Tested m o (λ t. L t || M t) a b → ((t : ℕ) → (M t || N t) ≡ Z t) → Tested m o (λ t. L t || Z t) a′ b′
-touch-more m m′ o L M N Z a b a′ b′ e step h z =
-    tested-cong m o (λ t. (L t || M t) || N t) (λ t. L t || Z t) a′ b′ (λ t _. sym (or-assoc (L t) (M t) (N t)) ∙ ap (λ (x : Bool). L t || x) (z t))
+touch-more m o L M N Z a b a′ b′ e step h z =
+    tested-cong m o (λ t. (L t || M t) || N t) (λ t. L t || Z t) a′ b′ (λ t _. or-assoc (L t) (M t) (N t) ∙ ap (λ (x : Bool). L t || x) (z t))
     (subst (λ (k : ℕ). Tested k o (λ t. (L t || M t) || N t) a′ b′) e (step (λ t. L t || M t) (subst (λ (k : ℕ). Tested k o (λ t. L t || M t) a b) (sym e) h)))
 
 -- ---- a quad's four cells
+
+-- room for n tiles is room for fewer, in sets of the same widths
+pub room-for : {k n : ℕ} {ts : List Float} {a b : List ℕ} (i : ℕ) (a′ b′ : List ℕ) → Room k n ts a b → i ≤ n → length a′ ≡ length a → length b′ ≡ length b → Room k i ts a′ b′
+room-for {k = k} i a′ b′ h l p q = record { sets = q ∙ h .sets ∙ ap (λ (x : ℕ). k * x) (sym p); words = omega (arith, h .words, p, l); tiles = omega (arith, h .tiles, l) }
+
 -- the ids that a sound cell lists
-pub sound-ids : (offs l : List ℕ) (n : ℕ) (q : List (List Float)) (k ids : List ℕ) (i : ℕ) → soundQuad offs l n q ≡ true → k ≡ boxCells q → i < length k → ids ≡ lookup offs l (getD k i 0)
-    → everyOf (λ t. ltb t n) ids ≡ true
-unfolding soundQuad soundCell
-sound-ids offs l n q k ids i h e b r =
-    ap (everyOf (λ t. ltb t n)) (r ∙ ap (λ (x : List ℕ). lookup offs l (getD x i 0)) e)
-    ∙ and-right (partOk offs l (getD (boxCells q) i 0)) (everyOf (λ t. ltb t n) (lookup offs l (getD (boxCells q) i 0)))
-    (every-at (soundCell offs l n) (boxCells q) i h (subst (λ (x : List ℕ). i < length x) e b))
+pub sound-ids : (offs l : List ℕ) (n : ℕ) (wanted ks ids : List ℕ) (i : ℕ) → Looked offs l n wanted ks → i < length ks → ids ≡ lookup offs l (getD ks i 0) → everyOf (λ t. ltb t n) ids ≡ true
+unfolding soundCell
+sound-ids offs l n wanted ks ids i h b r =
+    ap (everyOf (λ t. ltb t n)) r
+    ∙ and-right (partOk offs l (getD ks i 0)) (everyOf (λ t. ltb t n) (lookup offs l (getD ks i 0))) (every-at (soundCell offs l n) ks i (h .sound) b)
 
 -- nothing tested yet
 pub none-tested : (m a b : ℕ) (o N : ℕ → Bool) (tested touched : List ℕ) → tested ≡ setOf a (λ t. false) → touched ≡ setOf b (λ t. false) → m ≡ a → b ≡ a → ((t : ℕ) → N t ≡ false)
@@ -170,11 +145,10 @@ none-tested m a b o N tested touched e f p q z =
 
 -- all four cells are done
 pub all-touched : (m m′ : ℕ) (ts : List Float) (offs l : List ℕ) (q : List (List Float)) (k tested touched : List ℕ) (i : ℕ) → m ≡ m′ → k ≡ boxCells q → length k ≤ i
-    → Tested m (λ t. overlapOf q (tileOf ts t)) (λ t. someOf (λ c. lists (lookup offs l c) t) (take i k)) tested touched → touched ≡ setOf m′ (touchedBy ts offs l q)
+    → Tested m (overlapsTile q ts) (λ t. someOf (λ c. lists (lookup offs l c) t) (take i k)) tested touched → touched ≡ setOf m′ (touchedBy ts offs l q)
 unfolding touchedBy listedBy
 all-touched m m′ ts offs l q k tested touched i em e b h =
-    h .hit ∙ ap (λ (x : List ℕ). setOf m (λ t. someOf (λ c. lists (lookup offs l c) t) x && overlapOf q (tileOf ts t))) (take-all i k b ∙ e)
-    ∙ ap (λ (x : ℕ). setOf x (λ t. someOf (λ c. lists (lookup offs l c) t) (boxCells q) && overlapOf q (tileOf ts t))) em
+    h .hit ∙ ap₂ (λ (n : ℕ) (x : List ℕ). setOf n (λ t. someOf (λ c. lists (lookup offs l c) t) x && overlapOf q (tileOf ts t))) em (take-all i k b ∙ e)
 
 -- ---- no tile from n on is touched, where the look-ups are sound
 none-listed : (n t : ℕ) (ids : List ℕ) → n ≤ t → everyOf (λ u. ltb u n) ids ≡ true → someOf (eqb t) ids ≡ false
@@ -192,6 +166,7 @@ none-in-cells offs l n t (k ∷ ks) b e =
     let own : everyOf (λ u. ltb u n) ids ≡ true = and-right (partOk offs l k) (everyOf (λ u. ltb u n) ids) (and-left (soundCell offs l n k) (everyOf (soundCell offs l n) ks) e) in
     ap₂ _||_ (none-listed n t ids b own) (none-in-cells offs l n t ks b (and-right (soundCell offs l n k) (everyOf (soundCell offs l n) ks) e))
 
-pub untouched : (ts : List Float) (offs l : List ℕ) (n : ℕ) (q : List (List Float)) (t : ℕ) → soundQuad offs l n q ≡ true → n ≤ t → touchedBy ts offs l q t ≡ false
-unfolding touchedBy listedBy soundQuad
-untouched ts offs l n q t h b = ap (λ (x : Bool). x && overlapOf q (tileOf ts t)) (none-in-cells offs l n t (boxCells q) b h)
+pub untouched : (ts : List Float) (offs l : List ℕ) (n : ℕ) (q : List (List Float)) (ks : List ℕ) (t : ℕ) → Looked offs l n (boxCells q) ks → n ≤ t → touchedBy ts offs l q t ≡ false
+unfolding touchedBy listedBy
+untouched ts offs l n q ks t h b =
+    ap (λ (x : Bool). x && overlapOf q (tileOf ts t)) (ap (someOf (λ c. lists (lookup offs l c) t)) (sym (h .are)) ∙ none-in-cells offs l n t ks b (h .sound))

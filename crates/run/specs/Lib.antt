@@ -5,8 +5,8 @@ pub mod State
 pub mod Overlap
 pub mod Wheel
 pub mod Touch
-pub mod TouchSteps
 pub mod Contact
+pub mod TouchSteps
 pub mod Widths
 pub mod Lap
 pub mod Start

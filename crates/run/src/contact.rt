@@ -1,15 +1,14 @@
-// One contact of four wheels over the lent course (document 01, "Touch"; the Rust's `contact_pass`), in
-// place over sets of any number of words.
+// One contact of four wheels over the lent course (document 01, "Touch"; the Rust's `contact_pass`), in place over sets
+// of any number of words: first what each wheel touches now, then the credit of what it entered.
 ghost use mathlib.Core.Path.{_≡_};
-ghost use mathlib.Core.Bool.{true, not, _&&_, _||_};
+ghost use mathlib.Core.Bool.{true, not, _&&_};
 ghost use Prim.Native.Nat.{_*_, _<_, _≤_};
 ghost use lib.ListN.{length};
-ghost use Rattle.run.specs.Words.{member, setOf};
-ghost use Rattle.run.specs.Below.{howMany};
-ghost use Rattle.run.specs.Wheel.{quadOf, boxCells};
-ghost use Rattle.run.specs.TouchSteps.{sixteenCells};
-ghost use Rattle.run.specs.Touch.{touchedBy, soundQuad, soundPoses};
-ghost use Rattle.run.specs.Contact.{contacted, contactOf};
+ghost use Rattle.run.specs.Words.{member};
+ghost use Rattle.run.specs.Wheel.{quadOf};
+ghost use Rattle.run.specs.TouchSteps.{sixteenCells, Room, Looked, Creditable, AllCreditable, credits, creditsOf, enteredSince};
+ghost use Rattle.run.specs.Touch.{touchedBy, soundPoses};
+ghost use Rattle.run.specs.Contact.{wheelSets, contacted, contactOf};
 ghost use Rattle.run.specs.Widths.{fullWords, mostTiles};
 use crate::quad;
 use crate::state::Pose;
@@ -24,54 +23,54 @@ pub(crate) struct Contact {
     pub zero: bool,
 }
 
-// One wheel's contact: what it enters is credited, and `last` becomes what it touches now.
-fn wheel_contact(
-    q: [[f64; 2]; 4],
-    cells: &[usize],
-    tiles: &[f64],
-    offsets: &[u32],
-    list: &[u32],
-    n: usize,
-    credited: &mut [u64],
-    last: &mut [u64],
-    tested: &mut [u64],
-    touched: &mut [u64],
-) -> Contact
-    requires { ⌜ (length (now last) ≡ length (now credited)) × (length (now tested) ≡ length (now credited)) × (length (now touched) ≡ length (now credited)) ⌝ }
-    requires { ⌜ (64 * length (now credited) < 4294967296) × (0 < n) × (n ≤ 64 * length (now credited)) ⌝ }
-    requires { ⌜ (n * 8 ≤ length (now tiles)) × (soundQuad (now offsets) (now list) n q ≡ true) × (now cells ≡ boxCells q) ⌝ }
-    ensures { λ r. ⌜ now (credited .exit) ≡ setOf (length (now (credited .entry))) (λ t. member (now (credited .entry)) t || (touchedBy (now (tiles .entry)) (now (offsets .entry)) (now (list .entry)) q t && not (member (now (last .entry)) t))) ⌝ }
-    ensures { λ r. ⌜ now (last .exit) ≡ setOf (length (now (credited .entry))) (touchedBy (now (tiles .entry)) (now (offsets .entry)) (now (list .entry)) q) ⌝ }
-    ensures { λ r. ⌜ r .fresh ≡ howMany (64 * length (now (credited .entry))) (λ t. (touchedBy (now (tiles .entry)) (now (offsets .entry)) (now (list .entry)) q t && not (member (now (last .entry)) t)) && not (member (now (credited .entry)) t)) ⌝ }
-    ensures { λ r. ⌜ r .zero ≡ (touchedBy (now (tiles .entry)) (now (offsets .entry)) (now (list .entry)) q 0 && not (member (now (last .entry)) 0)) ⌝ }
-{
-    touch::touch_quad(q, cells, tiles, offsets, list, n, tested, touched);
-    let zero = words::has(touched, 0) & !words::has(last, 0);
-    let fresh = words::credit(credited, last, touched, n);
-    words::copy(touched, last);
-    Contact { fresh, zero }
-}
-
-// The contact of four wheels by the cells of their boxes; `tested` and `touched` are scratch.
-fn contact_by_cells(
+// The sets of the four wheels become what each touches now; `tested` is scratch.
+fn touch_sets(
     poses: [Pose; 4],
     cells: &[usize],
     tiles: &[f64],
     offsets: &[u32],
     list: &[u32],
     n: usize,
-    credited: &mut [u64],
-    wheels: &mut [u64],
     tested: &mut [u64],
-    touched: &mut [u64],
-) -> Contact
-    requires { ⌜ (length (now wheels) ≡ 4 * length (now credited)) × (length (now tested) ≡ length (now credited)) × (length (now touched) ≡ length (now credited)) ⌝ }
-    requires { ⌜ (64 * length (now credited) < 4294967296) × (0 < n) × (n ≤ 64 * length (now credited)) ⌝ }
-    requires { ⌜ (n * 8 ≤ length (now tiles)) × (soundPoses (now offsets) (now list) n poses ≡ true) × (now cells ≡ sixteenCells poses) ⌝ }
-    ensures { λ r. ⌜ now (credited .exit) ≡ contactOf (length (now (credited .entry))) (now (credited .entry)) (now (wheels .entry)) (λ w. touchedBy (now (tiles .entry)) (now (offsets .entry)) (now (list .entry)) (quadOf poses w)) .credited ⌝ }
-    ensures { λ r. ⌜ now (wheels .exit) ≡ contactOf (length (now (credited .entry))) (now (credited .entry)) (now (wheels .entry)) (λ w. touchedBy (now (tiles .entry)) (now (offsets .entry)) (now (list .entry)) (quadOf poses w)) .wheels ⌝ }
-    ensures { λ r. ⌜ r .fresh ≡ contactOf (length (now (credited .entry))) (now (credited .entry)) (now (wheels .entry)) (λ w. touchedBy (now (tiles .entry)) (now (offsets .entry)) (now (list .entry)) (quadOf poses w)) .fresh ⌝ }
-    ensures { λ r. ⌜ r .zero ≡ contactOf (length (now (credited .entry))) (now (credited .entry)) (now (wheels .entry)) (λ w. touchedBy (now (tiles .entry)) (now (offsets .entry)) (now (list .entry)) (quadOf poses w)) .zero ⌝ }
+    wheels: &mut [u64],
+)
+    requires { ⌜ Room 4 n (now tiles) (now tested) (now wheels) ⌝ }
+    requires { ⌜ Looked (now offsets) (now list) n (sixteenCells poses) (now cells) ⌝ }
+    ensures { λ _. ⌜ now (wheels .exit) ≡ wheelSets (length (now (tested .entry))) (λ w. touchedBy (now (tiles .entry)) (now (offsets .entry)) (now (list .entry)) (quadOf poses w)) 4 ⌝ }
+{
+    let m = tested.len();
+    let mut w: usize = 0;
+    while w < 4 {
+        let from = w * m;
+        let q = quad::wheel_quad(poses[w]);
+        touch::touch_quad(
+            q,
+            &cells[w * 4..w * 4 + 4],
+            tiles,
+            offsets,
+            list,
+            n,
+            tested,
+            &mut wheels[from..from + m],
+        );
+        w += 1;
+    }
+}
+
+// What one wheel entered is credited: what is in its set now and was not in that before.
+fn credit_set(credited: &mut [u64], before: &[u64], wheel: &[u64], n: usize) -> Contact
+    requires { ⌜ Creditable (length (now credited)) n (now before) (now wheel) ⌝ }
+    ensures { λ r. ⌜ credits (now (credited .exit)) (r .fresh) (r .zero) ≡ creditsOf (now (credited .entry)) (λ t. member (now (wheel .entry)) t && not (member (now (before .entry)) t)) ⌝ }
+{
+    let zero = words::has(wheel, 0) & !words::has(before, 0);
+    let fresh = words::credit(credited, before, wheel, n);
+    Contact { fresh, zero }
+}
+
+// What the four wheels entered is credited.
+fn credit_sets(credited: &mut [u64], before: &[u64], wheels: &[u64], n: usize) -> Contact
+    requires { ⌜ AllCreditable (length (now credited)) n (now before) (now wheels) ⌝ }
+    ensures { λ r. ⌜ credits (now (credited .exit)) (r .fresh) (r .zero) ≡ creditsOf (now (credited .entry)) (enteredSince (length (now (credited .entry))) (now (before .entry)) (now (wheels .entry))) ⌝ }
 {
     let m = credited.len();
     let mut fresh: u32 = 0;
@@ -80,19 +79,7 @@ fn contact_by_cells(
     while w < 4 {
         let from = w * m;
         let to = from + m;
-        let q = quad::wheel_quad(poses[w]);
-        let k = wheel_contact(
-            q,
-            &cells[w * 4..w * 4 + 4],
-            tiles,
-            offsets,
-            list,
-            n,
-            credited,
-            &mut wheels[from..to],
-            tested,
-            touched,
-        );
+        let k = credit_set(credited, &before[from..to], &wheels[from..to], n);
         fresh += k.fresh;
         zero = zero | k.zero;
         w += 1;
@@ -100,66 +87,23 @@ fn contact_by_cells(
     Contact { fresh, zero }
 }
 
-// The same, the cells looked for here.
-pub(crate) fn contact_pass(
-    poses: [Pose; 4],
-    tiles: &[f64],
-    offsets: &[u32],
-    list: &[u32],
-    n: usize,
-    credited: &mut [u64],
-    wheels: &mut [u64],
-    tested: &mut [u64],
-    touched: &mut [u64],
-) -> Contact
-    requires { ⌜ (length (now wheels) ≡ 4 * length (now credited)) × (length (now tested) ≡ length (now credited)) × (length (now touched) ≡ length (now credited)) ⌝ }
-    requires { ⌜ (64 * length (now credited) < 4294967296) × (0 < n) × (n ≤ 64 * length (now credited)) ⌝ }
-    requires { ⌜ (n * 8 ≤ length (now tiles)) × (soundPoses (now offsets) (now list) n poses ≡ true) ⌝ }
-    ensures { λ r. ⌜ now (credited .exit) ≡ contactOf (length (now (credited .entry))) (now (credited .entry)) (now (wheels .entry)) (λ w. touchedBy (now (tiles .entry)) (now (offsets .entry)) (now (list .entry)) (quadOf poses w)) .credited ⌝ }
-    ensures { λ r. ⌜ now (wheels .exit) ≡ contactOf (length (now (credited .entry))) (now (credited .entry)) (now (wheels .entry)) (λ w. touchedBy (now (tiles .entry)) (now (offsets .entry)) (now (list .entry)) (quadOf poses w)) .wheels ⌝ }
-    ensures { λ r. ⌜ r .fresh ≡ contactOf (length (now (credited .entry))) (now (credited .entry)) (now (wheels .entry)) (λ w. touchedBy (now (tiles .entry)) (now (offsets .entry)) (now (list .entry)) (quadOf poses w)) .fresh ⌝ }
-    ensures { λ r. ⌜ r .zero ≡ contactOf (length (now (credited .entry))) (now (credited .entry)) (now (wheels .entry)) (λ w. touchedBy (now (tiles .entry)) (now (offsets .entry)) (now (list .entry)) (quadOf poses w)) .zero ⌝ }
-{
-    let cells = quad::wheel_cells(poses);
-    contact_by_cells(
-        poses,
-        &cells,
-        tiles,
-        offsets,
-        list,
-        n,
-        credited,
-        wheels,
-        tested,
-        touched,
-    )
-}
-
-// The same on the full state's sets. The parts are lent by their known length, which the compiler takes into the loops.
+// The contact of four wheels on the full state's sets, by the cells of the wheels' boxes.
 pub(crate) fn full_contact(
     poses: [Pose; 4],
+    cells: &[usize],
     tiles: &[f64],
     offsets: &[u32],
     list: &[u32],
     n: usize,
-    credited: &mut [u64],
-    wheels: &mut [u64],
+    credited: &mut [u64; FULL_WORDS],
+    wheels: &mut [u64; WHEEL_WORDS],
 ) -> Contact
-    requires { ⌜ (length (now credited) ≡ fullWords) × (length (now wheels) ≡ 4 * fullWords) ⌝ }
+    requires { ⌜ now cells ≡ sixteenCells poses ⌝ }
     requires { ⌜ (0 < n) × (n ≤ mostTiles) × (n * 8 ≤ length (now tiles)) × (soundPoses (now offsets) (now list) n poses ≡ true) ⌝ }
     ensures { λ r. ⌜ contacted (now (credited .exit)) (now (wheels .exit)) (r .fresh) (r .zero) ≡ contactOf fullWords (now (credited .entry)) (now (wheels .entry)) (λ w. touchedBy (now (tiles .entry)) (now (offsets .entry)) (now (list .entry)) (quadOf poses w)) ⌝ }
 {
     let mut tested = [0u64; FULL_WORDS];
-    let mut touched = [0u64; FULL_WORDS];
-    contact_pass(
-        poses,
-        tiles,
-        offsets,
-        list,
-        n,
-        &mut credited[..FULL_WORDS],
-        &mut wheels[..WHEEL_WORDS],
-        &mut tested,
-        &mut touched,
-    )
+    let before = *wheels;
+    touch_sets(poses, cells, tiles, offsets, list, n, &mut tested, wheels);
+    credit_sets(credited, &before, wheels, n)
 }

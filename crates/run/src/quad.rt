@@ -5,7 +5,7 @@ ghost use lib.ListN.{length};
 ghost use Rattle.course.specs.Tiles.{corner};
 ghost use Rattle.run.specs.Overlap.{leastOn, greatestOn, apartOn, apartAlong, apartByEdges, overlapOf};
 ghost use Rattle.run.specs.Wheel.{placed, wheelQuad, boxCells};
-ghost use Rattle.run.specs.TouchSteps.{firstSide, beyond, sixteenCells};
+ghost use Rattle.run.specs.TouchSteps.{firstSide, beyond, apartByOthers, sixteenCells};
 use crate::dynamics::SIZE;
 use crate::dynamics::WHEEL_R;
 use crate::state::Pose;
@@ -47,13 +47,10 @@ fn apart_on(nx: f64, ny: f64, a: [[f64; 2]; 4], b: [[f64; 2]; 4]) -> bool
     (greatest_on(nx, ny, a) < least_on(nx, ny, b)) | (greatest_on(nx, ny, b) < least_on(nx, ny, a))
 }
 
-// The quads lie apart on a normal of one of the four edges of q.
-fn apart_by_edges(q: [[f64; 2]; 4], a: [[f64; 2]; 4], b: [[f64; 2]; 4]) -> bool
-    ensures { λ r. ⌜ r ≡ apartByEdges q a b ⌝ }
+// The quads lie apart on a normal of one of the edges of q after the first.
+fn apart_by_others(q: [[f64; 2]; 4], a: [[f64; 2]; 4], b: [[f64; 2]; 4]) -> bool
+    ensures { λ r. ⌜ r ≡ apartByOthers q a b ⌝ }
 {
-    if apart_on(q[1][1] - q[0][1], q[0][0] - q[1][0], a, b) {
-        return true;
-    }
     if apart_on(q[2][1] - q[1][1], q[1][0] - q[2][0], a, b) {
         return true;
     }
@@ -63,14 +60,14 @@ fn apart_by_edges(q: [[f64; 2]; 4], a: [[f64; 2]; 4], b: [[f64; 2]; 4]) -> bool
     apart_on(q[0][1] - q[3][1], q[3][0] - q[0][0], a, b)
 }
 
-// Whether two quads overlap, by the eight normals of their edges.
-pub fn quad_overlap(a: [[f64; 2]; 4], b: [[f64; 2]; 4]) -> bool
-    ensures { λ r. ⌜ r ≡ overlapOf a b ⌝ }
+// The quads lie apart on a normal of one of the four edges of q.
+fn apart_by_edges(q: [[f64; 2]; 4], a: [[f64; 2]; 4], b: [[f64; 2]; 4]) -> bool
+    ensures { λ r. ⌜ r ≡ apartByEdges q a b ⌝ }
 {
-    if apart_by_edges(a, a, b) {
-        return false;
+    if apart_on(q[1][1] - q[0][1], q[0][0] - q[1][0], a, b) {
+        return true;
     }
-    !apart_by_edges(b, a, b)
+    apart_by_others(q, a, b)
 }
 
 // The normal (nx, ny) of a quad's first edge, and the quad's least and greatest projection on it.
@@ -93,10 +90,31 @@ pub(crate) fn first_side(q: [[f64; 2]; 4]) -> Side
 }
 
 // The quad lies apart from the side's own quad on the side's normal.
-pub(crate) fn is_beyond(s: Side, q: [[f64; 2]; 4]) -> bool
+fn is_beyond(s: Side, q: [[f64; 2]; 4]) -> bool
     ensures { λ r. ⌜ r ≡ beyond s q ⌝ }
 {
     (s.high < least_on(s.nx, s.ny, q)) | (greatest_on(s.nx, s.ny, q) < s.low)
+}
+
+// Whether two quads overlap, by the eight normals of their edges; the first side of `a` is made already.
+pub(crate) fn overlap_from(side: Side, a: [[f64; 2]; 4], b: [[f64; 2]; 4]) -> bool
+    requires { ⌜ side ≡ firstSide a ⌝ }
+    ensures { λ r. ⌜ r ≡ overlapOf a b ⌝ }
+{
+    if is_beyond(side, b) {
+        return false;
+    }
+    if apart_by_others(a, a, b) {
+        return false;
+    }
+    !apart_by_edges(b, a, b)
+}
+
+// Whether two quads overlap.
+pub fn quad_overlap(a: [[f64; 2]; 4], b: [[f64; 2]; 4]) -> bool
+    ensures { λ r. ⌜ r ≡ overlapOf a b ⌝ }
+{
+    overlap_from(first_side(a), a, b)
 }
 
 // The place (u, v) of a wheel's own frame under its pose.
@@ -137,26 +155,16 @@ pub fn box_cells(q: [[f64; 2]; 4]) -> [usize; 4]
 pub(crate) fn wheel_cells(poses: [Pose; 4]) -> [usize; 16]
     ensures { λ r. ⌜ r ≡ sixteenCells poses ⌝ }
 {
-    let a = box_cells(wheel_quad(poses[0]));
-    let b = box_cells(wheel_quad(poses[1]));
-    let c = box_cells(wheel_quad(poses[2]));
-    let d = box_cells(wheel_quad(poses[3]));
-    [
-        a[0],
-        a[1],
-        a[2],
-        a[3],
-        b[0],
-        b[1],
-        b[2],
-        b[3],
-        c[0],
-        c[1],
-        c[2],
-        c[3],
-        d[0],
-        d[1],
-        d[2],
-        d[3],
-    ]
+    let mut cells = [0usize; 16];
+    let mut w: usize = 0;
+    while w < 4 {
+        let c = box_cells(wheel_quad(poses[w]));
+        let at = 4 * w;
+        cells[at] = c[0];
+        cells[at + 1] = c[1];
+        cells[at + 2] = c[2];
+        cells[at + 3] = c[3];
+        w += 1;
+    }
+    cells
 }

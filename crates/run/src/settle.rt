@@ -4,8 +4,10 @@ ghost use Prim.Native.Nat.{_+_, _<_};
 ghost use Rattle.run.specs.Widths.{fullWords, mostTiles};
 ghost use Rattle.run.specs.State.{view, columns};
 ghost use Rattle.run.specs.Settle.{settleCause, settledProgress, settledParts, settlePartsOf, done, settleOf};
+ghost use Rattle.run.specs.TouchSteps.{sixteenCells};
 use crate::contact;
 use crate::lap;
+use crate::quad;
 use crate::state;
 use crate::state::Pose;
 use crate::state::Progress;
@@ -54,7 +56,9 @@ fn settle_cause(
     x: f64,
     y: f64,
     poses: [Pose; 4],
+    cells: &[usize],
 ) -> u32
+    requires { ⌜ now cells ≡ sixteenCells poses ⌝ }
     ensures { λ r. ⌜ r ≡ settleCause most setup progress (columns (now (tiles .entry)) (now (offsets .entry)) (now (list .entry))) x y poses ⌝ }
 {
     if state::is_unfit(most, setup, progress) | progress.ended {
@@ -72,7 +76,7 @@ fn settle_cause(
     if !((state::in_range(x) & state::in_range(y)) & state::poses_ok(poses)) {
         return 8;
     }
-    if !touch::poses_sound(offsets, list, setup.n as usize, poses) {
+    if !touch::cells_sound(offsets, list, setup.n as usize, cells) {
         return 10;
     }
     0
@@ -110,6 +114,7 @@ pub fn settle_parts(
 ) -> Settling
     ensures { λ r. ⌜ settledParts (r .answer) (r .progress) (now (credited .exit)) (now (wheels .exit)) ≡ settlePartsOf fullWords mostTiles setup progress (now (credited .entry)) (now (wheels .entry)) (columns (now (tiles .entry)) (now (offsets .entry)) (now (list .entry))) x y poses ⌝ }
 {
+    let cells = quad::wheel_cells(poses);
     let k = settle_cause(
         MOST_TILES,
         setup,
@@ -120,6 +125,7 @@ pub fn settle_parts(
         x,
         y,
         poses,
+        &cells,
     );
     if k != 0 {
         return Settling {
@@ -129,6 +135,7 @@ pub fn settle_parts(
     }
     let c = contact::full_contact(
         poses,
+        &cells,
         tiles,
         offsets,
         list,

@@ -5,8 +5,10 @@ ghost use Rattle.run.specs.State.{view, columns};
 ghost use Rattle.run.specs.Start.{startCause, setupOf, firstProgress, zeroState, begun, startOf};
 ghost use Rattle.run.specs.Pass.{stillCar};
 ghost use Rattle.run.specs.Arguments.{settingsOk};
+ghost use Rattle.run.specs.TouchSteps.{sixteenCells};
 use crate::contact;
 use crate::lap;
+use crate::quad;
 use crate::state;
 use crate::state::Car;
 use crate::state::Pose;
@@ -55,7 +57,9 @@ fn start_cause(
     share: f64,
     limit: u32,
     poses: [Pose; 4],
+    cells: &[usize],
 ) -> u32
+    requires { ⌜ now cells ≡ sixteenCells poses ⌝ }
     ensures { λ r. ⌜ r ≡ startCause most (columns (now (tiles .entry)) (now (offsets .entry)) (now (list .entry))) (record { n = n; fallback = fallback; share = share; limit = limit; poses = poses }) ⌝ }
 {
     if !settings_ok(share, limit) {
@@ -67,7 +71,7 @@ fn start_cause(
     if !state::poses_ok(poses) {
         return 8;
     }
-    if !touch::poses_sound(offsets, list, n as usize, poses) {
+    if !touch::cells_sound(offsets, list, n as usize, cells) {
         return 10;
     }
     0
@@ -139,6 +143,7 @@ pub fn start(
 ) -> Started
     ensures { λ r. ⌜ begun (r .answer) (view (r .run)) ≡ startOf fullWords mostTiles (columns (now (tiles .entry)) (now (offsets .entry)) (now (list .entry))) (record { n = n; fallback = fallback; share = share; limit = limit; poses = poses }) ⌝ }
 {
+    let cells = quad::wheel_cells(poses);
     let k = start_cause(
         MOST_TILES,
         tiles,
@@ -149,6 +154,7 @@ pub fn start(
         share,
         limit,
         poses,
+        &cells,
     );
     if k != 0 {
         let run = zero_run();
@@ -161,6 +167,7 @@ pub fn start(
     let mut wheels = [0u64; WHEEL_WORDS];
     let c = contact::full_contact(
         poses,
+        &cells,
         tiles,
         offsets,
         list,

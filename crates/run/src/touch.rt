@@ -1,20 +1,17 @@
 // Which tiles a wheel touches, by the lent tiles and index (document 01, "Touch"). Each tile is tested
 // once for a wheel, however many cells list it and however often.
 ghost use mathlib.Core.Path.{_≡_};
-ghost use mathlib.Core.Bool.{Bool, true, _||_};
-ghost use Prim.Native.Nat.{ℕ, _+_, _*_, _<_, _≤_};
+ghost use mathlib.Core.Bool.{true, _||_};
+ghost use Prim.Native.Nat.{_+_, _*_, _<_, _≤_};
 ghost use lib.Dec.{eqb, ltb};
 ghost use lib.ListN.{length, getD};
-ghost use Rattle.course.specs.Index.{lookup};
 ghost use Rattle.run.specs.Below.{everyOf};
 ghost use Rattle.run.specs.Words.{setOf};
-ghost use Rattle.run.specs.Overlap.{overlapOf};
-ghost use Rattle.run.specs.Touch.{tileOf, lists, touchedBy, soundCell, soundQuad, soundPoses};
+ghost use Rattle.run.specs.Touch.{tileOf, lists, touchedBy, soundCell};
 ghost use Rattle.run.specs.Wheel.{boxCells};
-ghost use Rattle.run.specs.TouchSteps.{firstSide, again, Tested};
+ghost use Rattle.run.specs.TouchSteps.{firstSide, again, overlapsTile, Tests, Room, Looked};
 use crate::quad;
 use crate::quad::Side;
-use crate::state::Pose;
 use crate::words;
 use course::index;
 
@@ -91,14 +88,6 @@ pub(crate) fn cells_sound(offsets: &[u32], list: &[u32], n: usize, cells: &[usiz
     true
 }
 
-// All sixteen look-ups of four wheels are sound (cause 10).
-pub fn poses_sound(offsets: &[u32], list: &[u32], n: usize, poses: [Pose; 4]) -> bool
-    ensures { λ r. ⌜ r ≡ soundPoses (now (offsets .entry)) (now (list .entry)) n poses ⌝ }
-{
-    let cells = quad::wheel_cells(poses);
-    cells_sound(offsets, list, n, &cells)
-}
-
 // Tile `id` is tested, unless it was before.
 fn touch_one(
     q: [[f64; 2]; 4],
@@ -108,19 +97,16 @@ fn touch_one(
     tested: &mut [u64],
     touched: &mut [u64],
 )
-    requires { ⌜ (length (now touched) ≡ length (now tested)) × (id < 64 * length (now tested)) ⌝ }
-    requires { ⌜ (id * 8 + 8 ≤ length (now tiles)) × (side ≡ firstSide q) ⌝ }
-    ensures { λ _. ⌜ ((L : ℕ → Bool) → Tested (length (now (tested .entry))) (λ t. overlapOf q (tileOf (now (tiles .entry)) t)) L (now (tested .entry)) (now (touched .entry)) → Tested (length (now (tested .entry))) (λ t. overlapOf q (tileOf (now (tiles .entry)) t)) (λ t. L t || eqb t id) (now (tested .exit)) (now (touched .exit))) ⌝ }
+    requires { ⌜ Room 1 (id + 1) (now tiles) (now tested) (now touched) ⌝ }
+    requires { ⌜ side ≡ firstSide q ⌝ }
+    ensures { λ _. ⌜ Tests (overlapsTile q (now (tiles .entry))) (λ t. eqb t id) (now (tested .entry)) (now (touched .entry)) (now (tested .exit)) (now (touched .exit)) ⌝ }
 {
     if words::has(tested, id) {
         return;
     }
     words::put(tested, id);
     let tile = tile_at(tiles, id);
-    if quad::is_beyond(side, tile) {
-        return;
-    }
-    if quad::quad_overlap(q, tile) {
+    if quad::overlap_from(side, q, tile) {
         words::put(touched, id);
     }
 }
@@ -135,9 +121,9 @@ fn touch_ids(
     tested: &mut [u64],
     touched: &mut [u64],
 )
-    requires { ⌜ (length (now touched) ≡ length (now tested)) × (n ≤ 64 * length (now tested)) ⌝ }
-    requires { ⌜ (n * 8 ≤ length (now tiles)) × (everyOf (λ t. ltb t n) (now ids) ≡ true) × (side ≡ firstSide q) ⌝ }
-    ensures { λ _. ⌜ ((L : ℕ → Bool) → Tested (length (now (tested .entry))) (λ t. overlapOf q (tileOf (now (tiles .entry)) t)) L (now (tested .entry)) (now (touched .entry)) → Tested (length (now (tested .entry))) (λ t. overlapOf q (tileOf (now (tiles .entry)) t)) (λ t. L t || lists (now (ids .entry)) t) (now (tested .exit)) (now (touched .exit))) ⌝ }
+    requires { ⌜ Room 1 n (now tiles) (now tested) (now touched) ⌝ }
+    requires { ⌜ (everyOf (λ t. ltb t n) (now ids) ≡ true) × (side ≡ firstSide q) ⌝ }
+    ensures { λ _. ⌜ Tests (overlapsTile q (now (tiles .entry))) (lists (now (ids .entry))) (now (tested .entry)) (now (touched .entry)) (now (tested .exit)) (now (touched .exit)) ⌝ }
 {
     let mut i: usize = 0;
     while i < ids.len() {
@@ -159,9 +145,9 @@ pub(crate) fn touch_quad(
     tested: &mut [u64],
     touched: &mut [u64],
 )
-    requires { ⌜ (length (now touched) ≡ length (now tested)) × (n ≤ 64 * length (now tested)) ⌝ }
-    requires { ⌜ (n * 8 ≤ length (now tiles)) × (soundQuad (now offsets) (now list) n q ≡ true) × (now cells ≡ boxCells q) ⌝ }
-    ensures { λ _. ⌜ now (touched .exit) ≡ setOf (length (now (touched .entry))) (touchedBy (now (tiles .entry)) (now (offsets .entry)) (now (list .entry)) q) ⌝ }
+    requires { ⌜ Room 1 n (now tiles) (now tested) (now touched) ⌝ }
+    requires { ⌜ Looked (now offsets) (now list) n (boxCells q) (now cells) ⌝ }
+    ensures { λ _. ⌜ now (touched .exit) ≡ setOf (length (now (tested .entry))) (touchedBy (now (tiles .entry)) (now (offsets .entry)) (now (list .entry)) q) ⌝ }
 {
     let side = quad::first_side(q);
     words::clear(tested);

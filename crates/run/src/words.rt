@@ -2,11 +2,12 @@
 // slices of any number of words, so that states of several widths share it.
 ghost use mathlib.Core.Path.{_≡_};
 ghost use mathlib.Core.Bool.{false, not, _&&_, _||_};
-ghost use Prim.Native.Nat.{ℕ, _*_, _^_, _<_, _≤_};
+ghost use Prim.Native.Nat.{ℕ, _*_, _^_, _<_};
 ghost use lib.Dec.{eqb};
 ghost use lib.ListN.{length, getD};
 ghost use Rattle.run.specs.Below.{howMany};
 ghost use Rattle.run.specs.Words.{member, setOf};
+ghost use Rattle.run.specs.TouchSteps.{Creditable};
 
 // Whether the set has a tile.
 pub(crate) fn has(set: &[u64], id: usize) -> bool
@@ -35,25 +36,11 @@ pub(crate) fn clear(set: &mut [u64])
     }
 }
 
-// The set `to` becomes the set `from`.
-pub(crate) fn copy(from: &[u64], to: &mut [u64])
-    requires { ⌜ length (now from) ≡ length (now to) ⌝ }
-    ensures { λ _. ⌜ now (to .exit) ≡ now (from .entry) ⌝ }
-{
-    let mut i: usize = 0;
-    while i < to.len() {
-        to[i] = from[i];
-        i += 1;
-    }
-}
-
 // What is in `cur` and not in `last` is credited; how many of these tiles were not credited before. A
 // course has few tiles for the words at hand: those after the word of tile n - 1 are not gone through.
 pub(crate) fn credit(credited: &mut [u64], last: &[u64], cur: &[u64], n: usize) -> u32
-    requires { ⌜ (length (now last) ≡ length (now credited)) × (length (now cur) ≡ length (now credited)) ⌝ }
-    requires { ⌜ (64 * length (now credited) < 4294967296) × (n ≤ 64 * length (now credited)) ⌝ }
+    requires { ⌜ Creditable (length (now credited)) n (now last) (now cur) ⌝ }
     requires { ⌜ ((j : ℕ) → getD (now credited) j 0 < 2 ^ 64) ⌝ }
-    requires { ⌜ ((t : ℕ) → n ≤ t → t < 64 * length (now cur) → member (now cur) t ≡ false) ⌝ }
     ensures { λ r. ⌜ now (credited .exit) ≡ setOf (length (now (credited .entry))) (λ t. member (now (credited .entry)) t || (member (now (cur .entry)) t && not (member (now (last .entry)) t))) ⌝ }
     ensures { λ r. ⌜ r ≡ howMany (64 * length (now (credited .entry))) (λ t. (member (now (cur .entry)) t && not (member (now (last .entry)) t)) && not (member (now (credited .entry)) t)) ⌝ }
 {

@@ -1,6 +1,5 @@
 -- `run::quad::apart_on` meets its contract. Assumes nothing.
 use Rattle.run.specs.Overlap.{apartOn}
-use mathlib.Core.Path.{_≡_, refl, sym, ap, ap₂, _∙_}
 use borrow.Author.Needs.{needs}
 use Rattle.run.proofs.quad.apart_on.Statement.{statement}
 use Rattle.run.proofs.quad.apart_on.Tie as tie

@@ -6,7 +6,7 @@ use native.Mathlib.Omega.{arith}
 use lib.Ieee.{Float}
 use mathlib.Core.List.{List, [], _∷_}
 use Rattle.run.specs.Wheel.{boxCells, leastX, leastY, greatestX, greatestY}
-use mathlib.Core.Path.{_≡_, refl, sym, ap, ap₂, _∙_, subst}
+use mathlib.Core.Path.{_≡_, sym, ap, ap₂, _∙_, subst}
 use borrow.Author.Needs.{needs}
 use Rattle.run.proofs.quad.box_cells.Statement.{statement}
 use Rattle.run.proofs.quad.box_cells.Tie as tie

@@ -1,7 +1,6 @@
 -- `run::quad::place` meets its contract. Assumes nothing.
 use Rattle.run.specs.Wheel.{placed}
-use mathlib.Core.Path.{_≡_, refl, sym, ap, ap₂, _∙_}
-use borrow.Author.Needs.{needs}
+use mathlib.Core.Path.{refl}
 use Rattle.run.proofs.quad.place.Statement.{statement}
 use Rattle.run.proofs.quad.place.Tie as tie
 use Rattle.run.proofs.quad.place.Reads as reads

@@ -2,7 +2,6 @@
 use lib.Ieee.{ofInt, round, ofBits, neg}
 use Rattle.course.specs.Arithmetic.{natural, decimal}
 use Rattle.run.specs.Wheel.{wheelQuad, wheelW, wheelR, size}
-use mathlib.Core.Path.{_≡_, refl, sym, ap, ap₂, _∙_}
 use borrow.Author.Needs.{needs}
 use Rattle.run.proofs.quad.wheel_quad.Statement.{statement}
 use Rattle.run.proofs.quad.wheel_quad.Tie as tie

@@ -1,14 +1,14 @@
--- `run::settle::settle_cause` meets its contract. Assumes nothing.
-use borrow.Author.Tests.{le-leb, lt-leb}
-use Rattle.run.specs.Settle.{settleCause}
-use Rattle.run.specs.Arguments.{placesOk}
-use Rattle.run.specs.State.{shortOf}
-use lib.ListN.{length}
-use Prim.Native.Nat.{ℕ, _+_, _-_, _*_, _≤_, _<_}
-use mathlib.Core.List.{List}
-use mathlib.Core.Bool.{Bool, true, false, not, _&&_, _||_}
-use mathlib.Core.Path.{_≡_, refl, sym, ap, ap₂, _∙_, subst}
+use Rattle.run.proofs.CellLaws.{cells-sound-is}
 use native.Mathlib.Omega.{arith}
+use mathlib.Core.Path.{_≡_, refl, sym, ap, ap₂, _∙_, subst}
+use mathlib.Core.Bool.{Bool, true, false, not, _&&_, _||_}
+use mathlib.Core.List.{List}
+use Prim.Native.Nat.{ℕ, _+_, _-_, _*_, _≤_, _<_}
+use lib.ListN.{length}
+use Rattle.run.specs.State.{shortOf}
+use Rattle.run.specs.Arguments.{placesOk}
+use Rattle.run.specs.Settle.{settleCause}
+use borrow.Author.Tests.{le-leb, lt-leb}
 use borrow.Author.Needs.{needs}
 use Rattle.run.proofs.settle.settle_cause.Statement.{statement}
 use Rattle.run.proofs.settle.settle_cause.Tie as tie
@@ -18,7 +18,7 @@ use Rattle.run.proofs.state.in_range.Reads as in-range-reads
 use Rattle.run.proofs.state.is_short.Reads as is-short-reads
 use Rattle.run.proofs.state.is_unfit.Reads as is-unfit-reads
 use Rattle.run.proofs.state.poses_ok.Reads as poses-ok-reads
-use Rattle.run.proofs.touch.poses_sound.Reads as poses-sound-reads
+use Rattle.run.proofs.touch.cells_sound.Reads as cells-sound-reads
 
 is-unfit-requires : tie.Need-is-unfit-requires
 is-unfit-requires c κs = search needs
@@ -55,19 +55,19 @@ returns-5 : tie.Need-returns-5
 unfolding settleCause placesOk shortOf
 returns-5 c = simp (← c .before .before .before .before .before .before .before .before .before .before .before .before .before .is-unfit .ensures, c .before .before .before .before .before .before .before .before .before .before .before .if1 .left, c .before .before .before .before .before .before .before .before .before .if2 .left, lt-leb _ _ (c .before .before .before .before .before .before .if3 .left), ← c .before .before .before .before .before .is-short .ensures, c .before .before .before .before .if4 .left, ← c .before .before .before .in-range .ensures, ← c .before .before .in-range2 .ensures, ← c .before .poses-ok .ensures, c .if5 .taken)
 
-cast-poses-sound : tie.Need-cast-poses-sound
-cast-poses-sound c = search needs
+cast-cells-sound : tie.Need-cast-cells-sound
+cast-cells-sound c = search needs
 
-poses-sound-requires : tie.Need-poses-sound-requires
-poses-sound-requires c κs = search needs
+cells-sound-requires : tie.Need-cells-sound-requires
+cells-sound-requires c κs = search needs
 
 returns-6 : tie.Need-returns-6
 unfolding settleCause placesOk shortOf
-returns-6 c = simp (← c .before .before .before .before .before .before .before .before .before .before .before .before .before .before .before .before .is-unfit .ensures, c .before .before .before .before .before .before .before .before .before .before .before .before .before .before .if1 .left, c .before .before .before .before .before .before .before .before .before .before .before .before .if2 .left, lt-leb _ _ (c .before .before .before .before .before .before .before .before .before .if3 .left), ← c .before .before .before .before .before .before .before .before .is-short .ensures, c .before .before .before .before .before .before .before .if4 .left, ← c .before .before .before .before .before .before .in-range .ensures, ← c .before .before .before .before .before .in-range2 .ensures, ← c .before .before .before .before .poses-ok .ensures, c .before .before .before .if5 .left, ← c .before .poses-sound .ensures, c .if6 .taken)
+returns-6 c = simp (← c .before .before .before .before .before .before .before .before .before .before .before .before .before .before .before .before .is-unfit .ensures, c .before .before .before .before .before .before .before .before .before .before .before .before .before .before .if1 .left, c .before .before .before .before .before .before .before .before .before .before .before .before .if2 .left, lt-leb _ _ (c .before .before .before .before .before .before .before .before .before .if3 .left), ← c .before .before .before .before .before .before .before .before .is-short .ensures, c .before .before .before .before .before .before .before .if4 .left, ← c .before .before .before .before .before .before .in-range .ensures, ← c .before .before .before .before .before .in-range2 .ensures, ← c .before .before .before .before .poses-ok .ensures, c .before .before .before .if5 .left, ← cells-sound-is _ _ _ _ _ _ (c .before .before .before .before .before .before .before .before .before .before .before .before .before .before .before .before .before .before .before .before .before .pre) (c .before .cells-sound .ensures), c .if6 .taken)
 
 returns-7 : tie.Need-returns-7
 unfolding settleCause placesOk shortOf
-returns-7 c = simp (← c .before .before .before .before .before .before .before .before .before .before .before .before .before .before .before .before .is-unfit .ensures, c .before .before .before .before .before .before .before .before .before .before .before .before .before .before .if1 .left, c .before .before .before .before .before .before .before .before .before .before .before .before .if2 .left, lt-leb _ _ (c .before .before .before .before .before .before .before .before .before .if3 .left), ← c .before .before .before .before .before .before .before .before .is-short .ensures, c .before .before .before .before .before .before .before .if4 .left, ← c .before .before .before .before .before .before .in-range .ensures, ← c .before .before .before .before .before .in-range2 .ensures, ← c .before .before .before .before .poses-ok .ensures, c .before .before .before .if5 .left, ← c .before .poses-sound .ensures, c .if6 .left)
+returns-7 c = simp (← c .before .before .before .before .before .before .before .before .before .before .before .before .before .before .before .before .is-unfit .ensures, c .before .before .before .before .before .before .before .before .before .before .before .before .before .before .if1 .left, c .before .before .before .before .before .before .before .before .before .before .before .before .if2 .left, lt-leb _ _ (c .before .before .before .before .before .before .before .before .before .if3 .left), ← c .before .before .before .before .before .before .before .before .is-short .ensures, c .before .before .before .before .before .before .before .if4 .left, ← c .before .before .before .before .before .before .in-range .ensures, ← c .before .before .before .before .before .in-range2 .ensures, ← c .before .before .before .before .poses-ok .ensures, c .before .before .before .if5 .left, ← cells-sound-is _ _ _ _ _ _ (c .before .before .before .before .before .before .before .before .before .before .before .before .before .before .before .before .before .before .before .before .before .pre) (c .before .cells-sound .ensures), c .if6 .left)
 
 pub settle-cause-spec : {M : Type 1} → statement M
 settle-cause-spec =
@@ -83,7 +83,7 @@ settle-cause-spec =
     in-range-requires-2
     poses-ok-requires
     returns-5
-    cast-poses-sound
-    poses-sound-requires
+    cast-cells-sound
+    cells-sound-requires
     returns-6
     returns-7)

@@ -1,12 +1,12 @@
-use Rattle.run.specs.Start.{setupOf, firstContact}
-use native.Mathlib.Omega.{arith}
-use mathlib.Core.Path.{_≡_, refl, sym, ap, ap₂, _∙_, subst}
-use mathlib.Core.List.{List}
-use Prim.Native.Nat.{ℕ, _+_, _-_, _*_, _≤_, _<_}
-use lib.ListN.{length}
-use lib.Dec.{lit≤, lit<}
-use Rattle.run.specs.State.{view}
 use Rattle.run.proofs.CallLaws.{start-facts, start-refused, start-accepted}
+use Rattle.run.specs.State.{view}
+use lib.Dec.{lit≤, lit<}
+use lib.ListN.{length}
+use Prim.Native.Nat.{ℕ, _+_, _-_, _*_, _≤_, _<_}
+use mathlib.Core.List.{List}
+use mathlib.Core.Path.{_≡_, refl, sym, ap, ap₂, _∙_, subst}
+use native.Mathlib.Omega.{arith}
+use Rattle.run.specs.Start.{setupOf, firstContact}
 use borrow.Author.Needs.{needs}
 use Rattle.run.proofs.start.start.Statement.{statement}
 use Rattle.run.proofs.start.start.Tie as tie
@@ -14,10 +14,17 @@ use Rattle.run.proofs.start.start.Reads as reads
 use Rattle.run.proofs.start.start.Lts as lts
 use Rattle.run.proofs.contact.full_contact.Reads as full-contact-reads
 use Rattle.run.proofs.lap.update_lap.Reads as update-lap-reads
+use Rattle.run.proofs.quad.wheel_cells.Reads as wheel-cells-reads
 use Rattle.run.proofs.start.first_progress.Reads as first-progress-reads
 use Rattle.run.proofs.start.start_cause.Reads as start-cause-reads
 use Rattle.run.proofs.start.still_car.Reads as still-car-reads
 use Rattle.run.proofs.start.zero_run.Reads as zero-run-reads
+
+wheel-cells-requires : tie.Need-wheel-cells-requires
+wheel-cells-requires c κs = search needs
+
+slice-aggregate-start-cause : tie.Need-slice-aggregate-start-cause
+slice-aggregate-start-cause c = search needs
 
 start-cause-requires : tie.Need-start-cause-requires
 start-cause-requires c κs = search needs
@@ -31,16 +38,13 @@ returns c = start-refused _ _ _ _ _ _ (c .before .before .start-cause .ensures) 
 slice-aggregate-full-contact : tie.Need-slice-aggregate-full-contact
 slice-aggregate-full-contact c = search needs
 
-slice-aggregate-full-contact-2 : tie.Need-slice-aggregate-full-contact-2
-slice-aggregate-full-contact-2 c = search needs
-
 full-contact-requires : tie.Need-full-contact-requires
 full-contact-requires c κs =
-    let e = c .before .before in
+    let e = c .before .before .before in
     let k = e .before .start-cause in
     let z : k .result ≡ 0 = omega (arith, e .if1 .left) in
     let h = start-facts _ _ _ (lit≤ tt) (sym (k .ensures) ∙ z) in
-    ((refl, refl), (h .some, h .few, h .tiles, h .sound))
+    (e .before .before .before .wheel-cells .ensures, (h .some, h .few, h .tiles, h .sound))
 
 update-lap-requires : tie.Need-update-lap-requires
 update-lap-requires c κs = search needs
@@ -54,20 +58,21 @@ still-car-requires c κs = search needs
 returns-2 : tie.Need-returns-2
 unfolding view setupOf firstContact
 returns-2 c =
-    let e = c .before .before .before .before .before .before .before .before in
+    let e = c .before .before .before .before .before .before .before in
     let k = e .before .start-cause in
     let z : k .result ≡ 0 = omega (arith, e .if1 .left) in
-    start-accepted _ _ _ _ _ _ _ _ _ _ _ _ (k .ensures) z (c .before .before .before .before .before .full-contact .ensures) (c .before .before .update-lap .ensures) (c .before .first-progress .ensures) (c .still-car .ensures)
+    start-accepted _ _ _ _ _ _ _ _ _ _ _ _ (k .ensures) z (c .before .before .before .full-contact .ensures) (c .before .before .update-lap .ensures) (c .before .first-progress .ensures) (c .still-car .ensures)
 
 pub start-spec : {M : Type 1} → statement M
 start-spec =
     tie.close
     (tie.spec
+    wheel-cells-requires
+    slice-aggregate-start-cause
     start-cause-requires
     zero-run-requires
     returns
     slice-aggregate-full-contact
-    slice-aggregate-full-contact-2
     full-contact-requires
     update-lap-requires
     first-progress-requires

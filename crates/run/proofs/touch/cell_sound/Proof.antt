@@ -1,15 +1,11 @@
 -- `run::touch::cell_sound` meets its contract. Assumes nothing.
 use Rattle.course.specs.Index.{lookup}
--- `run::touch::cell_sound` meets its contract. Assumes nothing.
 use Rattle.run.specs.Touch.{soundCell}
 use Rattle.run.specs.Below.{everyOf}
-use lib.Dec.{eqb, ltb}
-use lib.ListN.{length, getD, take}
-use Prim.Native.Nat.{ℕ, _+_, _-_, _*_, _≤_, _<_}
-use mathlib.Core.List.{List}
-use mathlib.Core.Bool.{Bool, true, false, _&&_, _||_}
-use mathlib.Core.Path.{_≡_, refl, sym, ap, ap₂, _∙_, subst}
-use native.Mathlib.Omega.{arith}
+use lib.Dec.{ltb}
+use Prim.Native.Nat.{ℕ}
+use mathlib.Core.Bool.{Bool, _&&_}
+use mathlib.Core.Path.{sym, ap, _∙_}
 use borrow.Author.Needs.{needs}
 use Rattle.run.proofs.touch.cell_sound.Statement.{statement}
 use Rattle.run.proofs.touch.cell_sound.Tie as tie

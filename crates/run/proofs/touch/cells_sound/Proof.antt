@@ -7,12 +7,12 @@ use Rattle.run.specs.Below.{everyOf}
 use Rattle.run.specs.Touch.{soundCell}
 use Rattle.run.specs.TouchSteps.{again}
 use lib.Seq.{take-all}
-use lib.ListN.{length, getD, take}
-use Prim.Native.Nat.{ℕ, _+_, _-_, _*_, _≤_, _<_}
-use mathlib.Core.Bool.{Bool, true, false, _&&_, _||_}
+use lib.ListN.{length, take}
+use Prim.Native.Nat.{_-_, _≤_}
+use mathlib.Core.Bool.{true}
 use native.Mathlib.Omega.{arith}
 use borrow.Author.Needs.{needs}
-use mathlib.Core.Path.{_≡_, refl, sym, ap, ap₂, _∙_, subst}
+use mathlib.Core.Path.{_≡_, sym, ap, _∙_}
 use Rattle.run.proofs.touch.cells_sound.Statement.{statement}
 use Rattle.run.proofs.touch.cells_sound.Tie as tie
 use Rattle.run.proofs.touch.cells_sound.Reads as reads

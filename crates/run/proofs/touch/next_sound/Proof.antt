@@ -1,5 +1,5 @@
 -- `run::touch::next_sound` meets its contract. Assumes nothing.
-use mathlib.Core.Path.{_≡_, refl, sym, ap, ap₂, _∙_, subst}
+use mathlib.Core.Path.{sym, _∙_}
 use borrow.Author.Needs.{needs}
 use Rattle.run.proofs.touch.next_sound.Statement.{statement}
 use Rattle.run.proofs.touch.next_sound.Tie as tie

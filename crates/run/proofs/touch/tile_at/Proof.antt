@@ -1,12 +1,6 @@
 -- `run::touch::tile_at` meets its contract. Assumes nothing.
 use Rattle.run.specs.Touch.{tileOf}
-use lib.Dec.{eqb, ltb}
-use lib.ListN.{length, getD, take}
-use Prim.Native.Nat.{ℕ, _+_, _-_, _*_, _≤_, _<_}
-use mathlib.Core.List.{List}
-use mathlib.Core.Bool.{Bool, true, false, _&&_, _||_}
-use mathlib.Core.Path.{_≡_, refl, sym, ap, ap₂, _∙_, subst}
-use native.Mathlib.Omega.{arith}
+use mathlib.Core.Path.{refl}
 use borrow.Author.Needs.{needs}
 use Rattle.run.proofs.touch.tile_at.Statement.{statement}
 use Rattle.run.proofs.touch.tile_at.Tie as tie

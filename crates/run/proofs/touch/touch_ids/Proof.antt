@@ -1,17 +1,15 @@
 -- `run::touch::touch_ids` meets its contract. Assumes nothing.
-use Rattle.run.proofs.TouchLaws.{touch-more}
-use Rattle.run.proofs.TouchLaws.{some-none, some-take, every-at, tested-cong, or-false, or-assoc}
-use Rattle.run.specs.TouchSteps.{Tested}
-use Rattle.run.specs.Touch.{tileOf, lists}
-use Rattle.run.specs.Overlap.{overlapOf}
+use Rattle.run.proofs.TouchLaws.{touch-more, some-none, some-take, every-at, tested-cong, room-for}
+use Rattle.run.specs.TouchSteps.{overlapsTile, Tests}
+use Rattle.run.specs.Touch.{lists}
 use lib.Seq.{take-all}
 use borrow.Author.Tests.{ltb-true}
 use lib.Dec.{eqb, ltb}
 use lib.ListN.{length, getD, take}
-use Prim.Native.Nat.{ℕ, _+_, _-_, _*_, _≤_, _<_}
+use Prim.Native.Nat.{ℕ, _+_, _-_, _≤_, _<_}
 use mathlib.Core.List.{List}
-use mathlib.Core.Bool.{Bool, true, false, _&&_, _||_}
-use mathlib.Core.Path.{_≡_, refl, sym, ap, ap₂, _∙_, subst}
+use mathlib.Core.Bool.{Bool, _||_, or-false}
+use mathlib.Core.Path.{_≡_, refl, sym, ap, _∙_}
 use native.Mathlib.Omega.{arith}
 use borrow.Author.Needs.{needs}
 use Rattle.run.proofs.touch.touch_ids.Statement.{statement}
@@ -22,7 +20,7 @@ use Rattle.run.proofs.touch.touch_one.Reads as touch-one-reads
 
 abbrev Inv-loop : tie.InvT-loop
 Inv-loop q side tiles ids n tested₀ touched₀ i₀ tested touched i = (i ≤ length ids) × (length tested ≡ length tested₀) × (length touched ≡ length touched₀)
-    × ((L : ℕ → Bool) → Tested (length tested₀) (λ t. overlapOf q (tileOf tiles t)) L tested₀ touched₀ → Tested (length tested₀) (λ t. overlapOf q (tileOf tiles t)) (λ t. L t || lists (take i ids) t) tested touched)
+    × Tests (overlapsTile q tiles) (lists (take i ids)) tested₀ touched₀ tested touched
 
 abbrev μ-loop : tie.MeasureT-loop
 μ-loop q side tiles ids n tested₀ touched₀ i₀ tested touched i = length ids - i
@@ -45,8 +43,8 @@ touch-one-requires : tie.Need-touch-one-requires Inv-loop μ-loop
 touch-one-requires c κs =
     let l = c .before .before .before .before in
     let s = c .before .before .before .before .before .before .before .before .before in
-    let b : getD (s .args .ids .now) (l .loop .i) 0 < s .args .n = ltb-true _ _ (every-at (λ t. ltb t (s .args .n)) (s .args .ids .now) (l .loop .i) (s .pre .1 .1) (c .before .before .before .loop-test .taken)) in
-    ((l .loop .inv .2 ∙ s .pre .0 .0 ∙ sym (l .loop .inv .1), omega (arith, b, s .pre .0 .1, l .loop .inv .1)), (omega (arith, b, s .pre .1 .0), s .pre .1 .2))
+    let b : getD (s .args .ids .now) (l .loop .i) 0 < s .args .n = ltb-true _ _ (every-at (λ t. ltb t (s .args .n)) (s .args .ids .now) (l .loop .i) (s .pre .1 .0) (c .before .before .before .loop-test .taken)) in
+    (room-for _ _ _ (s .pre .0) (omega (arith, b)) (l .loop .inv .1) (l .loop .inv .2), s .pre .1 .1)
 
 add-i : tie.Need-add-i Inv-loop μ-loop
 add-i c = search needs
@@ -64,7 +62,7 @@ loop-again c =
       omega arith,
       t .kept .1 .1 .1 .1 .0 ∙ n .1,
       t .kept .1 .1 .1 .1 .1 .0 ∙ n .2,
-      λ L h. touch-more _ _ _ L (lists (take i ids)) (λ u. eqb u (getD ids i 0)) (lists (take (i + 1) ids)) _ _ _ _ (n .1) (t .ensures) (n .3 L h) (λ u. sym (some-take (eqb u) ids i (c .before .before .before .before .before .before .before .before .loop-test .taken))),
+      λ L h. touch-more _ _ L (lists (take i ids)) (λ u. eqb u (getD ids i 0)) (lists (take (i + 1) ids)) _ _ _ _ (n .1) (t .ensures) (n .3 L h) (λ u. sym (some-take (eqb u) ids i (c .before .before .before .before .before .before .before .before .loop-test .taken))),
     )
 
 same-length : tie.Need-same-length Inv-loop μ-loop

@@ -1,19 +1,17 @@
 -- `run::touch::touch_quad` meets its contract. Assumes nothing.
-use Rattle.run.proofs.TouchLaws.{some-none, some-take, touch-more, tested-cong, tested-is, sound-ids, none-tested, all-touched}
+use Rattle.run.proofs.TouchLaws.{some-none, some-take, touch-more, tested-cong, tested-is, sound-ids, none-tested, all-touched, room-for}
 use Rattle.run.proofs.CellLaws.{some-again}
-use borrow.Author.Tests.{not-true, not-false}
+use borrow.Author.Tests.{not-false}
 use mathlib.Core.Logic.{⊎-elim}
-use Rattle.run.specs.TouchSteps.{Tested}
-use Rattle.run.specs.Touch.{tileOf, lists}
-use Rattle.run.specs.Overlap.{overlapOf}
+use Rattle.run.specs.TouchSteps.{overlapsTile, Tested}
+use Rattle.run.specs.Touch.{lists}
 use Rattle.run.specs.Below.{someOf}
 use Rattle.course.specs.Index.{lookup}
-use lib.Dec.{eqb, ltb}
-use lib.ListN.{length, getD, take}
-use Prim.Native.Nat.{ℕ, _+_, _-_, _*_, _≤_, _<_}
+use lib.ListN.{length, take}
+use Prim.Native.Nat.{ℕ, _+_, _-_, _≤_}
 use mathlib.Core.List.{List}
-use mathlib.Core.Bool.{Bool, true, false, _&&_, _||_}
-use mathlib.Core.Path.{_≡_, refl, sym, ap, ap₂, _∙_, subst}
+use mathlib.Core.Bool.{Bool, false, _||_}
+use mathlib.Core.Path.{_≡_, refl, sym, ap, _∙_}
 use native.Mathlib.Omega.{arith}
 use borrow.Author.Needs.{needs}
 use Rattle.run.proofs.touch.touch_quad.Statement.{statement}
@@ -28,7 +26,7 @@ use Rattle.run.proofs.words.clear.Reads as clear-reads
 
 abbrev Inv-loop : tie.InvT-loop
 Inv-loop q cells tiles offsets list n tested₀ touched₀ side i₀ tested touched i = (i ≤ length cells) × (length tested ≡ length tested₀) × (length touched ≡ length touched₀)
-    × Tested (length tested₀) (λ t. overlapOf q (tileOf tiles t)) (λ t. someOf (λ c. lists (lookup offsets list c) t) (take i cells)) tested touched
+    × Tested (length tested₀) (overlapsTile q tiles) (λ t. someOf (λ c. lists (lookup offsets list c) t) (take i cells)) tested touched
 
 abbrev μ-loop : tie.MeasureT-loop
 μ-loop q cells tiles offsets list n tested₀ touched₀ side i₀ tested touched i = length cells - i
@@ -46,7 +44,7 @@ loop-holds : tie.Need-loop-holds Inv-loop μ-loop
 loop-holds c =
     let s = c .before .before .before .before .before .before .before .before .before .before .before .before .before .before .before in
     let t = c .before .before .before .before .before .before .clear in
-    (omega arith, refl, refl, none-tested _ _ _ _ _ _ _ (t .ensures) (c .before .before .clear2 .ensures) (t .kept .0) (s .pre .0 .0) (λ t. some-none _))
+    (omega arith, refl, refl, none-tested _ _ _ _ _ _ _ (t .ensures) (c .before .before .clear2 .ensures) (t .kept .0) (omega (arith, s .pre .0 .sets)) (λ t. some-none _))
 
 is-again-requires : tie.Need-is-again-requires Inv-loop μ-loop
 is-again-requires c κs = search needs
@@ -68,8 +66,8 @@ touch-ids-requires c κs =
     let n = l .loop .inv in
     let m = e .before .before .before .before .before .before .clear .kept .0 in
     let u = e .before .before .clear2 .kept .0 in (
-      (n .2 ∙ u ∙ s .pre .0 .0 ∙ sym m ∙ sym (n .1), omega (arith, n .1, m, s .pre .0 .1)),
-      (s .pre .1 .0, sound-ids _ _ _ _ _ _ _ (s .pre .1 .1) (s .pre .1 .2) (c .before .before .before .before .before .before .loop-test .taken) (c .before .before .cell-tiles .ensures), e .before .before .before .before .before .before .before .before .first-side .ensures),
+      room-for _ _ _ (s .pre .0) (omega arith) (n .1 ∙ m) (n .2 ∙ u),
+      (sound-ids _ _ _ _ _ _ _ (s .pre .1) (c .before .before .before .before .before .before .loop-test .taken) (c .before .before .cell-tiles .ensures), e .before .before .before .before .before .before .before .before .first-side .ensures),
     )
 
 add-i : tie.Need-add-i Inv-loop μ-loop
@@ -92,7 +90,7 @@ loop-again c =
       ⊎-elim (λ w. ap length (w .11) ∙ w .5 .kept .1 .1 .1 .1 .1 .1 .0 ∙ n .2) (λ w. ap length (w .2) ∙ n .2) (c .if1 .came),
       ⊎-elim
           (λ w. tested-is (w .10) (w .11)
-          (touch-more _ _ _ (λ u. false) (λ u. someOf (f u) (take i k)) (λ u. lists (w .2 .result .now) u) (λ u. someOf (f u) (take (i + 1) k)) _ _ _ _ (n .1) (w .5 .ensures) (n .3)
+          (touch-more _ _ (λ u. false) (λ u. someOf (f u) (take i k)) (λ u. lists (w .2 .result .now) u) (λ u. someOf (f u) (take (i + 1) k)) _ _ _ _ (n .1) (w .5 .ensures) (n .3)
           (λ u. ap (λ (x : List ℕ). someOf (f u) (take i k) || lists x u) (w .2 .ensures) ∙ sym (some-take (f u) k i b))))
           (λ w. tested-is (w .1) (w .2)
           (tested-cong _ _ (λ u. someOf (f u) (take i k)) (λ u. someOf (f u) (take (i + 1) k)) _ _
@@ -110,7 +108,7 @@ returns : tie.Need-returns Inv-loop μ-loop
 returns c =
     let l = c .before in
     let s = l .before .before .before .before .before .before .before .before .before .before .before .before .before .before .before .before in
-    all-touched _ _ _ _ _ _ _ _ _ _ (l .before .before .before .before .before .before .before .clear .kept .0 ∙ sym (s .pre .0 .0)) (s .pre .1 .2) (c .loop-test .left) (l .loop .inv .3)
+    all-touched _ _ _ _ _ _ _ _ _ _ (l .before .before .before .before .before .before .before .clear .kept .0) (s .pre .1 .are) (c .loop-test .left) (l .loop .inv .3)
 
 pub touch-quad-spec : {M : Type 1} → statement M
 touch-quad-spec =

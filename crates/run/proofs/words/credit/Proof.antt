@@ -1,13 +1,10 @@
 -- `run::words::credit` meets its contract. Assumes nothing.
-use Rattle.run.proofs.WordLaws.{Fit, howMany-none}
+use Rattle.run.proofs.WordLaws.{howMany-none}
 use Rattle.run.proofs.CreditLaws.{Credited, New, one-more, none-more, credited-is, rest-credited, all-credited, all-counted, few, ones-few, new-lt}
-use Rattle.run.specs.Words.{member, setOf}
-use Rattle.run.specs.Below.{howMany}
-use lib.ListN.{length, getD, set, length-set}
-use Prim.Native.Nat.{ℕ, _+_, _-_, _*_, _/_, _%_, _^_, _≤_, _<_}
-use mathlib.Core.List.{List}
+use lib.ListN.{length, set}
+use Prim.Native.Nat.{ℕ, _+_, _-_, _*_, _/_, _≤_, _<_}
 use mathlib.Core.Logic.{⊎-elim}
-use mathlib.Core.Path.{_≡_, refl, sym, ap, ap₂, _∙_, subst}
+use mathlib.Core.Path.{refl, sym}
 use native.Mathlib.Omega.{arith}
 use borrow.Author.Needs.{needs}
 use Rattle.run.proofs.words.credit.Statement.{statement}
@@ -35,37 +32,37 @@ mul-entered : tie.Need-mul-entered Inv-loop μ-loop
 mul-entered c =
     let l = c .before in
     let s = l .before in
-    omega (arith, within _ _ _ (s .pre .1 .0 .1) (c .loop-test .taken), s .pre .0, l .loop .inv .1 .long, s .pre .1 .0 .0)
+    omega (arith, within _ _ _ (s .pre .0 .few) (c .loop-test .taken), s .pre .0 .last, s .pre .0 .long, l .loop .inv .1 .long, s .pre .0 .small)
 
 shared-slice-read-entered : tie.Need-shared-slice-read-entered Inv-loop μ-loop
 shared-slice-read-entered c =
     let l = c .before .before in
     let s = l .before in
-    omega (arith, within _ _ _ (s .pre .1 .0 .1) (c .before .loop-test .taken), s .pre .0, l .loop .inv .1 .long, s .pre .1 .0 .0)
+    omega (arith, within _ _ _ (s .pre .0 .few) (c .before .loop-test .taken), s .pre .0 .last, s .pre .0 .long, l .loop .inv .1 .long, s .pre .0 .small)
 
 mul-entered-2 : tie.Need-mul-entered-2 Inv-loop μ-loop
 mul-entered-2 c =
     let l = c .before .before in
     let s = l .before in
-    omega (arith, within _ _ _ (s .pre .1 .0 .1) (c .before .loop-test .taken), s .pre .0, l .loop .inv .1 .long, s .pre .1 .0 .0)
+    omega (arith, within _ _ _ (s .pre .0 .few) (c .before .loop-test .taken), s .pre .0 .last, s .pre .0 .long, l .loop .inv .1 .long, s .pre .0 .small)
 
 shared-slice-read-entered-2 : tie.Need-shared-slice-read-entered-2 Inv-loop μ-loop
 shared-slice-read-entered-2 c =
     let l = c .before .before .before in
     let s = l .before in
-    omega (arith, within _ _ _ (s .pre .1 .0 .1) (c .before .before .loop-test .taken), s .pre .0, l .loop .inv .1 .long, s .pre .1 .0 .0)
+    omega (arith, within _ _ _ (s .pre .0 .few) (c .before .before .loop-test .taken), s .pre .0 .last, s .pre .0 .long, l .loop .inv .1 .long, s .pre .0 .small)
 
 mul-before : tie.Need-mul-before Inv-loop μ-loop
 mul-before c =
     let l = c .before .before .before in
     let s = l .before in
-    omega (arith, within _ _ _ (s .pre .1 .0 .1) (c .before .before .loop-test .taken), s .pre .0, l .loop .inv .1 .long, s .pre .1 .0 .0)
+    omega (arith, within _ _ _ (s .pre .0 .few) (c .before .before .loop-test .taken), s .pre .0 .last, s .pre .0 .long, l .loop .inv .1 .long, s .pre .0 .small)
 
 slice-read-before : tie.Need-slice-read-before Inv-loop μ-loop
 slice-read-before c =
     let l = c .before .before .before .before in
     let s = l .before in
-    omega (arith, within _ _ _ (s .pre .1 .0 .1) (c .before .before .before .loop-test .taken), s .pre .0, l .loop .inv .1 .long, s .pre .1 .0 .0)
+    omega (arith, within _ _ _ (s .pre .0 .few) (c .before .before .before .loop-test .taken), s .pre .0 .last, s .pre .0 .long, l .loop .inv .1 .long, s .pre .0 .small)
 
 add-fresh : tie.Need-add-fresh Inv-loop μ-loop
 add-fresh c =
@@ -79,8 +76,8 @@ add-fresh c =
         n .count,
         few (64 * l .loop .i) (New (a .credited .now) (a .last .now) (a .cur .now)),
         ones-few _ (new-lt _ _ _ (k .slice-known .given (l .loop .i) .fits) (k .before .shared-slice-known2 .given (l .loop .i) .fits) (k .before .before .shared-slice-known .given (l .loop .i) .fits)),
-        l .before .pre .1 .0 .0,
-        within _ _ _ (l .before .pre .1 .0 .1) (k .before .before .before .loop-test .taken),
+        l .before .pre .0 .small,
+        within _ _ _ (l .before .pre .0 .few) (k .before .before .before .loop-test .taken),
       );
     }
 
@@ -88,13 +85,13 @@ mul-credited : tie.Need-mul-credited Inv-loop μ-loop
 mul-credited c =
     let l = c .before .before .before .before .before in
     let s = l .before in
-    omega (arith, within _ _ _ (s .pre .1 .0 .1) (c .before .before .before .before .loop-test .taken), s .pre .0, l .loop .inv .1 .long, s .pre .1 .0 .0)
+    omega (arith, within _ _ _ (s .pre .0 .few) (c .before .before .before .before .loop-test .taken), s .pre .0 .last, s .pre .0 .long, l .loop .inv .1 .long, s .pre .0 .small)
 
 slice-write-credited : tie.Need-slice-write-credited Inv-loop μ-loop
 slice-write-credited c =
     let l = c .before .before .before .before .before in
     let s = l .before in
-    omega (arith, within _ _ _ (s .pre .1 .0 .1) (c .before .before .before .before .loop-test .taken), s .pre .0, l .loop .inv .1 .long, s .pre .1 .0 .0)
+    omega (arith, within _ _ _ (s .pre .0 .few) (c .before .before .before .before .loop-test .taken), s .pre .0 .last, s .pre .0 .long, l .loop .inv .1 .long, s .pre .0 .small)
 
 add-i : tie.Need-add-i Inv-loop μ-loop
 add-i c = search needs
@@ -112,7 +109,7 @@ loop-again c =
     let fe = k .before .before .shared-slice-known .given i .fits in
     let n = l .loop .inv .1 in
     let t = k .before .before .before .loop-test .taken in
-    let b : i < length (l .loop .credited) = omega (arith, within _ _ _ (l .before .pre .1 .0 .1) t, n .long) in (
+    let b : i < length (l .loop .credited) = omega (arith, within _ _ _ (l .before .pre .0 .few) t, n .long) in (
       omega arith,
       ⊎-elim
           (λ w. credited-is _ _ _ (w .1) (w .2) (one-more _ _ _ _ _ _ n b fc fl fe))
@@ -129,7 +126,7 @@ returns c =
     let s = l .before in
     let n = l .loop .inv .1 in
     let past : (t : ℕ) → 64 * l .loop .i ≤ t → s .args .n ≤ t = λ t b. omega (arith, c .loop-test .left) in
-    let r = rest-credited _ _ _ _ _ _ (s .pre .1 .1 .0) (s .pre .0 .1) (λ t b u. s .pre .1 .1 .1 t (past t b) u) n in
+    let r = rest-credited _ _ _ _ _ _ (s .pre .1) (s .pre .0 .long) (λ t b u. s .pre .0 .past t (past t b) (omega (arith, u, s .pre .0 .long))) n in
     (all-credited _ _ _ _ _ _ refl r, all-counted _ _ _ _ _ _ refl r)
 
 pub credit-spec : {M : Type 1} → statement M

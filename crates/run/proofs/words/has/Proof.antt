@@ -1,10 +1,6 @@
 -- `run::words::has` meets its contract. Assumes nothing.
 use Rattle.run.specs.Words.{member, bitOf}
-use lib.ListN.{length, getD, set, length-set}
-use Prim.Native.Nat.{ℕ, _+_, _-_, _*_, _/_, _%_, _^_, _≤_, _<_}
-use mathlib.Core.List.{List}
-use mathlib.Core.Path.{_≡_, refl, sym, ap, ap₂, _∙_, subst}
-use native.Mathlib.Omega.{arith}
+use mathlib.Core.Path.{refl}
 use borrow.Author.Needs.{needs}
 use Rattle.run.proofs.words.has.Statement.{statement}
 use Rattle.run.proofs.words.has.Tie as tie

@@ -1,10 +1,9 @@
 -- `run::words::put` meets its contract. Assumes nothing.
 use Rattle.run.proofs.WordLaws.{shl-one, withBit-setOf}
 use lib.Bits.{bitOr}
-use lib.ListN.{length, getD, set, length-set}
-use Prim.Native.Nat.{ℕ, _+_, _-_, _*_, _/_, _%_, _^_, _≤_, _<_}
-use mathlib.Core.List.{List}
-use mathlib.Core.Path.{_≡_, refl, sym, ap, ap₂, _∙_, subst}
+use lib.ListN.{length, getD, set}
+use Prim.Native.Nat.{ℕ, _/_, _%_}
+use mathlib.Core.Path.{refl, ap, _∙_}
 use native.Mathlib.Omega.{arith}
 use borrow.Author.Needs.{needs}
 use Rattle.run.proofs.words.put.Statement.{statement}
