@@ -17,8 +17,15 @@ const REFUSED: u32 = 2;
 // The answer of lay.
 pub fn laid(answer: Laid) {
     match answer {
-        Laid::Course(n, fallback, length, first) => {
-            vectors::lines_course(n, fallback, length, first.beta, first.x, first.y)
+        Laid::Course(c) => {
+            vectors::lines_course(
+                c.n,
+                c.fallback,
+                c.entries,
+                c.first.beta,
+                c.first.x,
+                c.first.y,
+            )
         }
         Laid::Short(need) => vectors::lines_short(need),
         Laid::Refused(cause) => vectors::line_refused(cause),
@@ -53,10 +60,10 @@ fn end() {
 // How many tiles the start credits, and the lap; or the number of the cause.
 pub fn started(answer: StartAnswer) {
     match answer {
-        StartAnswer::Started(count, lap) => {
+        StartAnswer::Started(s) => {
             io::write_all(1, b"started");
-            more(count);
-            more_flag(lap);
+            more(s.count);
+            more_flag(s.lap);
             end();
         }
         StartAnswer::Refused(cause) => vectors::line_refused(cause),

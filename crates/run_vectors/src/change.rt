@@ -91,9 +91,9 @@ fn put_course(rest: &[u8], tiles: &mut [f64], offsets: &mut [u32], list: &mut [u
 // The tile count and the index list's length, or the number of the cause.
 fn line_laid(answer: Laid) {
     match answer {
-        Laid::Course(n, _, length, _) => {
-            vectors::line_u64(n as u64);
-            vectors::line_u64(length as u64);
+        Laid::Course(c) => {
+            vectors::line_u64(c.n as u64);
+            vectors::line_u64(c.entries as u64);
         }
         Laid::Short(need) => {
             vectors::line_refused(3);

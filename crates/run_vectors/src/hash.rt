@@ -1,7 +1,9 @@
 // Hashes of forces and of a whole state, field by field. A float goes by its bits.
 use run::dynamics::Force;
-use run::state::Core;
+use run::state::Car;
+use run::state::Progress;
 use run::state::Run;
+use run::state::Setup;
 use run::state::WheelCtl;
 use vectors::hash::mix;
 
@@ -51,35 +53,37 @@ pub fn forces(f: [Force; 4]) -> u64 {
     mix_force(c, f[3])
 }
 
-fn mix_counts(h: u64, s: Core) -> u64 {
-    let a = mix(h, wide(s.n));
-    let b = mix(a, wide(s.visited_count));
-    let c = mix(b, wide(s.tick));
-    let d = mix(c, wide(s.tick_limit));
-    mix_float(d, s.lap_share)
+fn mix_counts(h: u64, setup: Setup, progress: Progress) -> u64 {
+    let a = mix(h, wide(setup.n));
+    let b = mix(a, wide(progress.visited_count));
+    let c = mix(b, wide(progress.tick));
+    let d = mix(c, wide(setup.tick_limit));
+    mix_float(d, setup.lap_share)
 }
 
-fn mix_flags(h: u64, s: Core) -> u64 {
-    let a = mix_bool(h, s.lap);
-    let b = mix_bool(a, s.ended);
-    let c = mix_bool(b, s.fallback);
-    mix_bool(c, s.driven)
+fn mix_flags(h: u64, setup: Setup, progress: Progress) -> u64 {
+    let a = mix_bool(h, progress.lap);
+    let b = mix_bool(a, progress.ended);
+    let c = mix_bool(b, setup.fallback);
+    mix_bool(c, progress.driven)
 }
 
-fn mix_controls(h: u64, s: Core) -> u64 {
-    let ctl = s.ctl;
+fn mix_car(h: u64, car: Car) -> u64 {
+    let ctl = car.ctl;
     let a = mix_control(h, ctl[0]);
     let b = mix_control(a, ctl[1]);
     let c = mix_control(b, ctl[2]);
     let d = mix_control(c, ctl[3]);
-    mix_float(d, s.fuel_spent)
+    mix_float(d, car.fuel_spent)
 }
 
-// Of a whole state, field by field.
+// Of a whole state, field by field, in the order of the list's records.
 pub fn state(run: Run) -> u64 {
-    let core = run.core;
+    let setup = run.setup;
+    let progress = run.progress;
     let credited = run.credited;
     let wheels = run.wheels;
-    let h = mix_controls(mix_flags(mix_counts(1, core), core), core);
+    let counts = mix_counts(1, setup, progress);
+    let h = mix_car(mix_flags(counts, setup, progress), run.car);
     mix_words(mix_words(h, &credited), &wheels)
 }

@@ -31,7 +31,7 @@ use run::start;
 use run::start::StartAnswer;
 use run::state::Run;
 
-// The state but for its sets, as read::core has it.
+// The state but for its sets, in the order that read::setup says.
 const CORE: u64 = 5;
 
 // First place, end, word: into the credited words, or the wheels'.
@@ -103,7 +103,9 @@ fn fill(col: &mut [u64], first: u64, end: u64, w: u64) {
 
 // The state with other credited words.
 fn put_credited(rest: &[u8], run: Run) -> Run {
-    let core = run.core;
+    let setup = run.setup;
+    let progress = run.progress;
+    let car = run.car;
     let mut credited = run.credited;
     let wheels = run.wheels;
     fill(
@@ -113,7 +115,9 @@ fn put_credited(rest: &[u8], run: Run) -> Run {
         vectors::word(rest, 3),
     );
     Run {
-        core,
+        setup,
+        progress,
+        car,
         credited,
         wheels,
     }
@@ -121,7 +125,9 @@ fn put_credited(rest: &[u8], run: Run) -> Run {
 
 // The state with other words of wheels.
 fn put_wheels(rest: &[u8], run: Run) -> Run {
-    let core = run.core;
+    let setup = run.setup;
+    let progress = run.progress;
+    let car = run.car;
     let credited = run.credited;
     let mut wheels = run.wheels;
     fill(
@@ -131,19 +137,25 @@ fn put_wheels(rest: &[u8], run: Run) -> Run {
         vectors::word(rest, 3),
     );
     Run {
-        core,
+        setup,
+        progress,
+        car,
         credited,
         wheels,
     }
 }
 
-// The state with the record's core.
+// The record's state, with the sets as they were.
 fn put_core(rest: &[u8], run: Run) -> Run {
-    let core = read::core(rest);
+    let setup = read::setup(rest);
+    let progress = read::progress(rest);
+    let car = read::car(rest);
     let credited = run.credited;
     let wheels = run.wheels;
     Run {
-        core,
+        setup,
+        progress,
+        car,
         credited,
         wheels,
     }
@@ -151,9 +163,9 @@ fn put_core(rest: &[u8], run: Run) -> Run {
 
 fn line_started(answer: StartAnswer) {
     match answer {
-        StartAnswer::Started(count, lap) => {
-            vectors::line_u64(count as u64);
-            vectors::line_bool(lap);
+        StartAnswer::Started(s) => {
+            vectors::line_u64(s.count as u64);
+            vectors::line_bool(s.lap);
         }
         StartAnswer::Refused(cause) => vectors::line_refused(cause),
     }
@@ -212,12 +224,12 @@ fn replay_drive(rest: &[u8], run: Run) -> Run {
 
 fn line_settled(answer: SettleAnswer) {
     match answer {
-        SettleAnswer::Settled(fresh, n, off, lap, ended) => {
-            vectors::line_u64(fresh as u64);
-            vectors::line_u64(n as u64);
-            vectors::line_bool(off);
-            vectors::line_bool(lap);
-            vectors::line_bool(ended);
+        SettleAnswer::Settled(s) => {
+            vectors::line_u64(s.new_tiles as u64);
+            vectors::line_u64(s.n as u64);
+            vectors::line_bool(s.off);
+            vectors::line_bool(s.lap);
+            vectors::line_bool(s.ended);
         }
         SettleAnswer::Refused(cause) => vectors::line_refused(cause),
     }
@@ -251,7 +263,7 @@ fn line_sheet(s: RunSheet) {
 }
 
 fn replay_sheet(run: Run) {
-    match sheet::sheet(run) {
+    match sheet::sheet(run.setup, run.progress) {
         SheetAnswer::Sheet(s) => line_sheet(s),
         SheetAnswer::Refused(cause) => vectors::line_refused(cause),
     }
@@ -374,11 +386,15 @@ fn replay(
 
 // The state of zeros: a list has only those past its end.
 fn zero_run() -> Run {
-    let core = read::core(b"");
+    let setup = read::setup(b"");
+    let progress = read::progress(b"");
+    let car = read::car(b"");
     let credited = [0u64; 40];
     let wheels = [0u64; 160];
     Run {
-        core,
+        setup,
+        progress,
+        car,
         credited,
         wheels,
     }

@@ -1,8 +1,10 @@
 // What a record says, from its words.
 ghost use Prim.Native.Nat.{_≤_};
 use run::dynamics::Motion;
-use run::state::Core;
+use run::state::Car;
 use run::state::Pose;
+use run::state::Progress;
+use run::state::Setup;
 use run::state::WheelCtl;
 
 // The pose from word k on.
@@ -89,20 +91,33 @@ fn controls(rest: &[u8]) -> [WheelCtl; 4] {
     [a, b, c, d]
 }
 
-// A state but for its sets: n, count, tick, tick limit, lap share, the four flags as bits of a word, controls, fuel.
-pub fn core(rest: &[u8]) -> Core {
-    let flags = vectors::word(rest, 6);
-    let ctl = controls(rest);
-    Core {
+// A state but for its sets is n, count, tick, tick limit, lap share, the four flags (lap, ended, fallback, driven) as bits of
+// a word, controls, fuel. Of these, what start fixes.
+pub fn setup(rest: &[u8]) -> Setup {
+    Setup {
         n: narrow(vectors::word(rest, 1)),
-        visited_count: narrow(vectors::word(rest, 2)),
-        tick: narrow(vectors::word(rest, 3)),
         tick_limit: narrow(vectors::word(rest, 4)),
         lap_share: vectors::float(rest, 5),
+        fallback: flag(vectors::word(rest, 6) / 4),
+    }
+}
+
+// What settle changes.
+pub fn progress(rest: &[u8]) -> Progress {
+    let flags = vectors::word(rest, 6);
+    Progress {
+        visited_count: narrow(vectors::word(rest, 2)),
+        tick: narrow(vectors::word(rest, 3)),
         lap: flag(flags),
         ended: flag(flags / 2),
-        fallback: flag(flags / 4),
         driven: flag(flags / 8),
+    }
+}
+
+// What drive changes.
+pub fn car(rest: &[u8]) -> Car {
+    let ctl = controls(rest);
+    Car {
         ctl,
         fuel_spent: vectors::float(rest, 27),
     }
