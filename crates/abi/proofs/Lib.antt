@@ -1,2 +1,3 @@
 pub mod CarLaws
 pub mod FlatLaws
+pub mod HostLaws

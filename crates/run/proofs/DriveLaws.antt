@@ -8,7 +8,7 @@ use Rattle.run.specs.Arguments.{motionAt}
 use Rattle.run.specs.Dynamics.{turningOf, limitOf, heldOf, pushOf, finishOf, tyreOf}
 use Rattle.run.specs.State.{State, stateOf, awaiting}
 use Rattle.run.specs.Grip.{roadsOf}
-use Rattle.run.specs.Pass.{frontOf, rearOf, ctlAt, roadAt, Passed, passed, gatheredOf, passOf, noForces}
+use Rattle.run.specs.Pass.{frontOf, rearOf, ctlAt, roadAt, Passed, tyresPassed, gatheredOf, passOf, noForces}
 use Rattle.run.specs.Drive.{driveAnswer, driveCauseOf, driveCause, driveAt, drivePartsOf, driven, driveOf}
 use Rattle.run.specs.declared.state.WheelCtl.{WheelCtl}
 use Rattle.run.specs.declared.dynamics.TyreForce.{TyreForce}
@@ -70,7 +70,7 @@ module _ (m most : ℕ) (u : Setup) (p : Progress) (car : Car) (wheels : List �
       ∙ ap (λ (j : ℕ). driveAt j p car (passOf car action ms (roadsOf m wheels))) e
 
   pub drive-accepted : (k : ℕ) (after : Car) (fs : List Force) (next : Progress) → k ≡ driveCause most u p action ms → k ≡ 0
-      → passed after fs ≡ passOf car action ms (roadsOf m wheels) → next ≡ awaiting p
+      → tyresPassed after fs ≡ passOf car action ms (roadsOf m wheels) → next ≡ awaiting p
       → record { answer = Forces; forces = fs; progress = next; car = after } ≡ drivePartsOf m most u p car wheels action ms
   unfolding drivePartsOf driveAt driveAnswer
   drive-accepted k after fs next e z h n =

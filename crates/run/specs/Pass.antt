@@ -48,8 +48,8 @@ pub record Passed : Type 0 where
   pub car : Car
   pub forces : List Force
 
-abbrev pub passed : Car → List Force → Passed
-passed car fs = record { car = car; forces = fs }
+abbrev pub tyresPassed : Car → List Force → Passed
+tyresPassed car fs = record { car = car; forces = fs }
 
 abbrev pub ctlAt : List WheelCtl → ℕ → WheelCtl
 ctlAt ws i = getD ws i (record { gas = nan; brake = nan; steer = nan; omega = nan; phase = nan })
@@ -59,7 +59,7 @@ roadAt roads i = getD roads i false
 
 -- from what each wheel's pass leaves
 unfoldable pub gatheredOf : Turned → Turned → Turned → Turned → Passed
-gatheredOf a b c d = passed (record { ctl = a .ctl ∷ b .ctl ∷ c .ctl ∷ d .ctl ∷ []; «fuel_spent» = d .«fuel_spent» }) (a .force ∷ b .force ∷ c .force ∷ d .force ∷ [])
+gatheredOf a b c d = tyresPassed (record { ctl = a .ctl ∷ b .ctl ∷ c .ctl ∷ d .ctl ∷ []; «fuel_spent» = d .«fuel_spent» }) (a .force ∷ b .force ∷ c .force ∷ d .force ∷ [])
 
 unfoldable pub passOf : Car → ℕ → List Motion → List Bool → Passed
 passOf car action ms roads =

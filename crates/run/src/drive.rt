@@ -6,7 +6,7 @@ ghost use Rattle.run.specs.Widths.{fullWords, mostTiles};
 ghost use Rattle.run.specs.State.{view, awaiting};
 ghost use Rattle.run.specs.Grip.{onRoad, roadsOf};
 ghost use Rattle.run.specs.Arguments.{motionOk, motionsOk};
-ghost use Rattle.run.specs.Pass.{indicator, frontOf, rearOf, passed, gatheredOf, passOf, noForces};
+ghost use Rattle.run.specs.Pass.{indicator, frontOf, rearOf, tyresPassed, gatheredOf, passOf, noForces};
 ghost use Rattle.run.specs.Drive.{driveCause, drivePartsOf, driven, driveOf};
 ghost use Rattle.run.specs.DriveSteps.{anyStands};
 use crate::dynamics;
@@ -85,7 +85,7 @@ fn rear(w: WheelCtl, action: u32) -> WheelCtl
 
 // What the pass leaves, from what each wheel's leaves.
 fn gathered(a: Turned, b: Turned, c: Turned, d: Turned) -> Passed
-    ensures { λ r. ⌜ passed (r .car) (r .forces) ≡ gatheredOf a b c d ⌝ }
+    ensures { λ r. ⌜ tyresPassed (r .car) (r .forces) ≡ gatheredOf a b c d ⌝ }
 {
     let c0 = a.ctl;
     let c1 = b.ctl;
@@ -108,7 +108,7 @@ fn gathered(a: Turned, b: Turned, c: Turned, d: Turned) -> Passed
 // The tyre pass over the four wheels, the fuel going from one to the next. What pushes at the tyres is worked out for all of them
 // before any is cut: a root takes long, and so the wheels' roots do not wait for each other.
 fn pass(car: Car, action: u32, motion: [Motion; 4], roads: [bool; 4]) -> Passed
-    ensures { λ r. ⌜ passed (r .car) (r .forces) ≡ passOf car action motion roads ⌝ }
+    ensures { λ r. ⌜ tyresPassed (r .car) (r .forces) ≡ passOf car action motion roads ⌝ }
 {
     let ctl = car.ctl;
     let w0 = front(ctl[0], action);
