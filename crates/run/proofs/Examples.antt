@@ -1,4 +1,4 @@
--- The ten marked examples of document 01, proved as one theorem, `marked`; those of random numbers, cells and roots in the crates below. Assumes nothing.
+-- The ten marked examples of document 01, proved as one theorem, `marked`; those of random numbers, cells and roots in the crates below, that of two points in PointQuads. Assumes nothing.
 use mathlib.Core.Path.{_≡_, refl, sym, ap, ap₂, _∙_}
 use mathlib.Core.Bool.{Bool, true, false}
 use mathlib.Core.List.{List, [], _∷_}
@@ -15,6 +15,7 @@ use Rattle.run.specs.Pass.{indicator, gasOf, raisedOf, rearOf, ctlAt, ga
 use Rattle.run.specs.Reward.{atLeastOne, rewardOf, defaultWeights}
 use Rattle.run.specs.Examples.{rectangle, RearGas, Marked}
 use Rattle.run.proofs.Literals.{zero-bits, tenth, two-tenths}
+use Rattle.run.proofs.PointQuads.{points-overlap}
 use Rattle.run.specs.declared.state.Car.{Car}
 use Rattle.run.specs.declared.dynamics.Motion.{Motion}
 
@@ -23,11 +24,6 @@ squares : (overlapOf (rectangle (natural 0) (natural 0) (natural 1) (natural 1))
     × (overlapOf (rectangle (natural 0) (natural 0) (natural 1) (natural 1)) (rectangle (decimal 15 10) (natural 0) (natural 2) (natural 1)) ≡ false)
 unfolding overlapOf apartByEdges apartAlong apartOn leastOn greatestOn leastOf greatestOf minOf maxOf f64Max f64Min natural decimal ofInt round add sub mul neg lt isNan ofBits
 squares = (refl, refl)
-
--- 5: two quads shrunk to two different points overlap
-two-points : overlapOf (rectangle (natural 0) (natural 0) (natural 0) (natural 0)) (rectangle (natural 1) (natural 1) (natural 1) (natural 1)) ≡ true
-unfolding overlapOf apartByEdges apartAlong apartOn leastOn greatestOn leastOf greatestOf minOf maxOf f64Max f64Min natural decimal ofInt round add sub mul neg lt isNan ofBits
-two-points = refl
 
 -- 6: 95 of 100 at 0.95 is no lap, 96 is one
 lap : (lapOf false true 95 100 (decimal 95 100) ≡ false) × (lapOf false true 96 100 (decimal 95 100) ≡ true)
@@ -96,7 +92,7 @@ marked =
       cell-1000 = course.marked .cell-high;
       squares-touch = squares .0;
       squares-apart = squares .1;
-      two-points = two-points;
+      two-points = points-overlap;
       lap-95 = lap .0;
       lap-96 = lap .1;
       reward-2 = reward .0;

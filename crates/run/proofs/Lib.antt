@@ -12,6 +12,7 @@ pub mod Tests
 pub mod AnyLaws
 pub mod DriveLaws
 pub mod RoadLaws
+pub mod PointQuads
 pub mod Examples
 pub mod SheetLaws
 pub mod PlainContact

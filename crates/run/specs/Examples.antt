@@ -3,8 +3,10 @@ use mathlib.Core.Path.{_≡_}
 use mathlib.Core.Bool.{Bool, true, false}
 use mathlib.Core.List.{List, [], _∷_}
 use Prim.Native.Nat.{ℕ}
+use lib.Dec.{T}
 use lib.IntN.{pos, negsuc}
 use lib.Ieee.{Float, fin, nan, neg}
+use lib.Ieee.Scale.{finite}
 use Rattle.course.specs.Draws.{seeded, unitOf}
 use Rattle.course.specs.Arithmetic.{_⊖_, natural, decimal}
 use Rattle.course.specs.Cell.{cellOf}
@@ -41,8 +43,10 @@ pub record Marked : Type 0 where
   -- 4. Squares 0..1 and 1..2 by 0..1: touch. 0..1 and 1.5..2: none
   pub squares-touch : overlapOf (rectangle (natural 0) (natural 0) (natural 1) (natural 1)) (rectangle (natural 1) (natural 0) (natural 2) (natural 1)) ≡ true
   pub squares-apart : overlapOf (rectangle (natural 0) (natural 0) (natural 1) (natural 1)) (rectangle (decimal 15 10) (natural 0) (natural 2) (natural 1)) ≡ false
-  -- 5. Two quads shrunk to two different points: overlap
-  pub two-points : overlapOf (rectangle (natural 0) (natural 0) (natural 0) (natural 0)) (rectangle (natural 1) (natural 1) (natural 1) (natural 1)) ≡ true
+  -- 5. Two quads shrunk to two different points: overlap. Here any two points with finite coordinates, whether they differ or not. An infinite
+  -- coordinate would part them: the projections are then NaN, which least and greatest pass over, and f64::MIN is below f64::MAX
+  pub two-points : (x y z w : Float) → T (finite x) → T (finite y) → T (finite z) → T (finite w)
+      → overlapOf (rectangle x y x y) (rectangle z w z w) ≡ true
   -- 6. 95 of 100 at 0.95: no lap. 96: lap
   pub lap-95 : lapOf false true 95 100 (decimal 95 100) ≡ false
   pub lap-96 : lapOf false true 96 100 (decimal 95 100) ≡ true
