@@ -31,7 +31,7 @@ size a m = omega arith
 next : (w m : ℕ) → w * m + m ≡ (w + 1) * m
 next w m = sym (suc-mul w m) ∙ ap (λ (k : ℕ). k * m) (sym (add-one w))
 
-end-within : (w k m : ℕ) → w < k → w * m + m ≤ k * m
+pub end-within : (w k m : ℕ) → w < k → w * m + m ≤ k * m
 end-within w k m h = le-trans (le-of-eq (sym (suc-mul w m))) (mul-le-mul-right m h)
 
 -- a wheel's words end within those of the four wheels

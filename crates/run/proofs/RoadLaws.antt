@@ -4,16 +4,17 @@ use mathlib.Core.List.{List}
 use mathlib.Core.Path.{_≡_, refl, sym, ap, _∙_, subst}
 use Prim.Native.Nat.{ℕ, zero, suc, _+_, _-_, _*_, _^_, _≤_, _<_}
 use native.Mathlib.Omega.{arith}
+use native.Mathlib.Numerals.{add-one}
 use native.Mathlib.Decide.{ℕ-discrete, decLt}
 use lib.Dec.{eqb}
-use lib.ListN.{getD, take, drop}
+use lib.ListN.{getD, set, take, drop}
 use lib.Seq.{getD-take, getD-drop}
 use borrow.Author.Tests.{eqb-true, eq-eqb}
 use Rattle.run.specs.Below.{anyBelow}
 use Rattle.run.specs.Words.{member}
 use Rattle.run.specs.Contact.{wheelPart}
-use Rattle.run.specs.Grip.{onRoad}
-use Rattle.run.specs.DriveSteps.{stands, anyStands}
+use Rattle.run.specs.Grip.{onRoad, roadsOf}
+use Rattle.run.specs.DriveSteps.{stands, anyStands, roadsTo}
 use Rattle.run.proofs.Tests.{not-false}
 use Rattle.run.proofs.AnyLaws.{any-none, any-false, any-found, none-found}
 
@@ -106,3 +107,14 @@ module _ (m w : ℕ) (ws : List ℕ) where
       zero-at n j h (no q) =
           let i : w * m + j ≡ w * m + k + (j - k) = omega (arith, q) in
           ap (λ (x : ℕ). getD ws x 0) i ∙ none-of ws (w * m + k) (m - k) (j - k) n (omega (arith, q, h, l))
+
+-- ---- wheel by wheel
+pub roads-more : (m : ℕ) (ws : List ℕ) (k : ℕ) (l : List Bool) (b : Bool) → l ≡ roadsTo m ws k → b ≡ onRoad m ws k → set l k b ≡ roadsTo m ws (k + 1)
+unfolding roadsTo
+roads-more m ws k l b e h = (λ i. set (e i) k (h i)) ∙ sym (ap (roadsTo m ws) (add-one k))
+
+pub roads-all : (m : ℕ) (ws : List ℕ) (k : ℕ) (l : List Bool) → l ≡ roadsTo m ws k → k ≤ 4 → 4 ≤ k → l ≡ roadsOf m ws
+unfolding roadsTo roadsOf
+roads-all m ws k l e a b =
+    let all : k ≡ 4 = omega (arith, a, b) in
+    e ∙ ap (roadsTo m ws) all

@@ -185,16 +185,18 @@ fn on_road(wheels: &[u64], words: usize, w: usize) -> bool
     any_stands(wheels, from + first, words - first)
 }
 
-// Which wheels touched a tile at the last contact.
+// Which wheels touched a tile at the last contact. One place that calls the test, so that it is compiled into it.
 fn roads_of(wheels: &[u64], words: usize) -> [bool; 4]
     requires { do ⌜ 4 * words ≤ (← ⟦wheels.len()⟧) ⌝ }
     ensures { λ r. ⌜ r ≡ roadsOf words (now (wheels .entry)) ⌝ }
 {
-    let a = on_road(wheels, words, 0);
-    let b = on_road(wheels, words, 1);
-    let c = on_road(wheels, words, 2);
-    let d = on_road(wheels, words, 3);
-    [a, b, c, d]
+    let mut roads = [false; 4];
+    let mut w: usize = 0;
+    while w < 4 {
+        roads[w] = on_road(wheels, words, w);
+        w += 1;
+    }
+    roads
 }
 
 // The four wheels' numbers are in range.

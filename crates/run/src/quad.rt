@@ -1,5 +1,6 @@
 // Quads of four corners: a wheel's, a tile's, and whether two of them overlap (document 01, "Touch").
 ghost use mathlib.Core.Path.{_≡_};
+ghost use mathlib.Core.Bool.{not, _||_};
 ghost use Prim.Native.Nat.{_+_, _*_, _≤_};
 ghost use lib.ListN.{length};
 ghost use Rattle.course.specs.Tiles.{corner};
@@ -96,6 +97,17 @@ fn is_beyond(s: Side, q: [[f64; 2]; 4]) -> bool
     (s.high < least_on(s.nx, s.ny, q)) | (greatest_on(s.nx, s.ny, q) < s.low)
 }
 
+// Neither the other edges of `a` nor those of `b` part the quads. Apart from the test of the first side, which is compiled into its caller:
+// most pairs need no more.
+fn overlap_past_first(a: [[f64; 2]; 4], b: [[f64; 2]; 4]) -> bool
+    ensures { λ r. ⌜ r ≡ not (apartByOthers a a b || apartByEdges b a b) ⌝ }
+{
+    if apart_by_others(a, a, b) {
+        return false;
+    }
+    !apart_by_edges(b, a, b)
+}
+
 // Whether two quads overlap, by the eight normals of their edges; the first side of `a` is made already.
 pub(crate) fn overlap_from(side: Side, a: [[f64; 2]; 4], b: [[f64; 2]; 4]) -> bool
     requires { ⌜ side ≡ firstSide a ⌝ }
@@ -104,10 +116,7 @@ pub(crate) fn overlap_from(side: Side, a: [[f64; 2]; 4], b: [[f64; 2]; 4]) -> bo
     if is_beyond(side, b) {
         return false;
     }
-    if apart_by_others(a, a, b) {
-        return false;
-    }
-    !apart_by_edges(b, a, b)
+    overlap_past_first(a, b)
 }
 
 // Whether two quads overlap.
