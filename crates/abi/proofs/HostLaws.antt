@@ -1,27 +1,22 @@
 -- A list of calls through the boundary, each fed what the last one left, gives the answers and the state of the list by value; so what demand 3 says of
 -- that list holds for what a host reads and keeps. For any number of words. Assumes nothing.
-use mathlib.Core.Bool.{Bool}
 use mathlib.Core.List.{List, [], _∷_, map}
-use mathlib.Core.Path.{_≡_, refl, sym, ap, _∙_}
+use mathlib.Core.Path.{_≡_, refl, ap, _∙_}
 use Prim.Native.Nat.{ℕ, zero, suc}
 use native.Mathlib.Omega.{arith}
 use lib.Ieee.{Float}
 use borrow.Author.Tests.{ne-eqb}
-use Rattle.course.specs.Lent.{Outcome}
-use Rattle.course.specs.declared.tiles.TrackPoint.{TrackPoint}
 use Rattle.run.specs.State.{State, stateOf, Columns}
-use Rattle.run.specs.Grip.{roadsOf}
 use Rattle.run.specs.Pass.{gatheredOf, passOf, stillCar}
 use Rattle.run.specs.Drive.{driveAnswer, driveCauseOf, driveCause, driveAt, drivePartsOf, driveOf}
 use Rattle.run.specs.Settle.{settleAnswer, settleCauseOf, settleValuesOf, settleCause, settledBy, settleAt, settlePartsOf, settleOf}
-use Rattle.run.specs.Start.{Begun, zeroState, startedBy, startAt, startOf}
+use Rattle.run.specs.Start.{zeroState, startedBy, startAt, startOf}
 use Rattle.run.specs.Answers.{Answer}
 use Rattle.run.specs.Calls.{Call, Replied, replyOf, repliesOf, stateAfter}
 use Rattle.run.specs.Replay.{motionsFrom, forceNumbers, forceFrom}
 use Rattle.run.specs.declared.state.Setup.{Setup}
 use Rattle.run.specs.declared.state.Progress.{Progress}
 use Rattle.run.specs.declared.state.Pose.{Pose}
-use Rattle.run.specs.declared.dynamics.Motion.{Motion}
 use Rattle.run.specs.Start.{Settings, startCause}
 use Rattle.abi.specs.Flat.{flatDriven, flatSettled}
 use Rattle.abi.specs.Lent.{wheelFrom, carFrom, carNumbers, driveLent, settleLent}

@@ -1,7 +1,7 @@
 -- Demand 3 (document 01, "The plain scorer") speaks of a list of calls by value. A host makes them through the boundary, on a run that it keeps in place: each
 -- call is fed what the last one left, and what is written back beside the lent numbers and words is the progress. Such a list, and what is read of its answers.
 -- For sets of m words that hold `most` tiles. Assumes nothing.
-use mathlib.Core.Bool.{Bool, cond}
+use mathlib.Core.Bool.{cond}
 use mathlib.Core.List.{List, [], _∷_}
 use Prim.Native.Nat.{ℕ}
 use lib.Dec.{eqb}

@@ -1,6 +1,6 @@
 -- Drive and settle for a host that keeps its run where it stands: the car and the sets are lent and changed in place, motions are read and forces written as
 -- numbers. What such a call answers and leaves is said by the call on the parts of a state. For sets of m words that hold `most` tiles. Assumes nothing.
-use mathlib.Core.Bool.{Bool, cond}
+use mathlib.Core.Bool.{cond}
 use mathlib.Core.List.{List, [], _∷_}
 use Prim.Native.Nat.{ℕ, _+_}
 use lib.Dec.{eqb}

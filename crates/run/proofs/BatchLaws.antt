@@ -1,6 +1,6 @@
 -- What a replay leaves, from what its calls leave: the plain scorer's answers. Assumes nothing.
 use mathlib.Core.Bool.{Bool, true, false, cond, not, _&&_, _||_}
-use mathlib.Core.List.{List, [], _∷_, _++_, map, map-append}
+use mathlib.Core.List.{List, [], _∷_, _++_, map-append}
 use mathlib.Core.Path.{_≡_, refl, sym, ap, ap₂, _∙_, subst}
 use Prim.Native.Nat.{ℕ, zero, suc, _+_, _*_, _≤_, _<_, min}
 use native.Mathlib.Numerals.{add-one}
@@ -14,7 +14,7 @@ use Rattle.course.specs.Constants.{maxAttempts}
 use Rattle.course.specs.Lengths.{mostNumbers, offsetCount, mostPoints}
 use Rattle.course.specs.Course.{cellsOf}
 use Rattle.course.specs.Lent as course
-use Rattle.course.specs.Lent.{Outcome, outcome, layInto, laidFigures, laidAnswer, laidCauseOf, laidValuesOf}
+use Rattle.course.specs.Lent.{Outcome, layInto, laidFigures, laidAnswer, laidCauseOf, laidValuesOf}
 use Rattle.course.specs.Lay.{CoursePoints, courseOf, layCall}
 use Rattle.course.specs.declared.tiles.TrackPoint.{TrackPoint}
 use Rattle.course.specs.declared.points.Laid.{Laid}
@@ -23,7 +23,7 @@ use Rattle.course.specs.declared.points.Laid.the-variants.{Course as Made, Shor
 use Rattle.course.proofs.IndexLaws.{and-left, and-right}
 use Rattle.course.proofs.CourseSizes.{course-sized}
 use Rattle.course.proofs.LayLaws.{roomy, lay-cause, lay-course}
-use Rattle.run.specs.Arguments.{settingsOk, shortColumns, posesOk}
+use Rattle.run.specs.Arguments.{settingsOk, shortColumns}
 use Rattle.run.specs.Widths.{fullWords, mostTiles}
 use Rattle.run.specs.State.{State, Columns, columns, shortOf, unfit}
 use Rattle.run.specs.Start.{Settings, startShort, startCause, startAnswer, setupOf, firstProgress, zeroState, Begun, begun, startAt, startOf}
@@ -36,7 +36,7 @@ use Rattle.run.specs.Certificate.{Lending, lentBy, lengthsOf, Given, cal
 use Rattle.run.specs.Certificate.Lending.{laid, short}
 use Rattle.run.specs.Replay.{callWords, callNumbers, answerWords, answerNumbers, allWords, allNumbers, partAt, numberAt, motionsFrom, posesFrom}
 use Rattle.run.specs.ReplaySteps.{lentTo, callFrom, callsTo}
-use Rattle.run.specs.Batch.{toldFrom, toldsTo, plainStart, plainAnswers, sheetOn, plainSheet, laidCourse, Replay, replayOn, roomFor, replayOf}
+use Rattle.run.specs.Batch.{toldFrom, toldsTo, plainStart, plainAnswers, sheetOn, plainSheet, laidCourse, replayOn, roomFor, replayOf}
 use Rattle.run.specs.declared.start.StartAnswer.{StartAnswer}
 use Rattle.run.specs.declared.start.StartAnswer.the-variants.{Refused as NotStarted}
 use Rattle.run.specs.declared.sheet.SheetAnswer.{SheetAnswer}

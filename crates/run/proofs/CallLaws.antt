@@ -2,7 +2,7 @@
 use mathlib.Core.Bool.{Bool, true, false, cond, not, _&&_, _||_, true≢false}
 use mathlib.Core.List.{List}
 use mathlib.Core.Path.{_≡_, refl, sym, ap, ap₂, _∙_, subst}
-use Prim.Native.Nat.{ℕ, zero, suc, _+_, _*_, _≤_, _<_}
+use Prim.Native.Nat.{ℕ, zero, suc, _*_, _≤_, _<_}
 use native.Mathlib.Omega.{arith}
 use lib.Dec.{ltb, leb}
 use lib.ListN.{length}
@@ -17,14 +17,13 @@ use Rattle.run.specs.Words.{member}
 use Rattle.run.specs.Contact.{entered, Contacted, contacted, contactOf}
 use Rattle.run.proofs.CreditLaws.{few}
 use Rattle.run.specs.Lap.{lapOf, offField}
-use Rattle.run.specs.Start.{Settings, startShort, startCause, startAnswer, setupOf, firstProgress, zeroState, Begun, begun, firstContact, startedBy, startAt, startOf}
+use Rattle.run.specs.Start.{Settings, startShort, startCause, startAnswer, setupOf, firstProgress, zeroState, begun, firstContact, startedBy, startAt, startOf}
 use Rattle.run.specs.Pass.{stillCar}
 use Rattle.run.specs.Settle.{settleCause, settleAnswer, settledProgress, SettledParts, settledParts, settledBy, settleAt, settlePartsOf, done, settleOf}
 use Rattle.run.specs.declared.state.Setup.{Setup}
 use Rattle.run.specs.declared.state.Progress.{Progress}
 use Rattle.run.specs.declared.state.Car.{Car}
 use Rattle.run.specs.declared.state.Pose.{Pose}
-use Rattle.run.specs.declared.start.StartAnswer.{StartAnswer}
 use Rattle.run.specs.declared.start.StartAnswer.the-variants.{Started, Refused}
 use Rattle.run.specs.declared.settle.SettleAnswer.{SettleAnswer}
 use Rattle.run.specs.declared.settle.SettleAnswer.the-variants.{Settled, Refused as NotSettled}

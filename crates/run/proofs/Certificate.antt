@@ -1,41 +1,39 @@
 -- Demand 3: the certificate's proof, over the whole list of calls. Assumes nothing.
-use mathlib.Core.Bool.{Bool, true, false, cond, not, _&&_, _||_, true≢false}
-use mathlib.Core.List.{List, [], _∷_, _++_, map}
-use mathlib.Core.Path.{_≡_, refl, sym, ap, ap₂, _∙_, subst}
+use mathlib.Core.Bool.{Bool, true, false, cond, not, _||_, true≢false}
+use mathlib.Core.List.{List, [], _∷_, _++_}
+use mathlib.Core.Path.{_≡_, refl, sym, ap, _∙_, subst}
 use Prim.Native.Nat.{ℕ, zero, suc, _+_, _-_, _*_, _≤_, _<_}
 use native.Mathlib.Nat.{le-trans}
 use native.Mathlib.Omega.{arith}
 use lib.Dec.{ltb}
 use lib.ListN.{length, replicate, length-map}
-use lib.Ieee.{Float}
 use Rattle.course.specs.Arithmetic.{nought}
 use Rattle.course.specs.Constants.{maxAttempts}
 use Rattle.course.specs.Lengths.{mostPoints, mostNumbers}
-use Rattle.course.specs.Tiles.{tilesOf, noPoint}
-use Rattle.course.specs.Course.{fromPoints, cellsOf}
+use Rattle.course.specs.Tiles.{tilesOf}
+use Rattle.course.specs.Course.{cellsOf}
 use Rattle.course.specs.Lent as course
-use Rattle.course.specs.Lent.{Outcome, outcome, roomyOf, written, answered, layInto, laidCauseOf, laidValuesOf}
-use Rattle.course.specs.Lay.{courseOf, layCall}
+use Rattle.course.specs.Lent.{Outcome, answered, layInto, laidValuesOf}
+use Rattle.course.specs.Lay.{courseOf}
 use Rattle.course.specs.declared.tiles.TrackPoint.{TrackPoint}
-use Rattle.course.proofs.CourseSizes.{Sized, course-sized}
+use Rattle.course.proofs.CourseSizes.{course-sized}
 use Rattle.course.proofs.LayLaws.{roomy, lay-cause, lay-course}
 use Rattle.run.specs.Widths.{fullWords, mostTiles}
-use Rattle.run.specs.Arguments.{settingsOk, shortColumns, posesOk}
-use Rattle.run.specs.State.{State, Columns, columns, shortOf, unfit}
+use Rattle.run.specs.Arguments.{settingsOk, posesOk}
+use Rattle.run.specs.State.{State, Columns, shortOf, unfit}
 use Rattle.run.specs.Words.{member}
 use Rattle.run.specs.Contact.{wheelPart}
 use Rattle.run.specs.Touch.{soundPoses}
-use Rattle.run.specs.Start.{Settings, startShort, startCause, startAnswer, setupOf, firstProgress, zeroState, Begun, firstContact, startedBy, startAt, startOf, startCauseOf, startValuesOf}
+use Rattle.run.specs.Start.{Settings, startShort, startCause, startAnswer, setupOf, firstProgress, zeroState, Begun, startedBy, startAt, startOf, startCauseOf, startValuesOf}
 use Rattle.run.specs.Drive.{driveAnswer, driveCause, driveAt, drivePartsOf, driveOf}
 use Rattle.run.specs.Settle.{settleAnswer, settleCause, settleAt, settlePartsOf, settleOf}
 use Rattle.run.specs.Answers.{Answer}
-use Rattle.run.specs.Answers.Answer.{drove, settled, refused}
+use Rattle.run.specs.Answers.Answer.{refused}
 use Rattle.run.specs.Calls.{Call, Replied, replyOf, repliesOf, stateAfter}
-use Rattle.run.specs.Scorer.{Lengths, Opening, Told, History, opening, drives, settles, lastPoses, touch, touched, touchedCount, lapDone, over, ended, startNumber, score, scores, keptOf}
+use Rattle.run.specs.Scorer.{Opening, Told, History, opening, drives, settles, lastPoses, touch, touched, touchedCount, lapDone, over, ended, startNumber, score, scores, keptOf}
 use Rattle.run.specs.Scorer.History.{begun}
 use Rattle.run.specs.Certificate.{Lending, lentBy, lengthsOf, Given, callOf, toldOf, callsOf, toldsOf, newSum, endedBy, allOccur, settingsOn, keptBy, Graded, startOn, Demand3, layNumber, Certificate}
 use Rattle.run.specs.Certificate.Lending.{laid, short}
-use Rattle.run.specs.declared.state.Pose.{Pose}
 use Rattle.run.proofs.CallLaws.{cleared, or-no}
 use Rattle.run.proofs.ScoreLaws.{InTurn, kept-turn, opening-kept, sum-is, end-is, ended-over, all-occur}
 use Rattle.run.proofs.Simulation.{held, Holds, settingsBy, stateOf, withState, cond-else, cond-skip, started, toldBy, Lent, reply-is}

@@ -1,9 +1,9 @@
 -- The ten marked examples of document 01, proved as one theorem, `marked`; those of random numbers, cells and roots in the crates below, that of two points in PointQuads. Assumes nothing.
 use mathlib.Core.Path.{_≡_, refl, sym, ap, ap₂, _∙_}
 use mathlib.Core.Bool.{Bool, true, false}
-use mathlib.Core.List.{List, [], _∷_}
+use mathlib.Core.List.{List}
 use Prim.Native.Nat.{ℕ}
-use lib.Ieee.{Float, binary64, ofBits, ofInt, round, add, sub, mul, div, neg, lt, le, isNan}
+use lib.Ieee.{binary64, ofBits, ofInt, round, add, sub, mul, div, neg, lt, le, isNan}
 use Rattle.course.specs.Arithmetic.{_⊖_, natural, decimal}
 use Rattle.course.specs.Constants.{f64Max, f64Min}
 use Rattle.course.specs.Numeric.{absOf, minOf, maxOf, leastOf, greatestOf, clampOf, signumOf}

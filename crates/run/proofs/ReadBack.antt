@@ -1,5 +1,5 @@
 -- No two answers are written alike: every answer is read back from its words and numbers. Assumes nothing.
-use mathlib.Core.Bool.{Bool, true, false, cond}
+use mathlib.Core.Bool.{Bool, true, false}
 use mathlib.Core.List.{List, [], _∷_, _++_, append-assoc}
 use mathlib.Core.Path.{_≡_, refl, sym, ap, ap₂, _∙_}
 use Prim.Native.Nat.{ℕ, zero, suc, _+_, _*_}
@@ -14,7 +14,7 @@ use Rattle.course.specs.Lent.{Lent}
 use Rattle.course.specs.Lay.{CoursePoints}
 use Rattle.course.specs.declared.tiles.TrackPoint.{TrackPoint}
 use Rattle.run.specs.Pass.{gatheredOf, passOf}
-use Rattle.run.specs.Scorer.{Lengths, startNumber, Opening, Told, History, passed, driveNumber, settleNumber, driveScore, settleScore, score, scores}
+use Rattle.run.specs.Scorer.{startNumber, Opening, Told, History, passed, driveNumber, settleNumber, driveScore, settleScore, score, scores}
 use Rattle.run.specs.Batch.{toldsTo, plainAnswers, laidCourse, replayOn, lengthsIn, roomFor, replayOf}
 use Rattle.run.specs.declared.state.Pose.{Pose}
 use Rattle.run.specs.declared.dynamics.Motion.{Motion}

@@ -11,7 +11,7 @@ use lib.ListN.{length, getD, replicate, take, drop, set, length-append, length-d
 use lib.Seq.{sets, sets-eq, take-at, drop-at, drop-drop, length-take-le}
 use lib.Ieee.{Float}
 use Rattle.course.specs.Arithmetic.{nought}
-use Rattle.run.specs.State.{State, Columns, columns, view}
+use Rattle.run.specs.State.{State, Columns, columns}
 use Rattle.run.specs.Drive.{Driven, driven, driveOf}
 use Rattle.run.specs.Settle.{Done, done, settleOf}
 use Rattle.run.specs.Calls.{Call, driveSaid, settleSaid, replyOf, repliesOf, stateAfter}
@@ -22,7 +22,6 @@ use Rattle.run.specs.ReplaySteps.{lentTo, callFrom, callsTo}
 use Rattle.run.specs.Answers.{Answer}
 use Rattle.run.specs.Answers.Answer.{drove, settled, refused}
 use Rattle.run.specs.declared.state.Pose.{Pose}
-use Rattle.run.specs.declared.state.Run.{Run}
 use Rattle.run.specs.declared.dynamics.Motion.{Motion}
 use Rattle.run.specs.Pass.{noForces}
 use Rattle.run.specs.declared.drive.DriveAnswer.{DriveAnswer}

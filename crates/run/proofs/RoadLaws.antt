@@ -2,16 +2,15 @@
 use mathlib.Core.Bool.{Bool, true, false, not, _||_, true≢false}
 use mathlib.Core.List.{List}
 use mathlib.Core.Path.{_≡_, refl, sym, ap, _∙_, subst}
-use Prim.Native.Nat.{ℕ, zero, suc, _+_, _-_, _*_, _^_, _≤_, _<_}
+use Prim.Native.Nat.{ℕ, suc, _+_, _-_, _*_, _^_, _≤_, _<_}
 use native.Mathlib.Omega.{arith}
 use native.Mathlib.Numerals.{add-one}
 use native.Mathlib.Decide.{ℕ-discrete, decLt}
 use lib.Dec.{eqb}
-use lib.ListN.{getD, set, take, drop}
+use lib.ListN.{getD, set, drop}
 use lib.Seq.{getD-take, getD-drop}
-use borrow.Author.Tests.{eqb-true, eq-eqb}
+use borrow.Author.Tests.{eqb-true}
 use Rattle.run.specs.Below.{anyBelow}
-use Rattle.run.specs.Words.{member}
 use Rattle.run.specs.Contact.{wheelPart}
 use Rattle.run.specs.Grip.{onRoad, roadsOf}
 use Rattle.run.specs.DriveSteps.{stands, anyStands, roadsTo}

@@ -1,7 +1,7 @@
 -- Laws of the plain scorer over a list of calls: turns, counts, the end, and the numbers that cannot occur. Assumes nothing.
-use mathlib.Core.Bool.{Bool, true, false, cond, not, _&&_, _||_}
-use mathlib.Core.List.{List, [], _∷_, map}
-use mathlib.Core.Path.{_≡_, refl, sym, ap, ap₂, _∙_, subst}
+use mathlib.Core.Bool.{Bool, true, false, cond, not, _&&_}
+use mathlib.Core.List.{List, [], _∷_}
+use mathlib.Core.Path.{_≡_, refl, ap, _∙_}
 use Prim.Native.Nat.{ℕ, zero, suc, _+_, _≤_, _<_}
 use native.Mathlib.Omega.{arith}
 use lib.Dec.{ltb, leb, eqb}
@@ -11,9 +11,8 @@ use borrow.Author.Tests.{ltb-true, ltb-false, lt-ltb, leb-false}
 use Rattle.course.specs.declared.tiles.TrackPoint.{TrackPoint}
 use Rattle.run.specs.Arguments.{shortColumns, placesOk, motionsOk}
 use Rattle.run.specs.Answers.{Answer}
-use Rattle.run.specs.Answers.Answer.{drove, settled, refused}
-use Rattle.run.specs.Scorer.{Lengths, Told, History, opening, drives, settles, off, Scored, touched, touches, touchedCount, newTiles, lapDone, over, ended, passed, driveNumber, settleNumber, driveScore, settleScore, score, scores, keptOf}
-use Rattle.run.specs.Scorer.History.{begun, thenDrive, thenSettle}
+use Rattle.run.specs.Answers.Answer.{refused}
+use Rattle.run.specs.Scorer.{Lengths, Told, History, opening, drives, settles, off, touched, touches, touchedCount, newTiles, lapDone, over, ended, driveNumber, settleNumber, driveScore, settleScore, score, scores, keptOf}
 use Rattle.course.specs.Lent.{Outcome}
 use Rattle.run.specs.Certificate.{Given, lentBy, lengthsOf, toldOf, toldsOf, newSum, endedBy, occurs, allOccur}
 use Rattle.run.specs.declared.state.Pose.{Pose}

@@ -1,9 +1,9 @@
 -- Which tiles are in sets of words that hold tiles below n: for every number, also past the words. For any number of words. Assumes nothing.
 use mathlib.Core.Bool.{Bool, false}
 use mathlib.Core.List.{List}
-use mathlib.Core.Path.{_≡_, refl, sym, ap, _∙_, subst}
+use mathlib.Core.Path.{_≡_, sym, ap, _∙_, subst}
 use Prim.Native.Nat.{ℕ, _*_, _/_, _%_, _≤_, _<_}
-use native.Mathlib.Nat.{le-trans, le-div-iff-mul-le, le-of-eq}
+use native.Mathlib.Nat.{le-trans, le-div-iff-mul-le}
 use native.Mathlib.Omega.{arith}
 use lib.ListN.{length, List·getD-eq-default}
 use Rattle.run.specs.Words.{bitOf, member, setOf}

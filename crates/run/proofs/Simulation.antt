@@ -2,17 +2,17 @@
 -- For any number of words that hold the course's tiles. Assumes nothing.
 use mathlib.Core.Bool.{Bool, true, false, cond, not, _&&_, _||_, and-true, and-false}
 use mathlib.Core.List.{List, [], _∷_, _++_}
-use mathlib.Core.Path.{_≡_, refl, sym, ap, ap₂, _∙_, subst}
+use mathlib.Core.Path.{_≡_, refl, sym, ap, ap₂, _∙_}
 use Prim.Native.Nat.{ℕ, zero, suc, _+_, _*_, _≤_, _<_}
 use native.Mathlib.Nat.{zero-mul, suc-mul, le-trans}
 use native.Mathlib.Omega.{arith}
-use lib.Dec.{ltb, leb, eqb}
+use lib.Dec.{ltb, leb}
 use lib.ListN.{length, replicate, length-replicate, replicate-append-replicate}
 use lib.Ieee.{Float}
-use borrow.Author.Tests.{ltb-true, ltb-false, lt-ltb, le-ltb, lt-leb, leb-false}
+use borrow.Author.Tests.{ltb-true, lt-ltb, le-ltb, lt-leb}
 use Rattle.course.specs.declared.tiles.TrackPoint.{TrackPoint}
-use Rattle.run.specs.Below.{anyBelow, everyBelow, howMany}
-use Rattle.run.specs.Arguments.{motionsOk, placesOk}
+use Rattle.run.specs.Below.{anyBelow, howMany}
+use Rattle.run.specs.Arguments.{placesOk}
 use Rattle.run.specs.State.{State, awaiting, Columns, shortOf, unfit}
 use Rattle.run.specs.Words.{setOf}
 use Rattle.run.specs.Wheel.{quadOf}
@@ -21,11 +21,11 @@ use Rattle.run.specs.Contact.{wheelSets, Contacted, contacted, contactOf
 use Rattle.run.specs.Grip.{onRoad, roadsOf}
 use Rattle.run.specs.Lap.{aboveShare, lapOf, offField, endOf}
 use Rattle.run.specs.Pass.{passOf}
-use Rattle.run.specs.Start.{Settings, setupOf, firstProgress, startAnswer, Begun, firstContact, startedBy}
+use Rattle.run.specs.Start.{Settings, setupOf, firstProgress, startAnswer, firstContact, startedBy}
 use Rattle.run.specs.Drive.{driveAnswer, driveCause, driveAt, drivePartsOf, driveOf}
 use Rattle.run.specs.Settle.{settleAnswer, settleCause, settledProgress, SettledParts, settledParts, settledBy, settleAt, settlePartsOf, settleOf}
 use Rattle.run.specs.Calls.{Call, Replied, driveSaid, settleSaid, replyOf}
-use Rattle.run.specs.Scorer.{Lengths, Opening, Told, History, opening, drives, settles, lastPoses, off, Scored, touch, touches, touched, touchedCount, newTiles, meetsLap, lapDone, over, ended, grip, grips, passed, driveNumber, settleNumber, driveScore, settleScore, score}
+use Rattle.run.specs.Scorer.{Opening, Told, History, opening, drives, settles, lastPoses, off, Scored, touch, touches, touched, touchedCount, newTiles, meetsLap, lapDone, over, ended, grip, grips, passed, driveNumber, settleNumber, driveScore, settleScore, score}
 use Rattle.run.specs.Scorer.History.{begun, thenDrive, thenSettle}
 use Rattle.run.specs.Certificate.{lengthsOf, progressBy}
 use Rattle.run.specs.declared.state.Pose.{Pose}
@@ -39,7 +39,7 @@ use Rattle.run.proofs.CreditLaws.{few, empty-words}
 use Rattle.run.proofs.CallLaws.{cleared, yes-of}
 use Rattle.run.proofs.AnyLaws.{any-none}
 use Rattle.run.proofs.ScoreLaws.{InTurn}
-use Rattle.run.proofs.BelowLaws.{any-cong, below, all-pass}
+use Rattle.run.proofs.BelowLaws.{below, all-pass}
 use Rattle.run.proofs.PlainContact.{creditedBy, wheelsBy, on-road, contact-is, sets-cong}
 
 -- ---- no tile: words of 0

@@ -1,12 +1,12 @@
 -- A worked instance of the certificate: a course of two points, a start beside it and five calls, three of them refused. Assumes nothing.
 use mathlib.Core.Path.{_≡_, refl, ap, _∙_}
-use mathlib.Core.Bool.{Bool, true, false}
+use mathlib.Core.Bool.{true, false}
 use mathlib.Core.List.{List, [], _∷_, _++_, append-nil}
-use Prim.Native.Nat.{ℕ, _-_}
+use Prim.Native.Nat.{_-_}
 use native.Mathlib.Omega.{arith}
 use lib.Dec.{ltb}
 use lib.ListN.{length, replicate}
-use lib.Ieee.{Float, binary64, ofInt, round, add, sub, mul, div, neg, lt, le, isNan, ofBits}
+use lib.Ieee.{Float, ofInt, round, add, sub, mul, div, neg, lt, le, isNan, ofBits}
 use Rattle.course.specs.Arithmetic.{natural, decimal, nought}
 use Rattle.course.specs.Lengths.{mostNumbers}
 use Rattle.course.specs.Course.{fromPoints, cellsOf}
@@ -24,7 +24,7 @@ use Rattle.run.specs.Overlap.{leastOn, greatestOn, apartOn, apartAlong, 
 use Rattle.run.specs.Arguments.{settingsOk, shortColumns, inRange, poseOk, posesOk, placesOk, motionOk, motionsOk}
 use Rattle.run.specs.Lap.{offField}
 use Rattle.run.specs.Answers.Answer.{drove, settled, refused}
-use Rattle.run.specs.Scorer.{Lengths, Opening, Told, History, opening, drives, settles, lastPoses, off, touch, touches, touched, touchedCount, newTiles, meetsLap, lapDone, over, ended, passed, startNumber, driveNumber, settleNumber, driveScore, settleScore, score, scores}
+use Rattle.run.specs.Scorer.{Lengths, Opening, Told, opening, drives, settles, lastPoses, off, touch, touches, touched, touchedCount, newTiles, meetsLap, lapDone, over, ended, passed, startNumber, driveNumber, settleNumber, driveScore, settleScore, score, scores}
 use Rattle.run.specs.Scorer.History.{begun, thenDrive}
 use Rattle.run.specs.declared.dynamics.Motion.{Motion}
 use Rattle.run.specs.Widths.{fullWords, mostTiles}

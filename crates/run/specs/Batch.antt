@@ -1,6 +1,6 @@
 -- The batch grader: a seed's course is laid, a run is started on it, and a whole list of calls is answered from lent columns. What it writes and
 -- answers is said by the plain scorer (document 01, "The plain scorer") on the definition's course. Assumes nothing.
-use mathlib.Core.Bool.{Bool, true, false, cond, _&&_}
+use mathlib.Core.Bool.{Bool, false, cond, _&&_}
 use mathlib.Core.List.{List, [], _∷_, _++_}
 use Prim.Native.Nat.{ℕ, zero, suc, _*_, min}
 use lib.Dec.{leb, eqb}

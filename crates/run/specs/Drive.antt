@@ -1,5 +1,5 @@
 -- Document 01, "Drive" and "Refusals by cause" (drive 4, 5, 6, 7, 8): the causes in their order, the answer and the state after. Assumes nothing.
-use mathlib.Core.Bool.{Bool, cond, not, _||_}
+use mathlib.Core.Bool.{cond, not, _||_}
 use mathlib.Core.List.{List}
 use Prim.Native.Nat.{ℕ, zero, suc}
 use lib.Dec.{ltb, leb}

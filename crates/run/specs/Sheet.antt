@@ -1,5 +1,5 @@
 -- Document 01, "Beside the run" (Run sheet) and "Refusals by cause" (sheet: 4 without its ended part). Assumes nothing.
-use mathlib.Core.Bool.{Bool, false, cond}
+use mathlib.Core.Bool.{false, cond}
 use Prim.Native.Nat.{ℕ, zero, suc, _*_, _/_}
 use Rattle.run.specs.State.{unfit}
 use Rattle.run.specs.declared.state.Setup.{Setup}

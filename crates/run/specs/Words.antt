@@ -1,12 +1,11 @@
 -- Document 01, "Touch" and "Contracts" 4: sets of numbers kept as lists of 64-bit words. Number t is bit t % 64 of word t / 64. Stated for any
 -- number of words. Assumes nothing.
-use mathlib.Core.Bool.{Bool, true, false, not, _&&_, _||_, cond}
+use mathlib.Core.Bool.{Bool}
 use mathlib.Core.List.{List, [], _∷_}
 use Prim.Native.Nat.{ℕ, zero, suc, _+_, _*_, _/_, _%_, _^_}
 use lib.ListN.{getD}
 use Rattle.run.specs.Below.{digit}
 use lib.Dec.{eqb}
-use lib.Count.{ones}
 
 -- bit k of the word w
 unfoldable pub bitOf : ℕ → ℕ → Bool
@@ -27,8 +26,3 @@ unfoldable pub setOf : ℕ → (ℕ → Bool) → List ℕ
 unfolding wordOf
 setOf zero p = []
 setOf (suc m) p = wordOf 64 p ∷ setOf m (λ t. p (64 + t))
-
--- how many bits of the words are set
-unfoldable pub countOf : List ℕ → ℕ
-countOf [] = 0
-countOf (w ∷ ws) = ones w + countOf ws

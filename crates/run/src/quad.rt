@@ -119,11 +119,15 @@ pub(crate) fn overlap_from(side: Side, a: [[f64; 2]; 4], b: [[f64; 2]; 4]) -> bo
     overlap_past_first(a, b)
 }
 
-// Whether two quads overlap.
+// Whether two quads overlap, the first side made here. No contact calls it: it is for a caller who has two quads alone, and does not go through
+// `overlap_from`, so that this has one caller and is compiled into the contact.
 pub fn quad_overlap(a: [[f64; 2]; 4], b: [[f64; 2]; 4]) -> bool
     ensures { λ r. ⌜ r ≡ overlapOf a b ⌝ }
 {
-    overlap_from(first_side(a), a, b)
+    if is_beyond(first_side(a), b) {
+        return false;
+    }
+    overlap_past_first(a, b)
 }
 
 // The place (u, v) of a wheel's own frame under its pose.

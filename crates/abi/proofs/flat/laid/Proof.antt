@@ -1,3 +1,4 @@
+-- `abi::flat::laid` meets its contract. Assumes nothing.
 use Rattle.abi.specs.Flat.{flatLaid}
 use borrow.Author.Needs.{needs}
 use Rattle.abi.proofs.flat.laid.Statement.{statement}

@@ -1,3 +1,4 @@
+-- `abi::flat::replayed` meets its contract. Assumes nothing.
 use Rattle.abi.proofs.FlatLaws.{answers-whole}
 use borrow.Author.Needs.{needs}
 use Rattle.abi.proofs.flat.replayed.Statement.{statement}

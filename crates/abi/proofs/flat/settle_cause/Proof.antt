@@ -1,3 +1,4 @@
+-- `abi::flat::settle_cause` meets its contract. Assumes nothing.
 use Rattle.run.specs.Settle.{settleCauseOf}
 use borrow.Author.Needs.{needs}
 use Rattle.abi.proofs.flat.settle_cause.Statement.{statement}

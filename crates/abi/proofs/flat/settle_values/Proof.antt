@@ -1,3 +1,4 @@
+-- `abi::flat::settle_values` meets its contract. Assumes nothing.
 use Rattle.run.specs.Settle.{settleValuesOf}
 use borrow.Author.Needs.{needs}
 use Rattle.abi.proofs.flat.settle_values.Statement.{statement}

@@ -1,3 +1,4 @@
+-- `abi::flat::start_cause` meets its contract. Assumes nothing.
 use Rattle.run.specs.Start.{startCauseOf}
 use borrow.Author.Needs.{needs}
 use Rattle.abi.proofs.flat.start_cause.Statement.{statement}

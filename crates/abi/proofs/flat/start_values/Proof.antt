@@ -1,3 +1,4 @@
+-- `abi::flat::start_values` meets its contract. Assumes nothing.
 use Rattle.run.specs.Start.{startValuesOf}
 use borrow.Author.Needs.{needs}
 use Rattle.abi.proofs.flat.start_values.Statement.{statement}

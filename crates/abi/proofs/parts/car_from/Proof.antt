@@ -1,3 +1,4 @@
+-- `abi::parts::car_from` meets its contract. Assumes nothing.
 use Rattle.abi.proofs.CarLaws.{car-read}
 use mathlib.Core.Path.{refl}
 use borrow.Author.Needs.{needs}

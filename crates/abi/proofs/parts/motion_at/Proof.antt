@@ -1,3 +1,4 @@
+-- `abi::parts::motion_at` meets its contract. Assumes nothing.
 use Rattle.run.specs.Replay.{motionFrom}
 use mathlib.Core.Path.{refl}
 use borrow.Author.Needs.{needs}

@@ -1,3 +1,4 @@
+-- `abi::parts::motions_from` meets its contract. Assumes nothing.
 use Rattle.run.specs.Replay.{motionsFrom}
 use borrow.Author.Needs.{needs}
 use Rattle.abi.proofs.parts.motions_from.Statement.{statement}

@@ -1,3 +1,4 @@
+-- `abi::parts::put_car` meets its contract. Assumes nothing.
 use Rattle.abi.specs.Lent.{carNumbers}
 use Rattle.run.specs.Pass.{ctlAt}
 use Rattle.run.proofs.ReplayLaws.{written-over}

@@ -1,3 +1,4 @@
+-- `abi::parts::put_forces` meets its contract. Assumes nothing.
 use Rattle.abi.proofs.CarLaws.{forces-written}
 use mathlib.Core.Path.{_≡_}
 use native.Mathlib.Omega.{arith}

@@ -1,3 +1,4 @@
+-- `abi::parts::wheel_at` meets its contract. Assumes nothing.
 use Rattle.abi.specs.Lent.{wheelFrom}
 use mathlib.Core.Path.{refl}
 use borrow.Author.Needs.{needs}

@@ -1,3 +1,4 @@
+-- `abi::runs::grader_drive_parts` meets its contract. Assumes nothing.
 use Rattle.abi.proofs.FlatLaws.{driven-accepted, driven-refused}
 use borrow.Author.Needs.{needs}
 use Rattle.abi.proofs.runs.grader_drive_parts.Statement.{statement}

@@ -1,3 +1,4 @@
+-- `abi::runs::grader_settle_parts` meets its contract. Assumes nothing.
 use Rattle.abi.proofs.FlatLaws.{settled-whole}
 use borrow.Author.Needs.{needs}
 use Rattle.abi.proofs.runs.grader_settle_parts.Statement.{statement}

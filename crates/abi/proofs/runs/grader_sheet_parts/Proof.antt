@@ -1,3 +1,4 @@
+-- `abi::runs::grader_sheet_parts` meets its contract. Assumes nothing.
 use Rattle.abi.specs.Flat.{flatSheet}
 use mathlib.Core.Path.{ap, _∙_}
 use borrow.Author.Needs.{needs}

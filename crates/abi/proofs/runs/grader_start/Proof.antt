@@ -1,3 +1,4 @@
+-- `abi::runs::grader_start` meets its contract. Assumes nothing.
 use Rattle.abi.proofs.FlatLaws.{started-whole}
 use borrow.Author.Needs.{needs}
 use Rattle.abi.proofs.runs.grader_start.Statement.{statement}

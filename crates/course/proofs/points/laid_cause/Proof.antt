@@ -1,3 +1,4 @@
+-- `course::points::laid_cause` meets its contract. Assumes nothing.
 use Rattle.course.specs.Lent.{laidCauseOf}
 use borrow.Author.Needs.{needs}
 use Rattle.course.proofs.points.laid_cause.Statement.{statement}

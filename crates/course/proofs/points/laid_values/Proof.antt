@@ -1,3 +1,4 @@
+-- `course::points::laid_values` meets its contract. Assumes nothing.
 use Rattle.course.specs.Lent.{laidValuesOf}
 use borrow.Author.Needs.{needs}
 use Rattle.course.proofs.points.laid_values.Statement.{statement}

@@ -4,7 +4,6 @@ use Rattle.run.proofs.ContactLaws.{parts-end, byWheels, no-credit, own-
 use native.Mathlib.Omega.{arith}
 use mathlib.Core.Path.{_≡_}
 use Prim.Native.Nat.{_-_, _≤_}
-use lib.ListN.{length}
 use Rattle.run.specs.TouchSteps.{credits, creditsOf}
 use borrow.Author.Needs.{needs}
 use Rattle.run.proofs.contact.credit_sets.Statement.{statement}

@@ -1,3 +1,4 @@
+-- `run::drive::await_settle` meets its contract. Assumes nothing.
 use Rattle.run.specs.State.{awaiting}
 use mathlib.Core.Path.{refl}
 use Rattle.run.proofs.drive.await_settle.Statement.{statement}

@@ -1,3 +1,4 @@
+-- `run::drive::drive` meets its contract. Assumes nothing.
 use Rattle.run.proofs.DriveLaws.{drove-from}
 use Rattle.run.specs.State.{view}
 use borrow.Author.Needs.{needs}

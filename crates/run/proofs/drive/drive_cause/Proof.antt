@@ -1,3 +1,4 @@
+-- `run::drive::drive_cause` meets its contract. Assumes nothing.
 use Rattle.run.specs.Drive.{driveCause}
 use borrow.Author.Tests.{le-leb, lt-leb, lt-ltb, le-ltb}
 use borrow.Author.Needs.{needs}

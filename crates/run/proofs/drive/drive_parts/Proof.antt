@@ -1,3 +1,4 @@
+-- `run::drive::drive_parts` meets its contract. Assumes nothing.
 use Rattle.run.proofs.DriveLaws.{drive-refused, drive-accepted}
 use Rattle.run.specs.Pass.{passOf}
 use native.Mathlib.Omega.{arith}

@@ -1,3 +1,4 @@
+-- `run::drive::gathered` meets its contract. Assumes nothing.
 use Rattle.run.specs.Pass.{gatheredOf}
 use mathlib.Core.Path.{refl}
 use Rattle.run.proofs.drive.gathered.Statement.{statement}

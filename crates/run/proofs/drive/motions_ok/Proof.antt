@@ -1,3 +1,4 @@
+-- `run::drive::motions_ok` meets its contract. Assumes nothing.
 use Rattle.run.specs.Arguments.{motionsOk}
 use borrow.Author.Needs.{needs}
 use Rattle.run.proofs.drive.motions_ok.Statement.{statement}

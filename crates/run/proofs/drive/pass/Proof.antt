@@ -1,3 +1,4 @@
+-- `run::drive::pass` meets its contract. Assumes nothing.
 use Rattle.run.proofs.DriveLaws.{wheel-passed, pass-from}
 use mathlib.Core.Path.{_∙_}
 use borrow.Author.Needs.{needs}

@@ -1,3 +1,4 @@
+-- `run::drive::roads_of` meets its contract. Assumes nothing.
 use borrow.Author.Needs.{needs}
 use Rattle.run.proofs.RoadLaws.{roads-more, roads-all}
 use Rattle.run.proofs.ContactLaws.{end-within}

@@ -3,12 +3,6 @@ use lib.Ieee.{ofInt, ofBits, div}
 use Rattle.course.specs.Arithmetic.{natural}
 use Rattle.course.specs.Constants.{playfield, scale}
 use Rattle.run.specs.Lap.{offField}
-use lib.ListN.{length}
-use Prim.Native.Nat.{ℕ, _+_, _-_, _*_, _≤_, _<_}
-use mathlib.Core.List.{List}
-use mathlib.Core.Bool.{Bool, true, false, not, _&&_, _||_}
-use mathlib.Core.Path.{_≡_, refl, sym, ap, ap₂, _∙_, subst}
-use native.Mathlib.Omega.{arith}
 use borrow.Author.Needs.{needs}
 use Rattle.run.proofs.lap.is_off.Statement.{statement}
 use Rattle.run.proofs.lap.is_off.Tie as tie

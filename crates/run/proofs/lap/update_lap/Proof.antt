@@ -1,12 +1,7 @@
 -- `run::lap::update_lap` meets its contract. Assumes nothing.
 use Rattle.course.specs.Arithmetic.{natural}
 use Rattle.run.specs.Lap.{lapOf}
-use lib.ListN.{length}
-use Prim.Native.Nat.{ℕ, _+_, _-_, _*_, _≤_, _<_}
-use mathlib.Core.List.{List}
-use mathlib.Core.Bool.{Bool, true, false, not, _&&_, _||_}
-use mathlib.Core.Path.{_≡_, refl, sym, ap, ap₂, _∙_, subst}
-use native.Mathlib.Omega.{arith}
+use mathlib.Core.Path.{refl}
 use borrow.Author.Needs.{needs}
 use Rattle.run.proofs.lap.update_lap.Statement.{statement}
 use Rattle.run.proofs.lap.update_lap.Tie as tie

@@ -1,3 +1,4 @@
+-- `run::quad::overlap_from` meets its contract. Assumes nothing.
 use Rattle.run.proofs.CellLaws.{overlap-by-side}
 use mathlib.Core.Path.{sym, _∙_}
 use borrow.Author.Needs.{needs}

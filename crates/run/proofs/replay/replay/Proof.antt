@@ -2,7 +2,7 @@
 use mathlib.Core.Path.{sym, _∙_}
 use borrow.Author.Tests.{not-false, not-true}
 use Rattle.run.specs.State.{view}
-use Rattle.run.proofs.BatchLaws.{Room, room-each, short-replay, replayed}
+use Rattle.run.proofs.BatchLaws.{room-each, short-replay, replayed}
 use borrow.Author.Needs.{needs}
 use Rattle.run.proofs.replay.replay.Statement.{statement}
 use Rattle.run.proofs.replay.replay.Tie as tie

@@ -1,3 +1,4 @@
+-- `run::replay::reply_drive` meets its contract. Assumes nothing.
 use Rattle.run.specs.State.{view}
 -- `run::replay::reply_drive` meets its contract. Assumes nothing.
 use Rattle.run.proofs.ReplayLaws.{answered-drive}

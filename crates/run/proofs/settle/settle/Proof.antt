@@ -1,3 +1,4 @@
+-- `run::settle::settle` meets its contract. Assumes nothing.
 use Rattle.run.proofs.CallLaws.{settled-from}
 use Rattle.run.specs.State.{view}
 use borrow.Author.Needs.{needs}

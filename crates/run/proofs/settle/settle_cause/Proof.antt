@@ -1,10 +1,5 @@
+-- `run::settle::settle_cause` meets its contract. Assumes nothing.
 use Rattle.run.proofs.CellLaws.{cells-sound-is}
-use native.Mathlib.Omega.{arith}
-use mathlib.Core.Path.{_≡_, refl, sym, ap, ap₂, _∙_, subst}
-use mathlib.Core.Bool.{Bool, true, false, not, _&&_, _||_}
-use mathlib.Core.List.{List}
-use Prim.Native.Nat.{ℕ, _+_, _-_, _*_, _≤_, _<_}
-use lib.ListN.{length}
 use Rattle.run.specs.State.{shortOf}
 use Rattle.run.specs.Arguments.{placesOk}
 use Rattle.run.specs.Settle.{settleCause}

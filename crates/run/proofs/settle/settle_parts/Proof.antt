@@ -1,4 +1,5 @@
-use Prim.Native.Nat.{_≤_, _<_}
+-- `run::settle::settle_parts` meets its contract. Assumes nothing.
+use Prim.Native.Nat.{_≤_}
 use mathlib.Core.Path.{_≡_, sym, ap, _∙_}
 use native.Mathlib.Omega.{arith}
 use lib.Dec.{lit≤}

@@ -1,3 +1,4 @@
+-- `run::settle::settled_progress` meets its contract. Assumes nothing.
 use Rattle.run.specs.Settle.{settledProgress}
 use borrow.Author.Needs.{needs}
 use Rattle.run.proofs.settle.settled_progress.Statement.{statement}

@@ -1,3 +1,4 @@
+-- `run::sheet::sheet` meets its contract. Assumes nothing.
 use Rattle.run.proofs.SheetLaws.{fit-some, fit-credited}
 use Rattle.run.specs.Sheet.{sheetOf, sheetCause, sheetAnswer, figuresOf}
 use mathlib.Core.Path.{sym, _∙_}

@@ -1,3 +1,4 @@
+-- `run::start::first_progress` meets its contract. Assumes nothing.
 use Rattle.run.specs.Start.{firstProgress}
 use mathlib.Core.Path.{refl}
 use Rattle.run.proofs.start.first_progress.Statement.{statement}

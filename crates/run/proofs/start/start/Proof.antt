@@ -1,10 +1,9 @@
+-- `run::start::start` meets its contract. Assumes nothing.
 use Rattle.run.proofs.CallLaws.{start-facts, start-refused, start-accepted}
 use Rattle.run.specs.State.{view}
-use lib.Dec.{lit≤, lit<}
-use lib.ListN.{length}
-use Prim.Native.Nat.{ℕ, _+_, _-_, _*_, _≤_, _<_}
-use mathlib.Core.List.{List}
-use mathlib.Core.Path.{_≡_, refl, sym, ap, ap₂, _∙_, subst}
+use lib.Dec.{lit≤}
+use Prim.Native.Nat.{_≤_}
+use mathlib.Core.Path.{_≡_, sym, _∙_}
 use native.Mathlib.Omega.{arith}
 use Rattle.run.specs.Start.{setupOf, firstContact}
 use borrow.Author.Needs.{needs}

@@ -2,12 +2,6 @@
 use Rattle.run.specs.Start.{startCause, startShort}
 use Rattle.run.specs.State.{shortOf}
 use Rattle.run.proofs.CellLaws.{cells-sound-is}
-use lib.ListN.{length}
-use Prim.Native.Nat.{ℕ, _+_, _-_, _*_, _≤_, _<_}
-use mathlib.Core.List.{List}
-use mathlib.Core.Bool.{Bool, true, false, not, _&&_, _||_}
-use mathlib.Core.Path.{_≡_, refl, sym, ap, ap₂, _∙_, subst}
-use native.Mathlib.Omega.{arith}
 use borrow.Author.Needs.{needs}
 use Rattle.run.proofs.start.start_cause.Statement.{statement}
 use Rattle.run.proofs.start.start_cause.Tie as tie

@@ -1,3 +1,4 @@
+-- `run::start::still_car` meets its contract. Assumes nothing.
 use Rattle.run.specs.Pass.{stillWheel, stillCar}
 use mathlib.Core.Path.{refl}
 use Rattle.run.proofs.start.still_car.Statement.{statement}

@@ -1,3 +1,4 @@
+-- `run::start::zero_run` meets its contract. Assumes nothing.
 use Rattle.run.specs.Start.{zeroState}
 use Rattle.run.specs.State.{view}
 use borrow.Author.Needs.{needs}

@@ -1,7 +1,7 @@
 -- `run::words::credit` meets its contract. Assumes nothing.
 use Rattle.run.proofs.WordLaws.{howMany-none}
 use Rattle.run.proofs.CreditLaws.{Credited, New, one-more, none-more, credited-is, rest-credited, all-credited, all-counted, few, ones-few, new-lt}
-use lib.ListN.{length, set}
+use lib.ListN.{length}
 use Prim.Native.Nat.{ℕ, _+_, _-_, _*_, _/_, _≤_, _<_}
 use mathlib.Core.Logic.{⊎-elim}
 use mathlib.Core.Path.{refl, sym}
