@@ -4,14 +4,12 @@ use mathlib.Core.Path.{_≡_, refl, sym, ap, _∙_}
 use Prim.Native.Nat.{ℕ, zero, suc, _+_}
 use native.Mathlib.Omega.{arith}
 use lib.ListN.{length, getD, drop, drop-of-length-le}
-use lib.Seq.{drop-cons, sets}
+use lib.Seq.{drop-cons}
 use lib.Ieee.{Float, nan}
-use Rattle.run.specs.Replay.{numberAt, forceNumbers}
+use Rattle.run.specs.Replay.{numberAt}
 use Rattle.run.specs.declared.state.WheelCtl.{WheelCtl}
 use Rattle.run.specs.declared.state.Car.{Car}
-use Rattle.run.specs.declared.dynamics.Force.{Force}
-use Rattle.run.proofs.ReplayLaws.{written-over}
-use Rattle.abi.specs.Lent.{carLong, forcesLong, wheelFrom, carFrom, carNumbers}
+use Rattle.abi.specs.Lent.{carLong, wheelFrom, carFrom, carNumbers}
 
 -- n entries from number k on
 unfoldable entries : {A : Type 0} → ℕ → ℕ → A → List A → List A
@@ -41,14 +39,3 @@ car-read l a b c d car long ea eb ec ed e =
 pub numbers-back : (a b c d : WheelCtl) (fuel : Float) → carFrom (carNumbers (record { ctl = a ∷ b ∷ c ∷ d ∷ []; «fuel_spent» = fuel })) ≡ record { ctl = a ∷ b ∷ c ∷ d ∷ []; «fuel_spent» = fuel }
 unfolding carNumbers carFrom wheelFrom
 numbers-back a b c d fuel = refl
-
--- ---- four forces written one after the other
-pub forces-written : (fs : List Force) (e : Force) (l : List Float) → length fs ≡ 4 → length l ≡ forcesLong
-    → sets l 0 (getD fs 0 e .motor ∷ getD fs 0 e .fx ∷ getD fs 0 e .fy ∷ getD fs 1 e .motor ∷ getD fs 1 e .fx ∷ getD fs 1 e .fy ∷ getD fs 2 e .motor ∷ getD fs 2 e .fx ∷ getD fs 2 e .fy ∷ getD fs 3 e .motor ∷ getD fs 3 e .fx ∷ getD fs 3 e .fy ∷ []) ≡ forceNumbers fs
-unfolding forceNumbers
-forces-written [] e l h k = absurd (omega arith)
-forces-written (a ∷ []) e l h k = absurd (omega arith)
-forces-written (a ∷ b ∷ []) e l h k = absurd (omega arith)
-forces-written (a ∷ b ∷ c ∷ []) e l h k = absurd (omega arith)
-forces-written (a ∷ b ∷ c ∷ d ∷ []) e l h k = written-over (a .motor ∷ a .fx ∷ a .fy ∷ b .motor ∷ b .fx ∷ b .fy ∷ c .motor ∷ c .fx ∷ c .fy ∷ d .motor ∷ d .fx ∷ d .fy ∷ []) l k
-forces-written (a ∷ b ∷ c ∷ d ∷ f ∷ fs) e l h k = absurd (omega arith)

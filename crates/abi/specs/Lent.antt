@@ -19,16 +19,10 @@ use Rattle.abi.specs.Flat.{flatDriven, flatSettled}
 use Rattle.abi.specs.declared.flat.FlatDriven.{FlatDriven}
 use Rattle.abi.specs.declared.flat.FlatSettled.{FlatSettled}
 
--- ---- a car as numbers: five to a wheel, then the fuel spent; motions are five to a wheel, forces three
+-- ---- a car as numbers: five to a wheel, then the fuel spent
 
 abbrev pub carLong : ℕ
 carLong = 21
-
-abbrev pub motionsLong : ℕ
-motionsLong = 20
-
-abbrev pub forcesLong : ℕ
-forcesLong = 12
 
 unfoldable pub wheelFrom : List Float → ℕ → WheelCtl
 wheelFrom l i =

@@ -1,17 +1,15 @@
-// A run's car, the motions and the forces as a host lends them: numbers, one wheel after the other.
+// A run's car as a host lends it: numbers, one wheel after the other; and how many numbers motions and forces have.
 ghost use mathlib.Core.Path.{_≡_};
 ghost use Prim.Native.Nat.{_+_, _≤_};
 ghost use lib.ListN.{length};
-ghost use Rattle.run.specs.Replay.{motionFrom, motionsFrom, forceNumbers};
-ghost use Rattle.abi.specs.Lent.{carLong, motionsLong, forcesLong, wheelFrom, carFrom, carNumbers};
-use run::dynamics::Force;
-use run::dynamics::Motion;
+ghost use Rattle.abi.specs.Lent.{carLong, wheelFrom, carFrom, carNumbers};
 use run::state::Car;
 use run::state::WheelCtl;
 
-// The fuel spent stands behind five numbers to a wheel.
+// Five numbers to a wheel, then the fuel spent.
 pub(crate) const CAR_NUMBERS: usize = 21;
 
+// Five to a wheel.
 pub(crate) const MOTION_NUMBERS: usize = 20;
 
 // Three to a wheel.
@@ -47,32 +45,6 @@ pub(crate) fn car_from(numbers: &[f64]) -> Car
     }
 }
 
-// A wheel's motion, from number i on.
-fn motion_at(numbers: &[f64], i: usize) -> Motion
-    requires { ⌜ i + 5 ≤ length (now numbers) ⌝ }
-    ensures { λ r. ⌜ r ≡ motionFrom (now (numbers .entry)) i ⌝ }
-{
-    Motion {
-        joint_angle: numbers[i],
-        sin: numbers[i + 1],
-        cos: numbers[i + 2],
-        vx: numbers[i + 3],
-        vy: numbers[i + 4],
-    }
-}
-
-// The motions that their numbers hold.
-pub(crate) fn motions_from(numbers: &[f64]) -> [Motion; 4]
-    requires { ⌜ length (now numbers) ≡ motionsLong ⌝ }
-    ensures { λ r. ⌜ r ≡ motionsFrom (now (numbers .entry)) ⌝ }
-{
-    let a = motion_at(numbers, 0);
-    let b = motion_at(numbers, 5);
-    let c = motion_at(numbers, 10);
-    let d = motion_at(numbers, 15);
-    [a, b, c, d]
-}
-
 // The car's numbers are written.
 pub(crate) fn put_car(car: Car, numbers: &mut [f64])
     requires { ⌜ length (now numbers) ≡ carLong ⌝ }
@@ -104,27 +76,4 @@ pub(crate) fn put_car(car: Car, numbers: &mut [f64])
     numbers[18] = d.omega;
     numbers[19] = d.phase;
     numbers[20] = car.fuel_spent;
-}
-
-// The forces are written.
-pub(crate) fn put_forces(forces: [Force; 4], numbers: &mut [f64])
-    requires { ⌜ length (now numbers) ≡ forcesLong ⌝ }
-    ensures { λ _. ⌜ now (numbers .exit) ≡ forceNumbers forces ⌝ }
-{
-    let a = forces[0];
-    let b = forces[1];
-    let c = forces[2];
-    let d = forces[3];
-    numbers[0] = a.motor;
-    numbers[1] = a.fx;
-    numbers[2] = a.fy;
-    numbers[3] = b.motor;
-    numbers[4] = b.fx;
-    numbers[5] = b.fy;
-    numbers[6] = c.motor;
-    numbers[7] = c.fx;
-    numbers[8] = c.fy;
-    numbers[9] = d.motor;
-    numbers[10] = d.fx;
-    numbers[11] = d.fy;
 }

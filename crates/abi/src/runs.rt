@@ -21,6 +21,8 @@ use crate::parts;
 use crate::parts::CAR_NUMBERS;
 use crate::parts::FORCE_NUMBERS;
 use crate::parts::MOTION_NUMBERS;
+use run::answer;
+use run::call;
 use run::drive;
 use run::replay;
 use run::reward;
@@ -90,7 +92,7 @@ pub extern "C" fn grader_drive_parts(
     ensures { λ r. ⌜ lentDriven r (now (car .exit)) (now (forces .exit)) ≡ driveLent fullWords mostTiles setup progress (now (car .entry)) (now (wheels .entry)) action (now (motions .entry)) (now (forces .entry)) ⌝ }
 {
     let before = parts::car_from(car);
-    let given = parts::motions_from(motions);
+    let given = call::motions_lent(motions);
     let d = drive::drive_parts(setup, progress, before, wheels, action, given);
     let answer = d.answer;
     let cause = flat::drive_cause(answer);
@@ -99,7 +101,7 @@ pub extern "C" fn grader_drive_parts(
         let after = d.car;
         let pushes = d.forces;
         parts::put_car(after, car);
-        parts::put_forces(pushes, forces);
+        answer::put_forces_lent(pushes, forces);
     }
     FlatDriven { cause, progress }
 }

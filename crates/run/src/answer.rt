@@ -22,7 +22,7 @@ fn put_words(a: u32, b: u32, c: u32, d: u32, words: &mut [u32])
 }
 
 // A wheel's force, from number i on.
-pub(crate) fn put_force(f: Force, i: usize, numbers: &mut [f64])
+fn put_force(f: Force, i: usize, numbers: &mut [f64])
     requires { ⌜ i + 3 ≤ length (now numbers) ⌝ }
     ensures { λ _. ⌜ now (numbers .exit) ≡ set (set (set (now (numbers .entry)) i (f .motor)) (i + 1) (f .fx)) (i + 2) (f .fy) ⌝ }
 {
@@ -40,6 +40,13 @@ fn put_forces(forces: [Force; 4], numbers: &mut [f64])
     put_force(forces[1], 3, numbers);
     put_force(forces[2], 6, numbers);
     put_force(forces[3], 9, numbers);
+}
+
+// The same into the numbers that a host lends.
+pub fn put_forces_lent(forces: [Force; 4], numbers: &mut [f64; 12])
+    ensures { λ _. ⌜ now (numbers .exit) ≡ forceNumbers forces ⌝ }
+{
+    put_forces(forces, numbers);
 }
 
 // No forces.

@@ -31,6 +31,13 @@ pub(crate) fn motions(numbers: &[f64]) -> [Motion; 4]
     [a, b, c, d]
 }
 
+// The same from the numbers that a host lends.
+pub fn motions_lent(numbers: &[f64; 20]) -> [Motion; 4]
+    ensures { λ r. ⌜ r ≡ motionsFrom (now (numbers .entry)) ⌝ }
+{
+    motions(numbers)
+}
+
 // A wheel's pose, from number i on.
 fn pose(numbers: &[f64], i: usize) -> Pose
     requires { do ⌜ i + 4 ≤ (← ⟦numbers.len()⟧) ⌝ }
