@@ -1,6 +1,7 @@
 // A course from the caller's own points (document 01, "Beside the run": Points), and what lay shares with it.
 ghost use mathlib.Core.Path.{_≡_};
 ghost use mathlib.Core.Bool.{Bool};
+ghost use mathlib.Core.List.{_++_};
 ghost use Prim.Native.Nat.{_+_, _*_, _-_, _<_, _≤_};
 ghost use lib.ListN.{length, take, drop};
 ghost use Rattle.course.specs.Lengths.{mostPoints};
@@ -188,6 +189,27 @@ pub(crate) fn finish(
     })
 }
 
+// The first n given points go to the front of the lent columns.
+fn copy_points(
+    pbeta: &[f64],
+    px: &[f64],
+    py: &[f64],
+    n: usize,
+    beta: &mut [f64],
+    x: &mut [f64],
+    y: &mut [f64],
+)
+    requires { ⌜ (n ≤ length (now pbeta)) × (n ≤ length (now px)) × (n ≤ length (now py)) ⌝ }
+    requires { ⌜ (n ≤ length (now beta)) × (n ≤ length (now x)) × (n ≤ length (now y)) ⌝ }
+    ensures { λ r. ⌜ now (beta .exit) ≡ take n (now (pbeta .entry)) ++ drop n (now (beta .entry)) ⌝ }
+    ensures { λ r. ⌜ now (x .exit) ≡ take n (now (px .entry)) ++ drop n (now (x .entry)) ⌝ }
+    ensures { λ r. ⌜ now (y .exit) ≡ take n (now (py .entry)) ++ drop n (now (y .entry)) ⌝ }
+{
+    columns::copy_front(pbeta, n, beta);
+    columns::copy_front(px, n, x);
+    columns::copy_front(py, n, y);
+}
+
 // The course of the given points in the lent columns.
 pub fn points(
     pbeta: &[f64],
@@ -210,8 +232,6 @@ pub fn points(
     if 0 < k {
         return Laid::Refused(k);
     }
-    columns::copy_front(pbeta, n, beta);
-    columns::copy_front(px, n, x);
-    columns::copy_front(py, n, y);
+    copy_points(pbeta, px, py, n, beta, x, y);
     finish(false, n, alpha, beta, x, y, tiles, offsets, list)
 }
