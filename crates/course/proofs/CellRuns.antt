@@ -1,5 +1,5 @@
--- The loops over a run of cells, one turn at a time. Assumes nothing.
-use Prim.Native.Nat.{ℕ, zero, suc, _+_, _*_, _-_, _≤_, _<_, max}
+-- The loops over a run of places, one turn at a time. Assumes nothing.
+use Prim.Native.Nat.{ℕ, zero, suc, _+_, _*_, _≤_, _<_, max}
 use mathlib.Core.Path.{_≡_, refl, sym, ap, _∙_, subst}
 use mathlib.Core.List.{List}
 use mathlib.Core.Logic.{_⊎_, inl, inr, ⊎-elim}
@@ -8,7 +8,8 @@ use native.Mathlib.Numerals.{add-one}
 use native.Mathlib.Decide.{ℕ-discrete}
 use lib.ListN.{length, getD, set, length-set}
 use lib.Seq.{getD-set-same, getD-set-other}
-use Rattle.course.specs.IndexSteps.{Inside, RunCounted, RunPlaced, Summed, sumBelow}
+use Rattle.course.specs.Lengths.{mostPoints}
+use Rattle.course.specs.IndexSteps.{Inside, RunCounted, RunPlaced, sumBelow}
 
 -- two numbers are equal or not
 pub same? : (a b : ℕ) → (a ≡ b) ⊎ (a ≡ b → ⊥)
@@ -25,9 +26,6 @@ stored-at l i j v x b f g =
     (λ e. subst (λ (k : ℕ). getD (set l i v) k 0 ≡ x) (sym e) (getD-set-same l i v 0 b ∙ f e))
     (λ ne. getD-set-other l i j v 0 ne ∙ g ne)
     (same? j i)
-
-run-none : (a c : ℕ) → Inside a a c → ⊥
-run-none a c w = omega arith
 
 module _ (o₀ o : List ℕ) (a c : ℕ) where
   pub counted-none : o ≡ o₀ → c ≡ a → RunCounted o₀ o a c
@@ -61,47 +59,36 @@ module _ (o₀ l₀ o l : List ℕ) (id a c : ℕ) where
   pub placed-none : o ≡ o₀ → l ≡ l₀ → c ≡ a → RunPlaced o₀ l₀ o l id a c
   placed-none e f q =
       record {
-        same = ap length e;
+        cursors = counted-none o₀ o a c e q;
         same-list = ap length f;
-        hit = λ d w. absurd (omega arith);
-        kept = λ d w. ap (λ (z : List ℕ). getD z d 0) e;
-        placed = λ d j w. absurd (omega arith);
+        placed = λ d w. absurd (omega arith);
         other = λ j w. ap (λ (z : List ℕ). getD z j 0) f;
         either = λ j. inr (ap (λ (z : List ℕ). getD z j 0) f);
       }
 
-  pub placed-more : (at : ℕ) → RunPlaced o₀ l₀ o l id a c → a ≤ c → c < length o → at + 1 ≡ getD o c 0 → at < length l → RunPlaced o₀ l₀ (set o c at) (set l at id) id a (c + 1)
-  placed-more at r m b e k =
-      let e₀ : at + 1 ≡ getD o₀ c 0 = e ∙ r .kept c (λ v. omega arith) in
+  pub placed-more : (at : ℕ) → at ≡ getD o c 0 → RunPlaced o₀ l₀ o l id a c → a ≤ c → c < length o → at < length l → RunPlaced o₀ l₀ (set o c (getD o c 0 + 1)) (set l at id) id a (c + 1)
+  placed-more at e r m b k =
+      let e₀ : at ≡ getD o₀ c 0 = e ∙ r .cursors .kept c (λ v. omega arith) in
       record {
-        same = length-set o c at ∙ r .same;
+        cursors = counted-more o₀ o a c (r .cursors) m b;
         same-list = length-set l at id ∙ r .same-list;
-        hit = λ d w. ⊎-elim
-            (λ q. subst (λ (z : ℕ). getD (set o c at) z 0 + 1 ≡ getD o₀ z 0) (sym q) (ap (λ (z : ℕ). z + 1) (getD-set-same o c at 0 b) ∙ e₀))
-            (λ ne. ap (λ (z : ℕ). z + 1) (getD-set-other o c d at 0 ne) ∙ r .hit d (omega arith))
-            (same? d c);
-        kept = λ d w. getD-set-other o c d at 0 (λ q. w (omega arith)) ∙ r .kept d (λ v. w (omega arith));
-        placed = λ d j w q.
-            stored-at l at j id id k (λ p. refl)
-            (λ ne. r .placed d j (record { from = w .from; below = below d j w q ne e₀ }) q);
-        other = λ j w. getD-set-other l at j id 0 (λ p. w c (omega arith) (ap (λ (z : ℕ). z + 1) p ∙ e₀)) ∙ r .other j (λ d v. w d (omega arith));
+        placed = λ d w. stored-at l at (getD o₀ d 0) id id k (λ p. refl) (λ ne. r .placed d (record { from = w .from; below = below d w ne e₀ }));
+        other = λ j w. getD-set-other l at j id 0 (λ p. w c (omega arith) (p ∙ e₀)) ∙ r .other j (λ d v. w d (omega arith));
         either = λ j. ⊎-elim
             (λ p. inl (subst (λ (z : ℕ). getD (set l at id) z 0 ≡ id) (sym p) (getD-set-same l at id 0 k)))
             (λ ne. ⊎-elim (λ q. inl (getD-set-other l at j id 0 ne ∙ q)) (λ q. inr (getD-set-other l at j id 0 ne ∙ q)) (r .either j))
             (same? j at);
       }
     where
-      below : (d j : ℕ) → Inside a (c + 1) d → j + 1 ≡ getD o₀ d 0 → (j ≡ at → ⊥) → at + 1 ≡ getD o₀ c 0 → d < c
-      below d j w q ne e₀ = ⊎-elim (λ p. absurd (ne (omega (arith, ap (λ (z : ℕ). getD o₀ z 0) p)))) (λ p. omega arith) (same? d c)
+      below : (d : ℕ) → Inside a (c + 1) d → (getD o₀ d 0 ≡ at → ⊥) → at ≡ getD o₀ c 0 → d < c
+      below d w ne e₀ = ⊎-elim (λ p. absurd (ne (ap (λ (z : ℕ). getD o₀ z 0) p ∙ sym e₀))) (λ p. omega arith) (same? d c)
 
   pub placed-all : (b : ℕ) → RunPlaced o₀ l₀ o l id a c → b ≤ c → c ≤ max a b → RunPlaced o₀ l₀ o l id a b
   placed-all b r k m =
       record {
-        same = r .same;
+        cursors = counted-all o₀ o a c b (r .cursors) k m;
         same-list = r .same-list;
-        hit = λ d w. r .hit d (omega arith);
-        kept = λ d w. r .kept d (λ v. w (omega arith));
-        placed = λ d j w. r .placed d j (omega arith);
+        placed = λ d w. r .placed d (omega arith);
         other = λ j w. r .other j (λ d v. w d (omega arith));
         either = r .either;
       }
@@ -120,7 +107,7 @@ pub sum-none : (o : List ℕ) → sumBelow o 0 ≡ 0
 unfolding sumBelow
 sum-none o = refl
 
-pub sum-small : (o : List ℕ) (q : ℕ) → ((c : ℕ) → c < q → getD o c 0 ≤ 2500) → sumBelow o q ≤ 2500 * q
+pub sum-small : (o : List ℕ) (q : ℕ) → ((c : ℕ) → c < q → getD o c 0 ≤ mostPoints) → sumBelow o q ≤ mostPoints * q
 unfolding sumBelow
 sum-small o zero f = omega arith
 sum-small o (suc q) f = omega (arith, sum-small o q (λ c l. f c (omega arith)), f q (omega arith))
@@ -136,11 +123,3 @@ module _ (o₀ o : List ℕ) (c : ℕ) where
             (λ ne. s .done d (omega arith));
         left = λ d w. getD-set-other o c d (sumBelow o₀ c + getD o c 0) 0 (omega arith) ∙ s .left d (omega arith);
       }
-
-pub summed-all : (o₀ o : List ℕ) → SummedTo o₀ o 4489 → 4489 < length o → Summed o₀ (set o 4489 (sumBelow o₀ 4489))
-summed-all o₀ o s b =
-    record {
-      same = length-set o 4489 (sumBelow o₀ 4489) ∙ s .same;
-      cells = λ d w. getD-set-other o 4489 d (sumBelow o₀ 4489) 0 (omega arith) ∙ s .done d w;
-      end = getD-set-same o 4489 (sumBelow o₀ 4489) 0 b;
-    }

@@ -13,6 +13,7 @@ use lib.Seq.{ext-getD, getD-at, getD-take, getD-drop, take-add, take-all, length
 use lib.ListN.{length-take, length-drop}
 use lib.Dec.{leb, ltb}
 use borrow.Author.Tests.{lt-ltb, le-ltb, le-leb, lt-leb, ltb-true, leb-true}
+use Rattle.course.specs.Lengths.{mostPoints}
 use Rattle.course.specs.Index.{addIf, listed, start, indexOf, table, offsetsOf, partOk, lookup, pickList}
 use Rattle.course.specs.IndexSteps.{one}
 
@@ -160,7 +161,7 @@ module _ (h : ℕ → ℕ → Bool) (n : ℕ) where
       (λ m. omega (arith, start-apart c d m))
       (eq-or-lt-of-le (le-of-suc-le-suc l))
 
-  pub start-small : n ≤ 2500 → (c : ℕ) → start h n c ≤ 2500 * c
+  pub start-small : n ≤ mostPoints → (c : ℕ) → start h n c ≤ mostPoints * c
   unfolding start
   start-small b zero = omega arith
   start-small b (suc c) = omega (arith, start-small b c, listed-small h n c)

@@ -18,64 +18,61 @@ abbrev pub one : Bool → ℕ
 one true = 1
 one false = 0
 
--- a test on cells: whether c is from a up to below b
-pub record Inside (a b c : ℕ) : Type 0 where
-  pub from : a ≤ c
-  pub below : c < b
+-- a test on places: whether k is from a up to below b
+pub record Inside (a b k : ℕ) : Type 0 where
+  pub from : a ≤ k
+  pub below : k < b
 
--- every cell of a run counts one more, and no other changes
+-- every place of a run counts one more, and no other changes
 pub record RunCounted (o o′ : List ℕ) (a b : ℕ) : Type 0 where
   pub same : length o′ ≡ length o
-  pub hit : (c : ℕ) → Inside a b c → getD o′ c 0 ≡ getD o c 0 + 1
-  pub kept : (c : ℕ) → (Inside a b c → ⊥) → getD o′ c 0 ≡ getD o c 0
+  pub hit : (k : ℕ) → Inside a b k → getD o′ k 0 ≡ getD o k 0 + 1
+  pub kept : (k : ℕ) → (Inside a b k → ⊥) → getD o′ k 0 ≡ getD o k 0
 
--- every cell that the rectangle holds counts one more
-pub record RectCounted (o o′ : List ℕ) (r : Rect) : Type 0 where
+-- every cell that the rectangle holds counts one more, s places after its own where there is such a place, and no other place changes
+pub record RectCounted (s : ℕ) (o o′ : List ℕ) (r : Rect) : Type 0 where
   pub same : length o′ ≡ length o
-  pub cells : (c : ℕ) → c < cellCount → getD o′ c 0 ≡ getD o c 0 + one (holds r c)
+  pub first : (k : ℕ) → k < s → getD o′ k 0 ≡ getD o k 0
+  pub cells : (c : ℕ) → c + s < offsetCount → getD o′ (c + s) 0 ≡ getD o (c + s) 0 + one (holds r c)
 
 -- the sum of the first k elements
 unfoldable pub sumBelow : List ℕ → ℕ → ℕ
 sumBelow o zero = 0
 sumBelow o (suc k) = sumBelow o k + getD o k 0
 
--- each cell has the sum up to and with its own, and the entry past the cells the sum of all
+-- each place has the sum up to and with its own
 pub record Summed (o o′ : List ℕ) : Type 0 where
   pub same : length o′ ≡ length o
-  pub cells : (c : ℕ) → c < cellCount → getD o′ c 0 ≡ sumBelow o (c + 1)
-  pub end : getD o′ cellCount 0 ≡ sumBelow o cellCount
+  pub places : (k : ℕ) → k < length o → getD o′ k 0 ≡ sumBelow o (k + 1)
 
--- each cell counts the ids below i that it lists
+-- each cell but the last counts the ids below i that it lists, two places after its own
 pub record Counts (h : ℕ → ℕ → Bool) (i : ℕ) (o : List ℕ) : Type 0 where
   pub size : length o ≡ offsetCount
-  pub cells : (c : ℕ) → c < cellCount → getD o c 0 ≡ length (listed h i c)
+  pub first : (k : ℕ) → k < 2 → getD o k 0 ≡ 0
+  pub cells : (c : ℕ) → c + 2 < offsetCount → getD o (c + 2) 0 ≡ length (listed h i c)
 
--- every cell of a run steps back by one, and id stands where it then points; nothing else changes
+-- id stands where each cursor of a run pointed, which then points one further; nothing else changes
 pub record RunPlaced (o l o′ l′ : List ℕ) (id a b : ℕ) : Type 0 where
-  pub same : length o′ ≡ length o
+  pub cursors : RunCounted o o′ a b
   pub same-list : length l′ ≡ length l
-  pub hit : (c : ℕ) → Inside a b c → getD o′ c 0 + 1 ≡ getD o c 0
-  pub kept : (c : ℕ) → (Inside a b c → ⊥) → getD o′ c 0 ≡ getD o c 0
-  pub placed : (c j : ℕ) → Inside a b c → j + 1 ≡ getD o c 0 → getD l′ j 0 ≡ id
-  pub other : (j : ℕ) → ((c : ℕ) → Inside a b c → j + 1 ≡ getD o c 0 → ⊥) → getD l′ j 0 ≡ getD l j 0
+  pub placed : (k : ℕ) → Inside a b k → getD l′ (getD o k 0) 0 ≡ id
+  pub other : (j : ℕ) → ((k : ℕ) → Inside a b k → j ≡ getD o k 0 → ⊥) → getD l′ j 0 ≡ getD l j 0
   pub either : (j : ℕ) → (getD l′ j 0 ≡ id) ⊎ (getD l′ j 0 ≡ getD l j 0)
 
--- the same for every cell that the rectangle holds
+-- the same for every cell that the rectangle holds; the cursor of a cell stands one place after its own
 pub record RectPlaced (o l o′ l′ : List ℕ) (id : ℕ) (r : Rect) : Type 0 where
-  pub same : length o′ ≡ length o
+  pub cursors : RectCounted 1 o o′ r
   pub same-list : length l′ ≡ length l
-  pub end : getD o′ cellCount 0 ≡ getD o cellCount 0
-  pub cells : (c : ℕ) → c < cellCount → getD o′ c 0 + one (holds r c) ≡ getD o c 0
-  pub placed : (c j : ℕ) → c < cellCount → holds r c ≡ true → j + 1 ≡ getD o c 0 → getD l′ j 0 ≡ id
-  pub other : (j : ℕ) → ((c : ℕ) → c < cellCount → holds r c ≡ true → j + 1 ≡ getD o c 0 → ⊥) → getD l′ j 0 ≡ getD l j 0
+  pub placed : (c : ℕ) → c < cellCount → holds r c ≡ true → getD l′ (getD o (c + 1) 0) 0 ≡ id
+  pub other : (j : ℕ) → ((c : ℕ) → c < cellCount → holds r c ≡ true → j ≡ getD o (c + 1) 0 → ⊥) → getD l′ j 0 ≡ getD l j 0
 
--- the ids from i up to below n are placed at the ends of their cells' parts, and the offsets point at what is placed
+-- the ids below i are placed at the starts of their cells' parts, and the cursor of each cell points past what is placed
 pub record Placed (h : ℕ → ℕ → Bool) (n i : ℕ) (o l : List ℕ) : Type 0 where
   pub size : length o ≡ offsetCount
   pub room : length l ≡ start h n cellCount
-  pub end : getD o cellCount 0 ≡ start h n cellCount
-  pub cells : (c : ℕ) → c < cellCount → getD o c 0 ≡ start h n c + length (listed h i c)
-  pub ids : (c k : ℕ) → c < cellCount → length (listed h i c) ≤ k → k < length (listed h n c) → getD l (start h n c + k) 0 ≡ getD (listed h n c) k 0
+  pub first : getD o 0 0 ≡ 0
+  pub cells : (c : ℕ) → c < cellCount → getD o (c + 1) 0 ≡ start h n c + length (listed h i c)
+  pub ids : (c k : ℕ) → c < cellCount → k < length (listed h i c) → getD l (start h n c + k) 0 ≡ getD (listed h n c) k 0
 
 -- the rectangle ends within the 67 rows and columns
 pub record Small (r : Rect) : Type 0 where

@@ -1,9 +1,11 @@
 // The index of a course's tiles (document 01, "Tiles and index"): which tiles each cell of the grid lists.
-// Built in two passes over the rectangles, count and then fill, in the lent columns alone.
+// Built in two passes over the rectangles, count and then fill by ascending id, in the lent columns alone.
+// While it is filled, place c + 1 of the offsets is the cursor of cell c: it starts where the part of cell c starts, and ends where the
+// part of cell c + 1 does. So cell c is counted at place c + 2, and the last cell, which no part follows, is not counted.
 ghost use mathlib.Core.Path.{_≡_};
 ghost use mathlib.Core.Bool.{true};
 ghost use mathlib.Core.List.{List, _++_};
-ghost use Prim.Native.Nat.{ℕ, _+_, _*_, _-_, _<_, _≤_};
+ghost use Prim.Native.Nat.{ℕ, _+_, _*_, _-_, _<_, _≤_, min};
 ghost use lib.ListN.{length, getD, take, drop, replicate};
 ghost use Rattle.course.specs.Lengths.{cellCount, mostPoints, offsetCount};
 ghost use Rattle.course.specs.Cell.{cellAt};
@@ -12,7 +14,6 @@ ghost use Rattle.course.specs.Index.{listed, start, indexOf, offsetsOf, 
 ghost use Rattle.course.specs.IndexSteps.{Small, Built, Inside, RunCounted, RectCounted, Counts, Summed, RunPlaced, RectPlaced, Placed};
 use crate::cell::cell_at;
 use crate::cell::cell_of;
-use crate::constants::CELL_COUNT;
 use crate::constants::GRID_DIM;
 use crate::constants::OFFSET_COUNT;
 use crate::numeric::greatest;
@@ -90,37 +91,48 @@ fn clear(o: &mut [u32])
     }
 }
 
-// One more for each cell of a run.
+// One more at each place of a run.
 fn count_run(o: &mut [u32], a: usize, b: usize)
     requires { ⌜ b ≤ length (now o) ⌝ }
-    requires { ⌜ ((c : ℕ) → Inside a b c → getD (now o) c 0 < mostPoints) ⌝ }
+    requires { ⌜ ((k : ℕ) → Inside a b k → getD (now o) k 0 < mostPoints) ⌝ }
     ensures { λ r. ⌜ RunCounted (now (o .entry)) (now (o .exit)) a b ⌝ }
 {
-    let mut c = a;
-    while c < b {
-        o[c] = o[c] + 1;
-        c += 1;
+    let mut k = a;
+    while k < b {
+        o[k] = o[k] + 1;
+        k += 1;
     }
 }
 
-// One more for each cell of a rectangle.
+// The end of a run of places, at most that of the offsets.
+fn clipped(end: usize) -> usize
+    ensures { λ r. ⌜ r ≡ min end offsetCount ⌝ }
+{
+    if end < OFFSET_COUNT {
+        return end;
+    }
+    OFFSET_COUNT
+}
+
+// One more, two places after its own, for each cell of a rectangle but the grid's last.
 fn count_rect(o: &mut [u32], r: Rect)
     requires { ⌜ Small r ⌝ }
     requires { ⌜ length (now o) ≡ offsetCount ⌝ }
-    requires { ⌜ ((c : ℕ) → c < cellCount → getD (now o) c 0 < mostPoints) ⌝ }
-    ensures { λ u. ⌜ RectCounted (now (o .entry)) (now (o .exit)) r ⌝ }
+    requires { ⌜ ((k : ℕ) → k < offsetCount → getD (now o) k 0 < mostPoints) ⌝ }
+    ensures { λ u. ⌜ RectCounted 2 (now (o .entry)) (now (o .exit)) r ⌝ }
 {
     let x0 = r.x0;
     let x1 = r.x1;
     let y1 = r.y1;
     let mut y = r.y0;
     while y <= y1 {
-        count_run(o, y * GRID_DIM + x0, y * GRID_DIM + x1 + 1);
+        let end = clipped(y * GRID_DIM + x1 + 3);
+        count_run(o, y * GRID_DIM + x0 + 2, end);
         y += 1;
     }
 }
 
-// How many tiles each cell lists.
+// How many tiles each cell but the last lists.
 fn count_all(tiles: &[f64], n: usize, o: &mut [u32])
     requires { ⌜ (n ≤ mostPoints) × (n * 8 ≤ length (now tiles)) ⌝ }
     requires { ⌜ Counts (holdsOf (now tiles)) 0 (now o) ⌝ }
@@ -133,20 +145,19 @@ fn count_all(tiles: &[f64], n: usize, o: &mut [u32])
     }
 }
 
-// Counts become the ends of the cells' parts.
+// Each offset becomes the sum of all up to and with it.
 fn sum_up(o: &mut [u32])
     requires { ⌜ length (now o) ≡ offsetCount ⌝ }
-    requires { ⌜ ((c : ℕ) → c < cellCount → getD (now o) c 0 ≤ mostPoints) ⌝ }
+    requires { ⌜ ((k : ℕ) → k < offsetCount → getD (now o) k 0 ≤ mostPoints) ⌝ }
     ensures { λ r. ⌜ Summed (now (o .entry)) (now (o .exit)) ⌝ }
 {
     let mut sum: u32 = 0;
-    let mut c = 0;
-    while c < CELL_COUNT {
-        sum += o[c];
-        o[c] = sum;
-        c += 1;
+    let mut k = 0;
+    while k < o.len() {
+        sum += o[k];
+        o[k] = sum;
+        k += 1;
     }
-    o[CELL_COUNT] = sum;
 }
 
 fn wide(x: u32) -> usize
@@ -155,27 +166,29 @@ fn wide(x: u32) -> usize
     x as usize
 }
 
-// The id before the part of each cell of a run.
+// The id goes where each cursor of a run points, and the cursor one further.
 fn place_run(o: &mut [u32], l: &mut [u32], id: u32, a: usize, b: usize)
     requires { ⌜ b ≤ length (now o) ⌝ }
-    requires { ⌜ ((c : ℕ) → Inside a b c → (0 < getD (now o) c 0) × (getD (now o) c 0 ≤ length (now l))) ⌝ }
+    requires { ⌜ length (now l) ≤ mostPoints * cellCount ⌝ }
+    requires { ⌜ ((k : ℕ) → Inside a b k → getD (now o) k 0 < length (now l)) ⌝ }
     ensures { λ r. ⌜ RunPlaced (now (o .entry)) (now (l .entry)) (now (o .exit)) (now (l .exit)) id a b ⌝ }
 {
-    let mut c = a;
-    while c < b {
-        let at = o[c] - 1;
-        o[c] = at;
+    let mut k = a;
+    while k < b {
+        let at = o[k];
         let j = wide(at);
         l[j] = id;
-        c += 1;
+        o[k] = at + 1;
+        k += 1;
     }
 }
 
-// The id before the part of each cell of a rectangle.
+// The id goes where the cursor of each cell of a rectangle points.
 fn place_rect(o: &mut [u32], l: &mut [u32], id: u32, r: Rect)
     requires { ⌜ Small r ⌝ }
     requires { ⌜ length (now o) ≡ offsetCount ⌝ }
-    requires { ⌜ ((c : ℕ) → c < cellCount → holds r c ≡ true → (0 < getD (now o) c 0) × (getD (now o) c 0 ≤ length (now l))) ⌝ }
+    requires { ⌜ length (now l) ≤ mostPoints * cellCount ⌝ }
+    requires { ⌜ ((c : ℕ) → c < cellCount → holds r c ≡ true → getD (now o) (c + 1) 0 < length (now l)) ⌝ }
     ensures { λ u. ⌜ RectPlaced (now (o .entry)) (now (l .entry)) (now (o .exit)) (now (l .exit)) id r ⌝ }
 {
     let x0 = r.x0;
@@ -183,21 +196,21 @@ fn place_rect(o: &mut [u32], l: &mut [u32], id: u32, r: Rect)
     let y1 = r.y1;
     let mut y = r.y0;
     while y <= y1 {
-        place_run(o, l, id, y * GRID_DIM + x0, y * GRID_DIM + x1 + 1);
+        place_run(o, l, id, y * GRID_DIM + x0 + 1, y * GRID_DIM + x1 + 2);
         y += 1;
     }
 }
 
-// All ids, the last one first: the ends become starts, and each part ascends.
+// All ids, ascending: each cursor ends where the next cell's part starts.
 fn place_all(tiles: &[f64], n: usize, o: &mut [u32], l: &mut [u32])
     requires { ⌜ (n ≤ mostPoints) × (n * 8 ≤ length (now tiles)) ⌝ }
-    requires { ⌜ Placed (holdsOf (now tiles)) n n (now o) (now l) ⌝ }
-    ensures { λ r. ⌜ Placed (holdsOf (now (tiles .entry))) n 0 (now (o .exit)) (now (l .exit)) ⌝ }
+    requires { ⌜ Placed (holdsOf (now tiles)) n 0 (now o) (now l) ⌝ }
+    ensures { λ r. ⌜ Placed (holdsOf (now (tiles .entry))) n n (now (o .exit)) (now (l .exit)) ⌝ }
 {
-    let mut i = n;
-    while 0 < i {
-        i -= 1;
+    let mut i = 0;
+    while i < n {
         place_rect(o, l, i as u32, rect_of(tiles, i));
+        i += 1;
     }
 }
 

@@ -9,8 +9,7 @@ use Rattle.course.specs.Rect.{holds, holdsOf, rectOf}
 use Rattle.course.specs.IndexSteps.{Small}
 use Rattle.course.specs.IndexSteps.{Counts, RectCounted}
 use Rattle.course.proofs.CourseRects.{rect-small}
-use Rattle.course.proofs.IndexLaws.{listed-small}
-use Rattle.course.proofs.TileSteps.{counts-more}
+use Rattle.course.proofs.TileSteps.{counts-more, counts-small}
 use borrow.Author.Needs.{needs}
 use Rattle.course.proofs.index.count_all.Statement.{statement}
 use Rattle.course.proofs.index.count_all.Tie as tie
@@ -36,8 +35,7 @@ count-rect-requires c κs =
     let a = c .before .before .before in
     let s = a .before .before .before in
     let t = a .loop .inv .1 in
-    let f : (d : ℕ) → d < 4489 → getD (a .loop .o) d 0 < 2500 = λ d l. omega (arith, t .cells d l, listed-small (holdsOf (s .args .tiles .now)) (a .loop .i) d) in
-    (subst Small (sym (c .rect-of .ensures)) (rect-small _ _), (t .size, f))
+    (subst Small (sym (c .rect-of .ensures)) (rect-small _ _), (t .size, λ k l. omega (arith, counts-small (holdsOf (s .args .tiles .now)) (a .loop .i) (a .loop .o) t k l)))
 
 add-i : tie.Need-add-i Inv-loop μ-loop
 add-i c = search needs

@@ -1,8 +1,9 @@
 -- `course::index::count_run` meets its contract. Assumes nothing.
-use Prim.Native.Nat.{ℕ, _+_, _*_, _-_, _≤_, _<_, max}
-use mathlib.Core.Path.{_≡_, refl, sym, ap, _∙_, subst}
+use Prim.Native.Nat.{_-_, _≤_, _<_, max}
+use mathlib.Core.Path.{refl}
 use native.Mathlib.Omega.{arith}
-use lib.ListN.{length, getD, set}
+use lib.ListN.{getD}
+use Rattle.course.specs.Lengths.{mostPoints}
 use Rattle.course.specs.IndexSteps.{Inside, RunCounted}
 use Rattle.course.proofs.CellRuns.{counted-none, counted-more, counted-all}
 use borrow.Author.Needs.{needs}
@@ -12,17 +13,17 @@ use Rattle.course.proofs.index.count_run.Reads as reads
 use Rattle.course.proofs.index.count_run.Lts as lts
 
 abbrev Inv-loop : tie.InvT-loop
-Inv-loop o₀ a b c₀ o c = RunCounted o₀ o a c × (a ≤ c) × (c ≤ max a b)
+Inv-loop o₀ a b k₀ o k = RunCounted o₀ o a k × (a ≤ k) × (k ≤ max a b)
 
 abbrev μ-loop : tie.MeasureT-loop
-μ-loop o₀ a b c₀ o c = b - c
+μ-loop o₀ a b k₀ o k = b - k
 
--- the cell that a turn counts is still as it was, so it is small
-now-small : (c : tie.In-loop Inv-loop μ-loop) → getD (c .before .loop .o) (c .before .loop .c) 0 < 2500
+-- the place that a turn counts is still as it was, so it is small
+now-small : (c : tie.In-loop Inv-loop μ-loop) → getD (c .before .loop .o) (c .before .loop .k) 0 < mostPoints
 now-small c =
     let a = c .before in
-    let w : Inside (a .before .args .a) (a .before .args .b) (a .loop .c) = omega arith in
-    omega (arith, a .loop .inv .0 .kept (a .loop .c) (λ v. omega arith), a .before .pre .1 (a .loop .c) w)
+    let w : Inside (a .before .args .a) (a .before .args .b) (a .loop .k) = omega arith in
+    omega (arith, a .loop .inv .0 .kept (a .loop .k) (λ v. omega arith), a .before .pre .1 (a .loop .k) w)
 
 loop-holds : tie.Need-loop-holds Inv-loop μ-loop
 loop-holds c = (counted-none _ _ _ _ refl refl, omega arith, omega arith)
@@ -43,8 +44,8 @@ mul-o-2 c = search needs
 slice-write-o : tie.Need-slice-write-o Inv-loop μ-loop
 slice-write-o c = search needs
 
-add-c : tie.Need-add-c Inv-loop μ-loop
-add-c c = search needs
+add-k : tie.Need-add-k Inv-loop μ-loop
+add-k c = search needs
 
 loop-less : tie.Need-loop-less Inv-loop μ-loop
 loop-less c = search needs
@@ -72,7 +73,7 @@ count-run-spec =
     add-o
     mul-o-2
     slice-write-o
-    add-c
+    add-k
     loop-less
     loop-again
     same-length

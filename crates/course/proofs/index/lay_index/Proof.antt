@@ -8,9 +8,8 @@ use lib.ListN.{replicate, length-replicate, getD-replicate}
 use Rattle.course.specs.Rect.{holdsOf, needed}
 use Rattle.course.specs.Index.{offsetsOf, indexOf}
 use Rattle.course.specs.IndexSteps.{Counts, Placed, Summed}
-use Rattle.course.proofs.IndexLaws.{listed-small}
 use Rattle.course.proofs.CourseRects.{needed-start}
-use Rattle.course.proofs.TileSteps.{counts-none, placed-none, placed-offsets, placed-index}
+use Rattle.course.proofs.TileSteps.{counts-none, counts-small, placed-none, placed-offsets, placed-index}
 use borrow.Author.Needs.{needs}
 use Rattle.course.proofs.index.lay_index.Statement.{statement}
 use Rattle.course.proofs.index.lay_index.Tie as tie
@@ -39,7 +38,7 @@ sum-up-requires : tie.Need-sum-up-requires
 sum-up-requires c κs =
     let s = c .before .before .before .before .before .before .before .before .before .before .before .before in
     let t = c .before .before .before .count-all .ensures in
-    (t .size, λ d l. omega (arith, t .cells d l, listed-small (holdsOf (s .args .tiles .now)) (s .args .n) d, s .pre .0))
+    (t .size, λ k l. omega (arith, counts-small (holdsOf (s .args .tiles .now)) (s .args .n) _ t k l, s .pre .0))
 
 place-all-requires : tie.Need-place-all-requires
 place-all-requires c κs =

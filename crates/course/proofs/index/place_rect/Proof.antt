@@ -1,10 +1,12 @@
 -- `course::index::place_rect` meets its contract. Assumes nothing.
+use Rattle.course.specs.Constants.{gridDim}
+use Rattle.course.specs.Lengths.{mostPoints, cellCount}
 use Rattle.course.specs.IndexSteps.{Inside}
 use Rattle.course.proofs.RowSweeps.{row-holds}
-use Prim.Native.Nat.{ℕ, _+_, _*_, _-_, _≤_, _<_, max}
-use mathlib.Core.Path.{_≡_, refl, sym, ap, _∙_, subst}
+use Prim.Native.Nat.{ℕ, _+_, _*_, _-_, _≤_, _<_}
+use mathlib.Core.Path.{_≡_, refl, ap}
 use native.Mathlib.Omega.{arith}
-use lib.ListN.{length, getD, set}
+use lib.ListN.{length, getD}
 use Rattle.course.proofs.CourseRects.{rect}
 use Rattle.course.proofs.RowSweeps.{PlacedTo, place-none, place-row, place-done}
 use borrow.Author.Needs.{needs}
@@ -15,10 +17,10 @@ use Rattle.course.proofs.index.place_rect.Lts as lts
 use Rattle.course.proofs.index.place_run.Reads as place-run-reads
 
 abbrev Inv-loop : tie.InvT-loop
-Inv-loop o₀ l₀ id x0 x1 y1 y₀ o l y = PlacedTo o₀ l₀ o l id (rect x0 x1 y₀ y1) (y * 67) × (y₀ ≤ y) × (y ≤ 67)
+Inv-loop o₀ l₀ id x0 x1 y1 y₀ o l y = PlacedTo o₀ l₀ o l id (rect x0 x1 y₀ y1) (y * gridDim) × (y₀ ≤ y) × (y ≤ gridDim)
 
 abbrev μ-loop : tie.MeasureT-loop
-μ-loop o₀ l₀ id x0 x1 y1 y₀ o l y = 67 - y
+μ-loop o₀ l₀ id x0 x1 y1 y₀ o l y = gridDim - y
 
 loop-holds : tie.Need-loop-holds Inv-loop μ-loop
 loop-holds c = (place-none (c .before .before .args .r) (c .before .before .pre .0) _ _ _ _ _ refl refl _ (omega arith), omega arith, omega arith)
@@ -29,29 +31,37 @@ mul-place-run c = search needs
 add-place-run : tie.Need-add-place-run Inv-loop μ-loop
 add-place-run c = search needs
 
-mul-place-run-2 : tie.Need-mul-place-run-2 Inv-loop μ-loop
-mul-place-run-2 c = search needs
-
 add-place-run-2 : tie.Need-add-place-run-2 Inv-loop μ-loop
 add-place-run-2 c = search needs
 
+mul-place-run-2 : tie.Need-mul-place-run-2 Inv-loop μ-loop
+mul-place-run-2 c = search needs
+
 add-place-run-3 : tie.Need-add-place-run-3 Inv-loop μ-loop
 add-place-run-3 c = search needs
+
+add-place-run-4 : tie.Need-add-place-run-4 Inv-loop μ-loop
+add-place-run-4 c = search needs
 
 place-run-requires : tie.Need-place-run-requires Inv-loop μ-loop
 place-run-requires c κs =
     let a = c .before .before .before in
     let s = a .before .before .before in
-    let f : (d : ℕ) → Inside (a .loop .y * 67 + s .args .r .x0) (a .loop .y * 67 + s .args .r .x1 + 1) d → (0 < getD (a .loop .o) d 0) × (getD (a .loop .o) d 0 ≤ length (a .loop .l)) =
-    λ d w. omega (
+    let t = a .loop .inv .0 in
+    let f : (k : ℕ) → Inside (a .loop .y * gridDim + s .args .r .x0 + 1) (a .loop .y * gridDim + s .args .r .x1 + 2) k → getD (a .loop .o) k 0 < length (a .loop .l) =
+    λ k w.
+    let e : k ≡ (k - 1) + 1 = omega arith in
+    omega (
       arith,
-      a .loop .inv .0 .left d (omega arith),
-      a .loop .inv .0 .same-list,
-      s .pre .1 .1 d (omega arith) (row-holds (s .args .r) (a .loop .y) (s .pre .0) (a .loop .inv .1) (omega arith) d w),
+      t .cursors .left k (omega arith),
+      t .same-list,
+      ap (λ (z : ℕ). getD (s .args .o .now) z 0) e,
+      s .pre .1 .1 .1 (k - 1) (omega arith) (row-holds (s .args .r) (a .loop .y) (s .pre .0) (a .loop .inv .1) (omega arith) (k - 1) (omega arith)),
     )
     in
-    let g : a .loop .y * 67 + s .args .r .x1 + 1 ≤ length (a .loop .o) = omega (arith, a .loop .inv .0 .same) in
-    (g, f)
+    let g : a .loop .y * gridDim + s .args .r .x1 + 2 ≤ length (a .loop .o) = omega (arith, t .cursors .same) in
+    let b : length (a .loop .l) ≤ mostPoints * cellCount = omega (arith, t .same-list, s .pre .1 .1 .0) in
+    (g, (b, f))
 
 add-y : tie.Need-add-y Inv-loop μ-loop
 add-y c = search needs
@@ -66,7 +76,7 @@ loop-again c =
     (place-row (s .args .r) (s .pre .0) _ _ _ _ _ _ _ (a .loop .y) (a .loop .inv .1) (omega arith) (a .loop .inv .0) (c .before .before .before .before .place-run .ensures), omega arith, omega arith)
 
 same-length : tie.Need-same-length Inv-loop μ-loop
-same-length c = search needs
+same-length c = c .before .loop .inv .0 .cursors .same
 
 same-length-2 : tie.Need-same-length-2 Inv-loop μ-loop
 same-length-2 c = search needs
@@ -85,9 +95,10 @@ place-rect-spec =
     loop-holds
     mul-place-run
     add-place-run
-    mul-place-run-2
     add-place-run-2
+    mul-place-run-2
     add-place-run-3
+    add-place-run-4
     place-run-requires
     add-y
     loop-less

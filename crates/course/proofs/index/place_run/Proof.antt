@@ -1,8 +1,9 @@
 -- `course::index::place_run` meets its contract. Assumes nothing.
-use Prim.Native.Nat.{ℕ, _+_, _*_, _-_, _≤_, _<_, max}
-use mathlib.Core.Path.{_≡_, refl, sym, ap, _∙_, subst}
+use Prim.Native.Nat.{_*_, _-_, _≤_, _<_, max}
+use mathlib.Core.Path.{refl}
 use native.Mathlib.Omega.{arith}
-use lib.ListN.{length, getD, set}
+use lib.ListN.{length, getD}
+use Rattle.course.specs.Lengths.{mostPoints, cellCount}
 use Rattle.course.specs.IndexSteps.{Inside, RunPlaced}
 use Rattle.course.proofs.CellRuns.{placed-none, placed-more, placed-all}
 use borrow.Author.Needs.{needs}
@@ -13,18 +14,18 @@ use Rattle.course.proofs.index.place_run.Lts as lts
 use Rattle.course.proofs.index.wide.Reads as wide-reads
 
 abbrev Inv-loop : tie.InvT-loop
-Inv-loop o₀ l₀ id a b c₀ o l c = RunPlaced o₀ l₀ o l id a c × (a ≤ c) × (c ≤ max a b)
+Inv-loop o₀ l₀ id a b k₀ o l k = RunPlaced o₀ l₀ o l id a k × (a ≤ k) × (k ≤ max a b)
 
 abbrev μ-loop : tie.MeasureT-loop
-μ-loop o₀ l₀ id a b c₀ o l c = b - c
+μ-loop o₀ l₀ id a b k₀ o l k = b - k
 
--- the cell that a turn steps back points into the list
-now-near : (c : tie.In-loop Inv-loop μ-loop) → (0 < getD (c .before .loop .o) (c .before .loop .c) 0) × (getD (c .before .loop .o) (c .before .loop .c) 0 ≤ length (c .before .loop .l))
+-- the cursor that a turn moves points into the list, which is no longer than all cells' parts can be
+now-near : (c : tie.In-loop Inv-loop μ-loop) → (getD (c .before .loop .o) (c .before .loop .k) 0 < length (c .before .loop .l)) × (length (c .before .loop .l) ≤ mostPoints * cellCount)
 now-near c =
     let a = c .before in
     let s = a .before .before .before in
-    let w : Inside (s .args .a) (s .args .b) (a .loop .c) = omega arith in
-    omega (arith, a .loop .inv .0 .kept (a .loop .c) (λ v. omega arith), a .loop .inv .0 .same-list, s .pre .1 (a .loop .c) w)
+    let w : Inside (s .args .a) (s .args .b) (a .loop .k) = omega arith in
+    omega (arith, a .loop .inv .0 .cursors .kept (a .loop .k) (λ v. omega arith), a .loop .inv .0 .same-list, s .pre .1 .0, s .pre .1 .1 (a .loop .k) w)
 
 loop-holds : tie.Need-loop-holds Inv-loop μ-loop
 loop-holds c = (placed-none _ _ _ _ _ _ _ refl refl refl, omega arith, omega arith)
@@ -35,8 +36,17 @@ mul-at c = search needs
 slice-read-at : tie.Need-slice-read-at Inv-loop μ-loop
 slice-read-at c = search needs
 
-sub-at : tie.Need-sub-at Inv-loop μ-loop
-sub-at c = omega (arith, now-near (c .before))
+wide-requires : tie.Need-wide-requires Inv-loop μ-loop
+wide-requires c κs = search needs
+
+mul-l : tie.Need-mul-l Inv-loop μ-loop
+mul-l c = omega (arith, now-near (c .before .before), c .wide .ensures)
+
+slice-write-l : tie.Need-slice-write-l Inv-loop μ-loop
+slice-write-l c = omega (arith, now-near (c .before .before), c .wide .ensures)
+
+add-o : tie.Need-add-o Inv-loop μ-loop
+add-o c = omega (arith, now-near (c .before .before))
 
 mul-o : tie.Need-mul-o Inv-loop μ-loop
 mul-o c = search needs
@@ -44,17 +54,8 @@ mul-o c = search needs
 slice-write-o : tie.Need-slice-write-o Inv-loop μ-loop
 slice-write-o c = search needs
 
-wide-requires : tie.Need-wide-requires Inv-loop μ-loop
-wide-requires c κs = search needs
-
-mul-l : tie.Need-mul-l Inv-loop μ-loop
-mul-l c = omega (arith, now-near (c .before .before), c .wide .ensures, c .before .before .before .loop .inv .0 .same-list, c .before .before .before .before .before .before .good)
-
-slice-write-l : tie.Need-slice-write-l Inv-loop μ-loop
-slice-write-l c = omega (arith, now-near (c .before .before), c .wide .ensures)
-
-add-c : tie.Need-add-c Inv-loop μ-loop
-add-c c = search needs
+add-k : tie.Need-add-k Inv-loop μ-loop
+add-k c = search needs
 
 loop-less : tie.Need-loop-less Inv-loop μ-loop
 loop-less c = search needs
@@ -62,16 +63,12 @@ loop-less c = search needs
 loop-again : tie.Need-loop-again Inv-loop μ-loop
 loop-again c =
     let a = c .before .before .before in
+    let t = a .loop .inv .0 in
     let n = now-near (c .before .before) in
-    let s = a .before .before .before in
-    let e : c .wide .result ≡ getD (a .loop .o) (a .loop .c) 0 - 1 = c .wide .ensures in
-    let p : RunPlaced (s .args .o .now) (s .args .l .now) (set (a .loop .o) (a .loop .c) (getD (a .loop .o) (a .loop .c) 0 - 1)) (set (a .loop .l) (getD (a .loop .o) (a .loop .c) 0 - 1) (s .args .id)) (s .args .id) (s .args .a) (a .loop .c + 1) =
-    placed-more _ _ _ _ _ _ _ (getD (a .loop .o) (a .loop .c) 0 - 1) (a .loop .inv .0) (a .loop .inv .1) (omega (arith, a .loop .inv .0 .same)) (omega arith) (omega arith)
-    in
-    (subst (λ (j : ℕ). RunPlaced (s .args .o .now) (s .args .l .now) (set (a .loop .o) (a .loop .c) (getD (a .loop .o) (a .loop .c) 0 - 1)) (set (a .loop .l) j (s .args .id)) (s .args .id) (s .args .a) (a .loop .c + 1)) (sym e) p, omega arith, omega arith)
+    (placed-more _ _ _ _ _ _ _ (c .wide .result) (c .wide .ensures) t (a .loop .inv .1) (omega (arith, t .cursors .same)) (omega (arith, c .wide .ensures)), omega arith, omega arith)
 
 same-length : tie.Need-same-length Inv-loop μ-loop
-same-length c = c .before .loop .inv .0 .same
+same-length c = c .before .loop .inv .0 .cursors .same
 
 same-length-2 : tie.Need-same-length-2 Inv-loop μ-loop
 same-length-2 c = c .before .loop .inv .0 .same-list
@@ -88,13 +85,13 @@ place-run-spec =
     loop-holds
     mul-at
     slice-read-at
-    sub-at
-    mul-o
-    slice-write-o
     wide-requires
     mul-l
     slice-write-l
-    add-c
+    add-o
+    mul-o
+    slice-write-o
+    add-k
     loop-less
     loop-again
     same-length
