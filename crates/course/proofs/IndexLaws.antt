@@ -1,20 +1,20 @@
 -- Laws of the index: of `listed`, `start`, `indexOf` and `table`. Assumes nothing.
-use Prim.Native.Nat.{ℕ, zero, suc, _+_, _*_, _-_, _≤_, _<_, zero-le, suc-le-suc}
+use Prim.Native.Nat.{ℕ, zero, suc, _+_, _*_, _-_, _≤_, _<_}
 use mathlib.Core.Path.{_≡_, refl, sym, ap, _∙_, subst}
 use mathlib.Core.Bool.{Bool, true, false, _&&_, false≢true}
 use mathlib.Core.List.{List, [], _∷_, _++_, append-assoc, append-nil}
 use mathlib.Core.Logic.{_⊎_, inl, inr, ⊎-elim}
 use native.Mathlib.Decide.{decLt}
-use native.Mathlib.Nat.{eq-or-lt-of-le, not-suc-le-zero, le-of-suc-le-suc, zero-add, add-zero, add-suc}
+use native.Mathlib.Nat.{eq-or-lt-of-le, not-suc-le-zero, le-of-suc-le-suc, add-zero, add-suc}
 use native.Mathlib.Numerals.{add-one}
 use native.Mathlib.Omega.{arith}
 use lib.ListN.{length, getD, take, drop, length-append, List·getD-append}
-use lib.Seq.{ext-getD, getD-at, getD-take, getD-drop, take-add, take-all, length-take-le, take-at, drop-at}
+use lib.Seq.{ext-getD, getD-at, getD-take, getD-drop, take-add, take-at, drop-at}
 use lib.ListN.{length-take, length-drop}
 use lib.Dec.{leb, ltb}
-use borrow.Author.Tests.{lt-ltb, le-ltb, le-leb, lt-leb, ltb-true, leb-true}
+use borrow.Author.Tests.{lt-ltb, le-ltb, le-leb, ltb-true, leb-true}
 use Rattle.course.specs.Lengths.{mostPoints}
-use Rattle.course.specs.Index.{addIf, listed, start, indexOf, table, offsetsOf, partOk, lookup, pickList}
+use Rattle.course.specs.Index.{addIf, listed, start, indexOf, table, offsetsOf, partOk, lookup}
 use Rattle.course.specs.IndexSteps.{one}
 
 -- two numbers, in order or not

@@ -5,8 +5,8 @@ use mathlib.Core.Path.{_≡_, refl, sym, ap, _∙_, subst}
 use native.Mathlib.Omega.{arith}
 use lib.ListN.{length, getD, set}
 use Rattle.course.specs.Rect.{holds, holdsOf, rectOf}
-use Rattle.course.specs.Lengths.{cellCount}
 use Rattle.course.specs.IndexSteps.{Small}
+use Rattle.course.specs.Lengths.{cellCount}
 use Rattle.course.specs.IndexSteps.{Placed, RectPlaced}
 use Rattle.course.proofs.CourseRects.{rect-small}
 use Rattle.course.proofs.TileSteps.{placed-near, placed-more}
