@@ -19,6 +19,7 @@ pub mod CellRuns
 pub mod RowSweeps
 pub mod TileSteps
 pub mod CourseRects
+pub mod PackedRects
 pub mod Listing
 pub mod Literals
 pub mod ColumnLaws

@@ -1,16 +1,16 @@
 -- What the steps of the index's builder do, one cell at a time; only private functions of `index` cite these. `o` and `l` are the offsets
 -- and the list before a step, `o′` and `l′` after it. Assumes nothing.
-use Prim.Native.Nat.{ℕ, zero, suc, _+_, _-_, _≤_, _<_}
-use mathlib.Core.Bool.{Bool, true, false}
+use Prim.Native.Nat.{ℕ, zero, suc, _+_, _-_, _/_, _%_, _≤_, _<_}
+use mathlib.Core.Bool.{Bool, true, false, not}
 use mathlib.Core.Path.{_≡_}
 use mathlib.Core.List.{List, _++_}
 use mathlib.Core.Logic.{_⊎_}
 use lib.ListN.{length, getD, drop}
-use lib.Dec.{ltb}
-use lib.Ieee.{Float}
-use Rattle.course.specs.Lengths.{cellCount, offsetCount}
+use lib.Dec.{T, ltb}
+use lib.Ieee.{Float, nan, isNan, binary64, toBits}
+use Rattle.course.specs.Lengths.{cellCount, mostPoints, offsetCount}
 use Rattle.course.specs.Index.{listed, start, pickList, offsetsOf, indexOf}
-use Rattle.course.specs.Rect.{holds, holdsOf, needed}
+use Rattle.course.specs.Rect.{rectOf, holds, holdsOf, needed}
 use Rattle.course.specs.declared.index.Rect.{Rect}
 
 -- 1 where a test holds, else 0
@@ -87,3 +87,41 @@ pub record Built (tiles : List Float) (n : ℕ) (o l o′ l′ : List ℕ) (shor
   pub too-short : short ≡ ltb (length l) (needed tiles n)
   pub offsets : o′ ≡ pickList (ltb (length l) (needed tiles n)) o (offsetsOf (holdsOf tiles) n cellCount ++ drop offsetCount o)
   pub entries : l′ ≡ pickList (ltb (length l) (needed tiles n)) l (indexOf (holdsOf tiles) n cellCount ++ drop (needed tiles n) l)
+
+-- ---- rectangles packed in a column of numbers, one in the bits of each
+
+-- the rectangle whose sides are the lowest four groups of eight bits
+unfoldable pub rectIn : Float → Rect
+rectIn v =
+    record {
+      x0 = toBits binary64 v % 256;
+      x1 = toBits binary64 v / 256 % 256;
+      y0 = toBits binary64 v / 65536 % 256;
+      y1 = toBits binary64 v / 16777216 % 256;
+    }
+
+-- whether the rectangle that entry i packs holds cell c
+abbrev pub heldIn : List Float → ℕ → ℕ → Bool
+heldIn rects i c = holds (rectIn (getD rects i nan)) c
+
+-- v packs the rectangle r; a NaN's bits cannot be read
+pub record Packs (v : Float) (r : Rect) : Type 0 where
+  pub number : T (not (isNan v))
+  pub same : rectIn v ≡ r
+
+-- entry i is there and can be read
+pub record Readable (rects : List Float) (i : ℕ) : Type 0 where
+  pub room : i < length rects
+  pub number : T (not (isNan (getD rects i nan)))
+
+-- the first n entries pack rectangles within the grid
+pub record RectsIn (rects : List Float) (n : ℕ) : Type 0 where
+  pub few : n ≤ mostPoints
+  pub each : (i : ℕ) → i < n → Readable rects i
+  pub small : (i : ℕ) → i < n → Small (rectIn (getD rects i nan))
+
+-- the rectangles of the tiles below i are packed, and the entries from n on are as before
+pub record RectsPacked (tiles : List Float) (n i : ℕ) (rects rects′ : List Float) : Type 0 where
+  pub same : length rects′ ≡ length rects
+  pub past : drop n rects′ ≡ drop n rects
+  pub each : (k : ℕ) → k < i → Packs (getD rects′ k nan) (rectOf tiles k)

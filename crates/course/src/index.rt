@@ -7,11 +7,12 @@ ghost use mathlib.Core.Bool.{true};
 ghost use mathlib.Core.List.{List, _++_};
 ghost use Prim.Native.Nat.{ℕ, _+_, _*_, _-_, _<_, _≤_, min};
 ghost use lib.ListN.{length, getD, take, drop, replicate};
+ghost use lib.Ieee.{nan};
 ghost use Rattle.course.specs.Lengths.{cellCount, mostPoints, offsetCount};
 ghost use Rattle.course.specs.Cell.{cellAt};
-ghost use Rattle.course.specs.Rect.{rectOf, holds, holdsOf, areaOf, needed};
+ghost use Rattle.course.specs.Rect.{rectOf, holds, areaOf, needed};
 ghost use Rattle.course.specs.Index.{listed, start, indexOf, offsetsOf, partOk, lookup};
-ghost use Rattle.course.specs.IndexSteps.{Small, Built, Inside, RunCounted, RectCounted, Counts, Summed, RunPlaced, RectPlaced, Placed};
+ghost use Rattle.course.specs.IndexSteps.{Small, Built, Inside, RunCounted, RectCounted, Counts, Summed, RunPlaced, RectPlaced, Placed, Packs, Readable, rectIn, heldIn, RectsPacked, RectsIn};
 use crate::cell::cell_at;
 use crate::cell::cell_of;
 use crate::constants::GRID_DIM;
@@ -66,15 +67,45 @@ fn area(r: Rect) -> usize
     (x1 + 1 - x0) * (y1 + 1 - y0)
 }
 
-// The rectangles' cells, summed.
-fn total(tiles: &[f64], n: usize) -> usize
+// A rectangle as one number, eight bits for each side.
+fn packed(r: Rect) -> f64
+    requires { ⌜ Small r ⌝ }
+    ensures { λ p. ⌜ Packs p r ⌝ }
+{
+    let x0 = r.x0;
+    let x1 = r.x1;
+    let y0 = r.y0;
+    let y1 = r.y1;
+    f64::from_bits((x0 + x1 * 256 + y0 * 65536 + y1 * 16777216) as u64)
+}
+
+// The rectangle that entry i packs.
+fn rect_at(rects: &[f64], i: usize) -> Rect
+    requires { ⌜ Readable (now rects) i ⌝ }
+    ensures { λ r. ⌜ r ≡ rectIn (getD (now (rects .entry)) i nan) ⌝ }
+{
+    let b = f64::to_bits(rects[i]) as usize;
+    Rect {
+        x0: b % 256,
+        x1: b / 256 % 256,
+        y0: b / 65536 % 256,
+        y1: b / 16777216 % 256,
+    }
+}
+
+// The rectangles, packed, and their cells summed.
+fn total(tiles: &[f64], n: usize, rects: &mut [f64]) -> usize
     requires { ⌜ (n ≤ mostPoints) × (n * 8 ≤ length (now tiles)) ⌝ }
+    requires { ⌜ n ≤ length (now rects) ⌝ }
     ensures { λ r. ⌜ r ≡ needed (now (tiles .entry)) n ⌝ }
+    ensures { λ r. ⌜ RectsPacked (now (tiles .entry)) n n (now (rects .entry)) (now (rects .exit)) ⌝ }
 {
     let mut sum: usize = 0;
     let mut i = 0;
     while i < n {
-        sum += area(rect_of(tiles, i));
+        let r = rect_of(tiles, i);
+        rects[i] = packed(r);
+        sum += area(r);
         i += 1;
     }
     sum
@@ -133,14 +164,14 @@ fn count_rect(o: &mut [u32], r: Rect)
 }
 
 // How many tiles each cell but the last lists.
-fn count_all(tiles: &[f64], n: usize, o: &mut [u32])
-    requires { ⌜ (n ≤ mostPoints) × (n * 8 ≤ length (now tiles)) ⌝ }
-    requires { ⌜ Counts (holdsOf (now tiles)) 0 (now o) ⌝ }
-    ensures { λ r. ⌜ Counts (holdsOf (now (tiles .entry))) n (now (o .exit)) ⌝ }
+fn count_all(rects: &[f64], n: usize, o: &mut [u32])
+    requires { ⌜ RectsIn (now rects) n ⌝ }
+    requires { ⌜ Counts (heldIn (now rects)) 0 (now o) ⌝ }
+    ensures { λ r. ⌜ Counts (heldIn (now (rects .entry))) n (now (o .exit)) ⌝ }
 {
     let mut i = 0;
     while i < n {
-        count_rect(o, rect_of(tiles, i));
+        count_rect(o, rect_at(rects, i));
         i += 1;
     }
 }
@@ -202,30 +233,30 @@ fn place_rect(o: &mut [u32], l: &mut [u32], id: u32, r: Rect)
 }
 
 // All ids, ascending: each cursor ends where the next cell's part starts.
-fn place_all(tiles: &[f64], n: usize, o: &mut [u32], l: &mut [u32])
-    requires { ⌜ (n ≤ mostPoints) × (n * 8 ≤ length (now tiles)) ⌝ }
-    requires { ⌜ Placed (holdsOf (now tiles)) n 0 (now o) (now l) ⌝ }
-    ensures { λ r. ⌜ Placed (holdsOf (now (tiles .entry))) n n (now (o .exit)) (now (l .exit)) ⌝ }
+fn place_all(rects: &[f64], n: usize, o: &mut [u32], l: &mut [u32])
+    requires { ⌜ RectsIn (now rects) n ⌝ }
+    requires { ⌜ Placed (heldIn (now rects)) n 0 (now o) (now l) ⌝ }
+    ensures { λ r. ⌜ Placed (heldIn (now (rects .entry))) n n (now (o .exit)) (now (l .exit)) ⌝ }
 {
     let mut i = 0;
     while i < n {
-        place_rect(o, l, i as u32, rect_of(tiles, i));
+        place_rect(o, l, i as u32, rect_at(rects, i));
         i += 1;
     }
 }
 
-// The index of the tiles below n, in columns of just the lengths that it has.
-fn lay_index(tiles: &[f64], n: usize, o: &mut [u32], l: &mut [u32])
-    requires { ⌜ (n ≤ mostPoints) × (n * 8 ≤ length (now tiles)) ⌝ }
+// The index of the rectangles below n, in columns of just the lengths that it has.
+fn lay_index(rects: &[f64], n: usize, o: &mut [u32], l: &mut [u32])
+    requires { ⌜ RectsIn (now rects) n ⌝ }
     requires { ⌜ length (now o) ≡ offsetCount ⌝ }
-    requires { ⌜ length (now l) ≡ needed (now tiles) n ⌝ }
-    ensures { λ r. ⌜ now (o .exit) ≡ offsetsOf (holdsOf (now (tiles .entry))) n cellCount ⌝ }
-    ensures { λ r. ⌜ now (l .exit) ≡ indexOf (holdsOf (now (tiles .entry))) n cellCount ⌝ }
+    requires { ⌜ length (now l) ≡ start (heldIn (now rects)) n cellCount ⌝ }
+    ensures { λ r. ⌜ now (o .exit) ≡ offsetsOf (heldIn (now (rects .entry))) n cellCount ⌝ }
+    ensures { λ r. ⌜ now (l .exit) ≡ indexOf (heldIn (now (rects .entry))) n cellCount ⌝ }
 {
     clear(o);
-    count_all(tiles, n, o);
+    count_all(rects, n, o);
     sum_up(o);
-    place_all(tiles, n, o, l);
+    place_all(rects, n, o, l);
 }
 
 // Whether the list is too short, and the length needed.
@@ -234,22 +265,25 @@ pub(crate) struct IndexRoom {
     pub need: usize,
 }
 
-// The index of the tiles below n, in the lent columns. Where the list is shorter than the cells summed (cause 3), nothing is written.
+// The index of the tiles below n, in the lent columns. Where the list is shorter than the cells summed (cause 3), offsets and list stay as they are.
+// `rects` is scratch: its first n entries change.
 pub(crate) fn build_index(
     tiles: &[f64],
     n: usize,
+    rects: &mut [f64],
     offsets: &mut [u32],
     list: &mut [u32],
 ) -> IndexRoom
     requires { ⌜ (n ≤ mostPoints) × (n * 8 ≤ length (now tiles)) ⌝ }
-    requires { ⌜ offsetCount ≤ length (now offsets) ⌝ }
+    requires { ⌜ (n ≤ length (now rects)) × (offsetCount ≤ length (now offsets)) ⌝ }
     ensures { λ r. ⌜ Built (now (tiles .entry)) n (now (offsets .entry)) (now (list .entry)) (now (offsets .exit)) (now (list .exit)) (r .short) (r .need) ⌝ }
+    ensures { λ r. ⌜ drop n (now (rects .exit)) ≡ drop n (now (rects .entry)) ⌝ }
 {
-    let need = total(tiles, n);
+    let need = total(tiles, n, rects);
     if list.len() < need {
         return IndexRoom { short: true, need };
     }
-    lay_index(tiles, n, &mut offsets[..OFFSET_COUNT], &mut list[..need]);
+    lay_index(rects, n, &mut offsets[..OFFSET_COUNT], &mut list[..need]);
     IndexRoom { short: false, need }
 }
 

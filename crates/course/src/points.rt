@@ -171,12 +171,12 @@ pub(crate) fn finish(
     let first = tiles::point_at(beta, x, y, 0);
     let m = n * 8;
     tiles::write_tiles(beta, x, y, n, tiles);
-    columns::clear_from(alpha, 0, MOST_POINTS);
     columns::clear_from(beta, n, MOST_POINTS);
     columns::clear_from(x, n, MOST_POINTS);
     columns::clear_from(y, n, MOST_POINTS);
     columns::clear_from(tiles, m, MOST_NUMBERS);
-    let built = index::build_index(&tiles[..m], n, offsets, list);
+    let built = index::build_index(&tiles[..m], n, alpha, offsets, list);
+    columns::clear_from(alpha, 0, MOST_POINTS);
     let need = built.need as u32;
     if built.short {
         return Laid::Short(need);

@@ -5,10 +5,8 @@ use mathlib.Core.List.{List}
 use native.Mathlib.Omega.{arith}
 use lib.ListN.{length, getD}
 use lib.ListN.{replicate, length-replicate, getD-replicate}
-use Rattle.course.specs.Rect.{holdsOf, needed}
 use Rattle.course.specs.Index.{offsetsOf, indexOf}
-use Rattle.course.specs.IndexSteps.{Counts, Placed, Summed}
-use Rattle.course.proofs.CourseRects.{needed-start}
+use Rattle.course.specs.IndexSteps.{Counts, Placed, Summed, heldIn}
 use Rattle.course.proofs.TileSteps.{counts-none, counts-small, placed-none, placed-offsets, placed-index}
 use borrow.Author.Needs.{needs}
 use Rattle.course.proofs.index.lay_index.Statement.{statement}
@@ -29,7 +27,7 @@ count-all-requires c κs =
     let e = c .before .before .before .clear .ensures in
     let o : List ℕ = s .args .o .now in (
       s .pre .0,
-      counts-none (holdsOf (s .args .tiles .now)) 0 (c .before .before .before .clear .last .0)
+      counts-none (heldIn (s .args .rects .now)) 0 (c .before .before .before .clear .last .0)
           (ap length e ∙ length-replicate (length o) 0 ∙ s .pre .1 .0)
           (λ d l. ap (λ (z : List ℕ). getD z d 0) e ∙ getD-replicate (length o) d 0 0 (omega (arith, s .pre .1 .0))),
     )
@@ -38,14 +36,14 @@ sum-up-requires : tie.Need-sum-up-requires
 sum-up-requires c κs =
     let s = c .before .before .before .before .before .before .before .before .before .before .before .before in
     let t = c .before .before .before .count-all .ensures in
-    (t .size, λ k l. omega (arith, counts-small (holdsOf (s .args .tiles .now)) (s .args .n) _ t k l, s .pre .0))
+    (t .size, λ k l. omega (arith, counts-small (heldIn (s .args .rects .now)) (s .args .n) _ t k l, s .pre .0))
 
 place-all-requires : tie.Need-place-all-requires
 place-all-requires c κs =
     let s = c .before .before .before .before .before .before .before .before .before .before .before .before .before .before .before .before .before in (
       s .pre .0,
-      placed-none (holdsOf (s .args .tiles .now)) (s .args .n) _ _ _ (c .before .before .before .before .before .before .before .before .count-all .ensures) (c .before .before .before .before .sum-up .ensures)
-          (s .pre .1 .1 ∙ needed-start (s .args .tiles .now) (s .args .n)),
+      placed-none (heldIn (s .args .rects .now)) (s .args .n) _ _ _ (c .before .before .before .before .before .before .before .before .count-all .ensures) (c .before .before .before .before .sum-up .ensures)
+          (s .pre .1 .1),
     )
 
 same-length : tie.Need-same-length
@@ -58,7 +56,7 @@ returns : tie.Need-returns
 returns c =
     let s = c .before .before .before .before .before .before .before .before .before .before .before .before .before .before .before .before .before .before .before .before .before .before in
     let t = c .before .before .before .before .place-all .ensures in
-    (placed-offsets (holdsOf (s .args .tiles .now)) (s .args .n) _ _ t, placed-index (holdsOf (s .args .tiles .now)) (s .args .n) _ _ t)
+    (placed-offsets (heldIn (s .args .rects .now)) (s .args .n) _ _ t, placed-index (heldIn (s .args .rects .now)) (s .args .n) _ _ t)
 
 pub lay-index-spec : {M : Type 1} → statement M
 lay-index-spec =
