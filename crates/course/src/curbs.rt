@@ -7,6 +7,7 @@ ghost use Prim.Native.Nat.{_+_, _*_, _-_, _<_, _≤_};
 ghost use lib.ListN.{length, take, drop, set};
 ghost use Rattle.course.specs.Lengths.{mostPoints, mostNumbers};
 ghost use Rattle.course.specs.Tiles.{pointAt, beforeOf};
+ghost use Rattle.course.specs.Trig.{sinCosOf};
 ghost use Rattle.course.specs.Curbs.{turnAt, steepTurn, oneWay, markAt, afterOf, bordered, sideOf, edgeOf, curbQuad, whiteOf, edged, curbRoom, curbsCall};
 ghost use Rattle.course.specs.CourseSteps.{Curbed, CurbsTo};
 use crate::columns;
@@ -20,6 +21,7 @@ use crate::points;
 use crate::tiles;
 use crate::tiles::TrackPoint;
 use crate::trig;
+use crate::trig::SinCos;
 
 const OUTER: f64 = TRACK_WIDTH + BORDER;
 
@@ -109,11 +111,11 @@ fn side_of(p: TrackPoint, q: TrackPoint) -> f64
     -1.0
 }
 
-// The corner at distance w from p, on side s.
-fn edge_of(p: TrackPoint, s: f64, w: f64) -> [f64; 2]
+// The corner at distance w from p, on side s; t is the cosine and sine at p.
+fn edge_of(p: TrackPoint, t: SinCos, s: f64, w: f64) -> [f64; 2]
+    requires { ⌜ t ≡ sinCosOf (p .beta) ⌝ }
     ensures { λ r. ⌜ r ≡ edgeOf p s w ⌝ }
 {
-    let t = trig::sin_cos(p.beta);
     [p.x + s * w * t.cos, p.y + s * w * t.sin]
 }
 
@@ -122,10 +124,12 @@ fn curb_quad(p: TrackPoint, q: TrackPoint) -> [[f64; 2]; 4]
     ensures { λ r. ⌜ r ≡ curbQuad p q ⌝ }
 {
     let s = side_of(p, q);
-    let a = edge_of(p, s, TRACK_WIDTH);
-    let b = edge_of(p, s, OUTER);
-    let c = edge_of(q, s, OUTER);
-    let d = edge_of(q, s, TRACK_WIDTH);
+    let t = trig::sin_cos(p.beta);
+    let u = trig::sin_cos(q.beta);
+    let a = edge_of(p, t, s, TRACK_WIDTH);
+    let b = edge_of(p, t, s, OUTER);
+    let c = edge_of(q, u, s, OUTER);
+    let d = edge_of(q, u, s, TRACK_WIDTH);
     [a, b, c, d]
 }
 
