@@ -11,9 +11,10 @@ use lib.Ieee.{Float, nan}
 use native.Mathlib.Decide.{decLt}
 use Rattle.course.specs.Arithmetic.{nought}
 use Rattle.course.specs.Tiles.{betas, xs, ys, pointAt, pointsOf, tileQuad, eight, beforeOf, noPoint, tileAt, tilesTo}
-use Rattle.course.specs.CourseSteps.{puts}
+use Rattle.course.specs.CourseSteps.{puts, edgesAt, quadBetween}
 use Rattle.course.specs.Points.{goodPoint, allGood}
 use Rattle.course.specs.declared.tiles.TrackPoint.{TrackPoint}
+use Rattle.course.specs.declared.tiles.Edges.{Edges}
 use Rattle.course.proofs.ColumnLaws.{Grown, grown-none, puts-grown}
 
 module _ (b e n : List Float) where
@@ -131,13 +132,24 @@ unfolding beforeOf
 before-later n zero z = absurd (z refl)
 before-later n (suc i) z = sub-one (suc i)
 
-pub below-before : (n i j : ℕ) → i < n → j ≡ beforeOf n i → j < n
-below-before n i j h e = omega (arith, before-small n i h, e)
+-- the quad of the edges of two points
+between : (p q : TrackPoint) → quadBetween (edgesAt p) (edgesAt q) ≡ tileQuad p q
+unfolding quadBetween edgesAt tileQuad
+between p q = refl
 
 -- the tile that the code works out
-pub tile-given : (b e n : List Float) (k i j : ℕ) (p q : TrackPoint) → i < k → p ≡ pointAt b e n i → q ≡ pointAt b e n j → j ≡ beforeOf k i
-    → tileQuad p q ≡ tileAt (pointsOf b e n k) i
-tile-given b e n k i j p q h ep eq ej = ap₂ tileQuad ep (eq ∙ ap (pointAt b e n) ej) ∙ sym (tile-read b e n k i h)
+pub tile-given : (b e n : List Float) (k i : ℕ) (q : List (List Float)) (f g : Edges) → i < k → q ≡ quadBetween f g → f ≡ edgesAt (pointAt b e n i) → g ≡ edgesAt (pointAt b e n (beforeOf k i))
+    → q ≡ tileAt (pointsOf b e n k) i
+tile-given b e n k i q f g h eq ef eg = eq ∙ ap₂ quadBetween ef eg ∙ between _ _ ∙ sym (tile-read b e n k i h)
+
+-- the edges that stand for the next tile
+pub edges-kept : (b e n : List Float) (k i : ℕ) (f : Edges) (p : TrackPoint) → f ≡ edgesAt p → p ≡ pointAt b e n i → f ≡ edgesAt (pointAt b e n (beforeOf k (i + 1)))
+unfolding beforeOf
+edges-kept b e n k i f p ef ep = rw add-one (ef ∙ ap edgesAt ep)
+
+pub edges-first : (b e n : List Float) (k : ℕ) (f : Edges) (p : TrackPoint) → f ≡ edgesAt p → p ≡ pointAt b e n (k - 1) → f ≡ edgesAt (pointAt b e n (beforeOf k 0))
+unfolding beforeOf
+edges-first b e n k f p ef ep = ef ∙ ap edgesAt ep
 
 -- ---- what lay needs: columns that begin with the points of a list have these points
 beta-read : (ps : List TrackPoint) (p : List Float) (i : ℕ) → i < length ps → getD (betas ps ++ p) i nan ≡ getD ps i noPoint .beta

@@ -6,13 +6,30 @@ use mathlib.Core.List.{List, [], _∷_, _++_}
 use lib.ListN.{length, drop, set}
 use lib.Ieee.{Float}
 use Rattle.course.specs.Lengths.{mostPoints, mostNumbers, offsetCount}
-use Rattle.course.specs.Tiles.{eight}
+use Rattle.course.specs.Arithmetic.{_⊕_, _⊖_, _⊗_}
+use Rattle.course.specs.Constants.{trackWidth}
+use Rattle.course.specs.Trig.{sineOf, cosineOf}
+use Rattle.course.specs.Tiles.{pair, eight}
 use Rattle.course.specs.Curbs.{quadsTo, whitesTo}
+use Rattle.course.specs.declared.tiles.TrackPoint.{TrackPoint}
+use Rattle.course.specs.declared.tiles.Edges.{Edges}
 
 -- the numbers vs stand from number i on
 unfoldable pub puts : List Float → ℕ → List Float → List Float
 puts [] i l = l
 puts (v ∷ vs) i l = puts vs (i + 1) (set l i v)
+
+-- the edges of the track at a point
+unfoldable pub edgesAt : TrackPoint → Edges
+edgesAt p =
+    record {
+      left = pair (p .x ⊖ trackWidth ⊗ cosineOf (p .beta)) (p .y ⊖ trackWidth ⊗ sineOf (p .beta));
+      right = pair (p .x ⊕ trackWidth ⊗ cosineOf (p .beta)) (p .y ⊕ trackWidth ⊗ sineOf (p .beta));
+    }
+
+-- the quad of the edges of two points
+unfoldable pub quadBetween : Edges → Edges → List (List Float)
+quadBetween e f = e .left ∷ e .right ∷ f .right ∷ f .left ∷ []
 
 -- the lent columns have their lengths, as facts
 pub record Roomy (a b u v t : List Float) (o : List ℕ) : Type 0 where

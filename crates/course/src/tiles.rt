@@ -4,8 +4,8 @@ ghost use mathlib.Core.List.{_++_};
 ghost use Prim.Native.Nat.{_+_, _*_, _-_, _<_, _≤_};
 ghost use lib.ListN.{length, getD, take, drop, set};
 ghost use lib.Ieee.{nan};
-ghost use Rattle.course.specs.Tiles.{pointAt, pointsOf, tileQuad, beforeOf, eight, tilesTo};
-ghost use Rattle.course.specs.CourseSteps.{puts};
+ghost use Rattle.course.specs.Tiles.{pointAt, pointsOf, beforeOf, eight, tilesTo};
+ghost use Rattle.course.specs.CourseSteps.{puts, edgesAt, quadBetween};
 use crate::constants::TRACK_WIDTH;
 use crate::trig;
 
@@ -14,6 +14,12 @@ pub struct TrackPoint {
     pub beta: f64,
     pub x: f64,
     pub y: f64,
+}
+
+// The two edges of the track at a point.
+struct Edges {
+    left: [f64; 2],
+    right: [f64; 2],
 }
 
 // Point i of the columns.
@@ -28,16 +34,24 @@ pub(crate) fn point_at(beta: &[f64], x: &[f64], y: &[f64], i: usize) -> TrackPoi
     }
 }
 
-// The quad from the edges of p1 to those of p2.
-fn tile_quad(p1: TrackPoint, p2: TrackPoint) -> [[f64; 2]; 4]
-    ensures { λ r. ⌜ r ≡ tileQuad p1 p2 ⌝ }
+// The edges of the track at p.
+fn edges_at(p: TrackPoint) -> Edges
+    ensures { λ r. ⌜ r ≡ edgesAt p ⌝ }
 {
-    let t1 = trig::sin_cos(p1.beta);
-    let t2 = trig::sin_cos(p2.beta);
-    let a = [p1.x - TRACK_WIDTH * t1.cos, p1.y - TRACK_WIDTH * t1.sin];
-    let b = [p1.x + TRACK_WIDTH * t1.cos, p1.y + TRACK_WIDTH * t1.sin];
-    let c = [p2.x + TRACK_WIDTH * t2.cos, p2.y + TRACK_WIDTH * t2.sin];
-    let d = [p2.x - TRACK_WIDTH * t2.cos, p2.y - TRACK_WIDTH * t2.sin];
+    let t = trig::sin_cos(p.beta);
+    let left = [p.x - TRACK_WIDTH * t.cos, p.y - TRACK_WIDTH * t.sin];
+    let right = [p.x + TRACK_WIDTH * t.cos, p.y + TRACK_WIDTH * t.sin];
+    Edges { left, right }
+}
+
+// The tile from the edges e of a point back to the edges f of the point before.
+fn tile_quad(e: Edges, f: Edges) -> [[f64; 2]; 4]
+    ensures { λ r. ⌜ r ≡ quadBetween e f ⌝ }
+{
+    let a = e.left;
+    let b = e.right;
+    let c = f.right;
+    let d = f.left;
     [a, b, c, d]
 }
 
@@ -85,17 +99,21 @@ pub(crate) fn put_quad(tiles: &mut [f64], at: usize, q: [[f64; 2]; 4])
     put_corner(tiles, d, q[3]);
 }
 
-// The tiles of the n points that the columns begin with.
+// The tiles of the n points that the columns begin with. A point's edges are worked out once, and kept for the tile after.
 pub(crate) fn write_tiles(beta: &[f64], x: &[f64], y: &[f64], n: usize, tiles: &mut [f64])
     requires { ⌜ (n ≤ length (now beta)) × (n ≤ length (now x)) × (n ≤ length (now y)) ⌝ }
     requires { ⌜ n * 8 ≤ length (now tiles) ⌝ }
     ensures { λ r. ⌜ now (tiles .exit) ≡ tilesTo (pointsOf (now (beta .entry)) (now (x .entry)) (now (y .entry)) n) n ++ drop (n * 8) (now (tiles .entry)) ⌝ }
 {
+    if n == 0 {
+        return;
+    }
+    let mut last = edges_at(point_at(beta, x, y, n - 1));
     let mut i: usize = 0;
     while i < n {
-        let j = before(i, n);
-        let q = tile_quad(point_at(beta, x, y, i), point_at(beta, x, y, j));
-        put_quad(tiles, i * 8, q);
+        let e = edges_at(point_at(beta, x, y, i));
+        put_quad(tiles, i * 8, tile_quad(e, last));
+        last = e;
         i += 1;
     }
 }
