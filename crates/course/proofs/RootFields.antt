@@ -1,17 +1,15 @@
 -- `sqrtOf` by the fields of an f64's bits. Assumes nothing.
 use mathlib.Core.Path.{_≡_, refl, sym, ap, _∙_, subst}
-use mathlib.Core.Logic.{_⊎_, inl, inr}
 use Prim.Native.Nat.{ℕ, zero, suc, _+_, _-_, _*_, _/_, _%_, _^_, _≤_, _<_}
-use native.Mathlib.Nat.{lt-irrefl, zero-mul, mul-pos, mul-assoc, mul-div-cancel, mul-one, mod-eq-of-lt, not-le-of-lt, mod-mod-of-dvd, dvd-mul-right}
+use native.Mathlib.Nat.{lt-irrefl, zero-mul, mul-pos, mul-assoc, mul-div-cancel, mul-one, mod-eq-of-lt, not-le-of-lt}
 use native.Mathlib.Omega.{arith}
-use mathlib.Core.Bool.{Bool, true, false, not, cond, _||_, true≢false, false≢true}
-use lib.Dec.{T, leb, ltb, eqb, le→leb, leb→le, not-T, eqb→eq, ltb→lt, nltb→le, nleb→lt}
+use mathlib.Core.Bool.{Bool, true, false, not, cond, true≢false, false≢true}
+use lib.Dec.{T, leb, ltb, eqb, le→leb, leb→le, not-T, eqb→eq, ltb→lt, nltb→le}
 use lib.Pow.{pow-add, pow-pos}
 use lib.Ieee.{Float, nan, inf, fin, binary64, up, down, odd, ofFields, ofBits, nanBits, toBits, fits, isNan, ne, div}
 use lib.Ieee.Fits.{down-pos}
 use lib.Ieee.Bits.{ofBits-toBits, nanBits-above, is-true, is-false, cond-no}
 use lib.Ieee.Compare.{nan-differs}
-use mir.Facts.{or-no}
 use lib.Ieee.Exact.{HasValue, odd-sign}
 use Rattle.course.specs.Root.{nearestRoot, sqrtOf}
 use Rattle.course.specs.RootSteps.{unitsOf, Split}
@@ -111,11 +109,6 @@ normal-at f t p X H = subst (λ (k : ℕ). Split (unitsOf k t) (4503599627370496
   where
     pred : (k : ℕ) → 0 < k → suc (k - 1) ≡ k
     pred k h = omega arith
-
-pub is-normal : (b : ℕ) → (ltb b 4503599627370496 || leb 9218868437227405312 b) ≡ false → (4503599627370496 ≤ b) × (b < 9218868437227405312)
-is-normal b h =
-    let p = or-no (ltb b 4503599627370496) (leb 9218868437227405312 b) (subst (λ (x : Bool). T (not x)) (sym h) tt) in
-    (nltb→le b 4503599627370496 (p .0), nleb→lt 9218868437227405312 b (p .1))
 
 -- ---- the fields of a value's own bits
 ofBits-is : (b : ℕ) → ofBits binary64 b ≡ ofFields binary64 (leb 9223372036854775808 b) (b % 9223372036854775808 / 4503599627370496) (b % 4503599627370496)

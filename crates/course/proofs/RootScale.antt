@@ -1,21 +1,22 @@
 -- `nearestRoot` at a number that is written as X * 4 ^ K, with X of 105 or 106 binary digits: its root's 53 leading digits are those of X's root, K digits follow, and the bits are K * 2 ^ 52 and the rounded digits. Assumes nothing.
 use mathlib.Core.Path.{_≡_, refl, sym, ap, _∙_, subst}
-use mathlib.Core.Logic.{_⊎_, inl, inr}
-use Prim.Native.Nat.{ℕ, zero, suc, _+_, _-_, _*_, _/_, _%_, _^_, _≤_, _<_, compare, Ordering, Ordering·lt, Ordering·eq, Ordering·gt}
-use native.Mathlib.Nat.{le-trans, le-of-eq, le-antisymm, lt-of-lt-of-le, lt-of-le-of-lt, lt-irrefl, lt-of-not-le, le-of-suc-le-suc, eq-or-lt-of-le, mul-comm, mul-assoc, mul-mul-mul-comm, mul-pos, mul-le-mul-right, mul-lt-mul-of-pos-right, mul-le-mul-left, mul-one, mod-eq-of-lt, le-div-iff-mul-le, div-lt-iff-lt-mul, mul-div-cancel, zero-add}
+use mathlib.Core.Logic.{inl, inr}
+use Prim.Native.Nat.{ℕ, suc, _+_, _-_, _*_, _/_, _%_, _^_, _≤_, _<_, compare, Ordering, Ordering·lt, Ordering·eq, Ordering·gt}
+use native.Mathlib.Nat.{le-trans, le-of-eq, le-antisymm, lt-of-lt-of-le, lt-of-le-of-lt, lt-irrefl, lt-of-not-le, eq-or-lt-of-le, mul-comm, mul-assoc, mul-mul-mul-comm, mul-pos, mul-le-mul-right, mul-lt-mul-of-pos-right, mul-le-mul-left, mul-one, mod-eq-of-lt, le-div-iff-mul-le, div-lt-iff-lt-mul, mul-div-cancel, zero-add}
 use native.Mathlib.Omega.{arith}
 use mathlib.Core.Bool.{Bool, true, false, cond}
 use lib.Dec.{T, ltb, lt→ltb, lit<, lit≤}
 use lib.IntN.{ℤ}
-use lib.Pow.{pow-add, pow-pos, pow-mono, pow-lt, shl-lt}
-use lib.Ieee.{Float, nan, inf, fin, binary64, up, down, size, nearest, odd, units, ofBits, toBits, fits, hid, top, prec, low}
+use lib.Pow.{pow-add, pow-pos, pow-mono, shl-lt}
+use lib.Ieee.{Float, nan, inf, fin, binary64, up, down, size, nearest, odd, units, ofBits, toBits, fits}
 use lib.Ieee.Digits.{size-lt, size-le}
 use lib.Ieee.Fits.{odd-fits, down-pos, nearest-le}
 use lib.Ieee.Nearest.{nearest-ge}
 use lib.Ieee.Bits.{ofBits-toBits}
 use lib.Ieee.Exact.{HasValue, units-val}
 use Rattle.course.specs.Root.{wholeRoot, nearWhole, nearestRoot}
-use Rattle.course.proofs.WholeRoot.{IsRoot, root-law, root-below, root-from, Cmp, cmp, compare-is}
+use Rattle.course.specs.RootSteps.{Leaves}
+use Rattle.course.proofs.WholeRoot.{root-law, root-below, root-from, leaves-root, near-half, Cmp, cmp, compare-is}
 
 -- ---- how many digits
 pow-lt-back : (i p : ℕ) → 2 ^ i < 2 ^ p → i < p
@@ -226,17 +227,6 @@ bits-at m h r lo hi least most q =
     let o = h % 2 in
     bits m (o + 52) ((h - 52) / 2) h (m * 2 ^ o * 4503599627370496) r (parity m o) (omega arith) (above m o lo) (below m o hi (omega arith)) (omega arith) q
 
--- the same of the bits, taken apart
-pub bits-apart : (m h r : ℕ) → 4503599627370496 ≤ m → m < 9007199254740992 → 1022 ≤ h → h ≤ 3119
-    → 4503599627370496 + r % 4503599627370496 ≡ nearWhole (m * 2 ^ (h % 2) * 4503599627370496) → r / 4503599627370496 ≡ (h - 50) / 2
-    → (ofBits binary64 r ≡ nearestRoot (m * 2 ^ h)) × (r < 9218868437227405312)
-bits-apart m h r lo hi least most q f =
-    subst (λ (x : ℕ). (ofBits binary64 x ≡ nearestRoot (m * 2 ^ h)) × (x < 9218868437227405312)) (again h r least f)
-    (bits-at m h (4503599627370496 + r % 4503599627370496) lo hi least most q)
-  where
-    again : (k x : ℕ) → 1022 ≤ k → x / 4503599627370496 ≡ (k - 50) / 2 → (k - 52) / 2 * 4503599627370496 + (4503599627370496 + x % 4503599627370496) ≡ x
-    again k x g e = omega arith
-
 -- ---- the significand, shifted by a parity
 small : (m o : ℕ) → m < 9007199254740992 → o < 2 → m * 2 ^ o < 18014398509481984
 small m o h k = omega (arith, mul-le-mul-left m (pow-mono (up o k)))
@@ -251,5 +241,17 @@ kept m o h k = mod-eq-of-lt (omega (arith, small m o h k))
 pub shifted : (m o : ℕ) → m < 9007199254740992 → o < 2 → m * 2 ^ o % 18446744073709551616 < 18014398509481984
 shifted m o h k = subst (λ (x : ℕ). x < 18014398509481984) (sym (kept m o h k)) (small m o h k)
 
-pub near-kept : (m o r : ℕ) → m < 9007199254740992 → o < 2 → r ≡ nearWhole (m * 2 ^ o % 18446744073709551616 * 4503599627370496) → r ≡ nearWhole (m * 2 ^ o * 4503599627370496)
-near-kept m o r h k e = e ∙ ap (λ (x : ℕ). nearWhole (x * 4503599627370496)) (kept m o h k)
+-- ---- the whole root of the shifted significand, with a digit to spare
+abbrev spare : ℕ → ℕ → ℕ
+spare m o = m * 2 ^ o % 18446744073709551616 * 18014398509481984
+
+-- it has 54 digits
+pub root-small : (m o w l : ℕ) → m < 9007199254740992 → o < 2 → Leaves (spare m o) w l → w < 18014398509481984
+root-small m o w l h k r = root-below (spare m o) w 18014398509481984 (leaves-root (spare m o) w l r .not-above) (omega (arith, shifted m o h k))
+
+-- its last digit rounds the others
+pub rounded : (m o w l e : ℕ) → 4503599627370496 ≤ m → m < 9007199254740992 → o < 2 → Leaves (spare m o) w l → w ≤ 2 * e → 2 * e ≤ w + 1 → e ≡ nearWhole (m * 2 ^ o * 4503599627370496)
+rounded m o w l e lo h k r u v =
+    let n = m * 2 ^ o * 4503599627370496 in
+    let s : Leaves (4 * n) w l = subst (λ (x : ℕ). Leaves x w l) (omega (arith, kept m o h k)) r in
+    near-half n w l e s (root-from (4 * n) w 1 (leaves-root (4 * n) w l s .next-above) (omega (arith, above m o lo))) u v

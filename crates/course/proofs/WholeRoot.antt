@@ -1,8 +1,7 @@
 -- The law of `wholeRoot`: it is the one whole number w with w * w ≤ n < (w + 1) * (w + 1). Assumes nothing.
 use mathlib.Core.Path.{_≡_, refl, sym, ap, _∙_, subst}
-use mathlib.Core.Logic.{_⊎_, inl, inr}
 use Prim.Native.Nat.{ℕ, zero, suc, _+_, _-_, _*_, _/_, _%_, _^_, _≤_, _<_, compare, Ordering, Ordering·lt, Ordering·eq, Ordering·gt}
-use native.Mathlib.Nat.{le-trans, le-of-eq, le-antisymm, lt-of-lt-of-le, lt-of-le-of-lt, lt-irrefl, le-of-suc-le-suc, lt-of-not-le, mul-add, add-mul, mul-one, one-mul, mul-assoc, mul-left-comm, mul-comm, mul-right-comm, mul-mul-mul-comm, mul-le-mul, pow-succ', pow-suc}
+use native.Mathlib.Nat.{le-trans, le-of-eq, le-antisymm, lt-of-lt-of-le, lt-irrefl, le-of-suc-le-suc, lt-of-not-le, mul-add, add-mul, mul-one, one-mul, mul-assoc, mul-left-comm, mul-comm, mul-right-comm, mul-mul-mul-comm, mul-le-mul, pow-succ'}
 use native.Mathlib.Omega.{arith}
 use mathlib.Core.Bool.{Bool, true, false, not, cond}
 use lib.Dec.{T, leb, leb→le, nleb→lt, isLe, isEq, eqb, eqb→eq, eqb-refl}
@@ -153,17 +152,17 @@ near-at n w o r h =
     ap (λ (x : ℕ). nearest x (compare (4 * n) ((2 * x + 1) * (2 * x + 1)))) (root-is n w r)
     ∙ ap (λ (p : Ordering). nearest w p) (compare-is (compare (4 * n) ((2 * w + 1) * (2 * w + 1))) o (4 * n) ((2 * w + 1) * (2 * w + 1)) (cmp (4 * n) ((2 * w + 1) * (2 * w + 1))) h)
 
-pub near-up : (n w l : ℕ) → Leaves n w l → w < l → w + 1 ≡ nearWhole n
+near-up : (n w l : ℕ) → Leaves n w l → w < l → w + 1 ≡ nearWhole n
 near-up n w l h k = one w ∙ sym (near-at n w Ordering·gt (leaves-root n w l h) (omega (arith, square-digit w, h .sum)))
   where
     one : (x : ℕ) → x + 1 ≡ suc x
     one x = omega arith
 
-pub near-down : (n w l : ℕ) → Leaves n w l → l ≤ w → w ≡ nearWhole n
+near-down : (n w l : ℕ) → Leaves n w l → l ≤ w → w ≡ nearWhole n
 near-down n w l h k = sym (near-at n w Ordering·lt (leaves-root n w l h) (omega (arith, square-digit w, h .sum)))
 
 -- ---- the nearest whole number, by how far its square is from n
-pub near-by : (n e : ℕ) → 0 < e → n ≤ e * e + e → e * e < n + e → e ≡ nearWhole n
+near-by : (n e : ℕ) → 0 < e → n ≤ e * e + e → e * e < n + e → e ≡ nearWhole n
 near-by n e z h k = go (leb (e * e) n) (leb→le (e * e) n) (nleb→lt (e * e) n)
   where
     back : (x : ℕ) → 0 < x → x - 1 + 1 ≡ x
@@ -176,24 +175,43 @@ near-by n e z h k = go (leb (e * e) n) (leb→le (e * e) n) (nleb→lt (e * e) n
         let s : e * e ≡ (e - 1) * (e - 1) + 2 * (e - 1) + 1 = ap (λ (x : ℕ). x * x) (sym (back e z)) ∙ square-next (e - 1) in
         sym (back e z) ∙ near-up n (e - 1) (n - (e - 1) * (e - 1)) (record { sum = omega (arith, s); less = omega (arith, s) }) (omega (arith, s))
 
+-- ---- the whole root of 4 m has one digit more than that of m: it rounds to the nearest
+half-even : (m w e l : ℕ) → w ≡ 2 * e → Leaves (4 * m) w l → 0 < e → e ≡ nearWhole m
+half-even m w e l q h z =
+    let s : w * w ≡ 4 * (e * e) = ap (λ (x : ℕ). x * x) q ∙ square-twice e in
+    near-by m e z (omega (arith, s, h .sum, h .less)) (omega (arith, s, h .sum, h .less))
+
+half-odd : (m w e l : ℕ) → w + 1 ≡ 2 * e → Leaves (4 * m) w l → 0 < e → e ≡ nearWhole m
+half-odd m w e l q h z =
+    let s : (w + 1) * (w + 1) ≡ 4 * (e * e) = ap (λ (x : ℕ). x * x) q ∙ square-twice e in
+    near-by m e z (omega (arith, s, square-next w, h .sum, h .less)) (omega (arith, s, square-next w, h .sum, h .less))
+
+-- e is half of w, rounded up
+pub near-half : (m w l e : ℕ) → Leaves (4 * m) w l → 0 < w → w ≤ 2 * e → 2 * e ≤ w + 1 → e ≡ nearWhole m
+near-half m w l e h z u v = go (leb (2 * e) w) (leb→le (2 * e) w) (nleb→lt (2 * e) w)
+  where
+    go : (b : Bool) → (T b → 2 * e ≤ w) → (T (not b) → w < 2 * e) → e ≡ nearWhole m
+    go true p q = let f : 2 * e ≤ w = p tt in half-even m w e l (omega arith) h (omega arith)
+    go false p q = let f : w < 2 * e = q tt in half-odd m w e l (omega arith) h (omega arith)
+
 -- ---- a square by the halves of its root
-square-halves : (a b : ℕ) → (a * 67108864 + b) * (a * 67108864 + b) ≡ a * a * 4503599627370496 + a * b * 134217728 + b * b
+square-halves : (a b : ℕ) → (a * 134217728 + b) * (a * 134217728 + b) ≡ a * a * 18014398509481984 + a * b * 268435456 + b * b
 square-halves a b =
     omega (
       arith,
-      add-mul (a * 67108864) b (a * 67108864 + b),
-      mul-add (a * 67108864) (a * 67108864) b,
-      mul-add b (a * 67108864) b,
-      mul-mul-mul-comm a 67108864 a 67108864,
-      mul-right-comm a 67108864 b,
-      mul-comm b (a * 67108864),
+      add-mul (a * 134217728) b (a * 134217728 + b),
+      mul-add (a * 134217728) (a * 134217728) b,
+      mul-add b (a * 134217728) b,
+      mul-mul-mul-comm a 134217728 a 134217728,
+      mul-right-comm a 134217728 b,
+      mul-comm b (a * 134217728),
     )
 
--- e's halves are a and b, and n less a's square is c
-pub near-halves : (n e a b : ℕ) → e ≡ a * 67108864 + b → 0 < e → a * a ≤ n → a * b * 2 ≤ (n - a * a) * 67108864 + 1073741824
-    → ((n - a * a) * 67108864 + 1073741824 - a * b * 2) * 67108864 ≤ b * b + 72057594037927936 + e
-    → b * b + 72057594037927936 < ((n - a * a) * 67108864 + 1073741824 - a * b * 2) * 67108864 + e
-    → e ≡ nearWhole (n * 4503599627370496)
-near-halves n e a b h z u v p q =
-    let s : e * e ≡ a * a * 4503599627370496 + a * b * 134217728 + b * b = ap (λ (x : ℕ). x * x) h ∙ square-halves a b in
-    near-by (n * 4503599627370496) e z (omega (arith, s)) (omega (arith, s))
+-- w's halves are a and b
+pub leaves-halves : (n w a b : ℕ) → w ≡ a * 134217728 + b → a * a ≤ n → a * b ≤ (n - a * a) * 67108864
+    → b * b ≤ ((n - a * a) * 67108864 - a * b) * 268435456
+    → ((n - a * a) * 67108864 - a * b) * 268435456 - b * b ≤ w * 2
+    → Leaves (n * 18014398509481984) w (((n - a * a) * 67108864 - a * b) * 268435456 - b * b)
+leaves-halves n w a b h u v p q =
+    let s : w * w ≡ a * a * 18014398509481984 + a * b * 268435456 + b * b = ap (λ (x : ℕ). x * x) h ∙ square-halves a b in
+    record { sum = omega (arith, s); less = omega arith }

@@ -1,9 +1,9 @@
-// The square root of every f64, correctly rounded (document 01, "Stand-ins"): a guess in f64, taken only where a test over
-// whole numbers proves it right, and else an integer root of the bits, digit by digit.
+// The square root of every f64, correctly rounded (document 01, "Stand-ins"), in whole numbers alone: from the bits to a whole
+// significand and a power of two, from those to the significand's whole root with a digit to spare, and that digit rounds it.
 ghost use mathlib.Core.Path.{_≡_};
 ghost use mathlib.Core.Bool.{true};
 ghost use Prim.Native.Nat.{_+_, _*_, _^_, _<_, _≤_};
-ghost use Rattle.course.specs.Root.{nearWhole, nearestRoot, sqrtOf};
+ghost use Rattle.course.specs.Root.{nearestRoot, sqrtOf};
 ghost use lib.Ieee.{binary64, ofBits};
 ghost use Rattle.course.specs.RootSteps.{unitsOf, Split, Leaves};
 
@@ -12,15 +12,8 @@ const LEAD: u64 = 0x10_0000_0000_0000;
 
 const SIGN: u64 = 0x8000_0000_0000_0000;
 
-// The bits of the infinity, which those of a finite number stand below, and those of a negative one above.
-const INFINITY: u64 = 0x7ff0_0000_0000_0000;
-
-// From this, half the bits of a normal number x leave those of a y near its inverse root: x * y * y is within a fourteenth of 1.
-const START: u64 = 0x5fe6_e8e8_dfce_b8d0;
-
-// What half the exponent of a normal number is added to, for the bits of 3 * 2^26 times the power of two next to its root.
-// A sum with that keeps 26 of the root's digits, and a number of so few digits has an exact square.
-const COARSE: u64 = 0x21b8_0000_0000_0000;
+// 2^32: the digits of a factor whose products are exact.
+const WORD: u64 = 0x1_0000_0000;
 
 // `whole` is the whole part of the root of a number n, and `left` is n less its square.
 struct Root {
@@ -30,7 +23,7 @@ struct Root {
 
 // From n's root to that of 4n + d: one binary digit more.
 fn digit(r: Root, d: u64) -> Root
-    requires { ⌜ (r .left ≤ 2 * r .whole) × (r .whole < 4503599627370496) × (d < 4) ⌝ }
+    requires { ⌜ (r .left ≤ 2 * r .whole) × (r .whole < 9007199254740992) × (d < 4) ⌝ }
     ensures { λ s. ⌜ Leaves (4 * (r .whole * r .whole + r .left) + d) (s .whole) (s .left) ⌝ }
 {
     let v = r.left * 4 + d;
@@ -62,54 +55,171 @@ fn root_of(n: u64) -> Root
     r
 }
 
-// The nearest whole number to the root of n * 4^26, digit by digit.
-fn by_digits(n: u64) -> u64
+// The root of n * 4^27: the digits of n, then 27 zeros in pairs.
+fn by_digits(n: u64) -> Root
     requires { ⌜ n < 18014398509481984 ⌝ }
-    ensures { λ r. ⌜ r ≡ nearWhole (n * 4503599627370496) ⌝ }
+    ensures { λ r. ⌜ Leaves (n * 18014398509481984) (r .whole) (r .left) ⌝ }
 {
     let mut r = root_of(n);
     let mut i: u64 = 0;
-    while i < 26 {
+    while i < 27 {
         r = digit(r, 0);
         i += 1;
     }
-    if r.whole < r.left {
-        r.whole + 1
-    } else {
-        r.whole
+    r
+}
+
+// The product of two numbers of 32 digits.
+fn product(a: u64, b: u64) -> u64
+    requires { ⌜ (a < 4294967296) × (b < 4294967296) ⌝ }
+    ensures { λ r. ⌜ r ≡ a * b ⌝ }
+{
+    a * b
+}
+
+// 32 digits of a product, from digit 31 on.
+fn from_31(a: u64, b: u64) -> u64
+    requires { ⌜ (a < 4294967296) × (b < 4294967296) ⌝ }
+    ensures { λ r. ⌜ r < 4294967296 ⌝ }
+{
+    product(a, b) / 0x8000_0000 % WORD
+}
+
+// The upper 32 digits of a product.
+fn from_32(a: u64, b: u64) -> u64
+    requires { ⌜ (a < 4294967296) × (b < 4294967296) ⌝ }
+    ensures { λ r. ⌜ r < 4294967296 ⌝ }
+{
+    product(a, b) / WORD % WORD
+}
+
+// a less b, modulo 2^32.
+fn less(a: u64, b: u64) -> u64
+    ensures { λ r. ⌜ r < 4294967296 ⌝ }
+{
+    std::num::wrapping_sub_u64(a, b) % WORD
+}
+
+// 32 digits each of a root and of its inverse.
+struct Estimate {
+    root: u64,
+    inverse: u64,
+}
+
+// A guess at the root of a, and at its inverse, from a y near the inverse. Nothing but its size is promised: `tested` decides.
+// q is a * y * y, near 1, and f * g * h the polynomial in q that is nearest to the inverse root of q; in factors, since none of
+// them waits for another. The last two constants are the polynomial's scale, for the root and for the inverse.
+fn guess(a: u64, y: u64) -> Estimate
+    requires { ⌜ (a < 4294967296) × (y < 4294967296) ⌝ }
+    ensures { λ r. ⌜ (r .root < 4294967296) × (r .inverse < 4294967296) ⌝ }
+{
+    let w = from_31(a, y);
+    let q = from_32(w, y);
+    let f = less(0x1_7f2e_89dd, from_31(less(0x1_2e40_4c57, q / 2), q));
+    let g = (0x7acc_54ea + from_31(less(q, 0x294d_efcd), q)) % WORD;
+    let h = less(0xea30_f9b1, from_32(less(0x1_5302_4a59, q), q));
+    let p = from_31(f, g);
+    Estimate {
+        root: from_31(from_31(from_32(w, 0x8967_d7d6), h), p),
+        inverse: from_32(from_31(from_32(y, 0x8967_d7dc), h), p),
     }
 }
 
-// Whether e is the nearest whole number to the root of n * 4^26, by e's square in two halves.
-fn is_near(n: u64, e: u64) -> bool
-    requires { ⌜ (n < 18014398509481984) × (0 < e) × (e < 9007199254740992) ⌝ }
-    ensures { λ r. ⌜ (r ≡ true → e ≡ nearWhole (n * 4503599627370496)) ⌝ }
+// A number near the root of n * 4^27. Nothing but its size is promised: `tested` decides.
+// l is what the guess starts from: the line through it is near the inverse root of n, whatever the parity of its digits.
+fn near_root(n: u64, l: u64) -> u64
+    requires { ⌜ (n < 18014398509481984) × (l < 9007199254740992) ⌝ }
+    ensures { λ r. ⌜ r < 18014398639505408 ⌝ }
 {
-    let a = e / 0x400_0000;
-    let b = e % 0x400_0000;
+    let a = n * 1024;
+    let g = guess(a / WORD, 0xff7c_ed91 - l / 0x40_0000);
+    let s = g.root;
+    let left = std::num::wrapping_sub_u64(a, product(s, s)) / 16 % WORD;
+    let d = product(left, g.inverse) / 0x20_0000_0000;
+    s * 0x40_0000 + d
+}
+
+// Whether a number is the whole root, and what it leaves where it is.
+struct Verdict {
+    ok: bool,
+    left: u64,
+}
+
+// Whether w is the whole root of n * 4^27, by w's square in two halves.
+fn tested(n: u64, w: u64) -> Verdict
+    requires { ⌜ (n < 18014398509481984) × (w < 18014398643699712) ⌝ }
+    ensures { λ t. ⌜ (t .ok ≡ true → Leaves (n * 18014398509481984) w (t .left)) ⌝ }
+{
+    let refused = Verdict { ok: false, left: 0 };
+    let a = w / 0x800_0000;
+    let b = w % 0x800_0000;
     let square = a * a;
     if n < square {
-        return false;
+        return refused;
     }
     let c = n - square;
-    if 0x4000_0000 <= c {
-        return false;
+    if 0x2000_0000 <= c {
+        return refused;
     }
-    let u = c * 0x400_0000 + 0x4000_0000;
-    let v = a * b * 2;
+    let u = c * 0x400_0000;
+    let v = a * b;
     if u < v {
-        return false;
+        return refused;
     }
     let t = u - v;
-    if 0x8000_0000 <= t {
-        return false;
+    if 0x1000_0000 <= t {
+        return refused;
     }
-    let p = t * 0x400_0000;
-    let q = b * b + 0x100_0000_0000_0000;
-    if q + e < p {
-        return false;
+    let p = t * 0x1000_0000;
+    let q = b * b;
+    if p < q {
+        return refused;
     }
-    q < p + e
+    let left = p - q;
+    Verdict {
+        ok: left <= w * 2,
+        left: left,
+    }
+}
+
+// The root of n * 4^27 where w is not it: one of its neighbours, or else by digits.
+fn mended(n: u64, w: u64) -> Root
+    requires { ⌜ (n < 18014398509481984) × (w < 18014398639505408) ⌝ }
+    ensures { λ r. ⌜ Leaves (n * 18014398509481984) (r .whole) (r .left) ⌝ }
+{
+    let below = std::num::wrapping_sub_u64(w, 1) % (4 * LEAD);
+    let t = tested(n, below);
+    if t.ok {
+        return Root {
+            whole: below,
+            left: t.left,
+        };
+    }
+    let above = w + 1;
+    let u = tested(n, above);
+    if u.ok {
+        return Root {
+            whole: above,
+            left: u.left,
+        };
+    }
+    by_digits(n)
+}
+
+// The root of n * 4^27: a number near it, if that is tested, or one of its neighbours, or else by digits.
+fn whole_root(n: u64, l: u64) -> Root
+    requires { ⌜ (n < 18014398509481984) × (l < 9007199254740992) ⌝ }
+    ensures { λ r. ⌜ Leaves (n * 18014398509481984) (r .whole) (r .left) ⌝ }
+{
+    let w = near_root(n, l);
+    let t = tested(n, w);
+    if t.ok {
+        return Root {
+            whole: w,
+            left: t.left,
+        };
+    }
+    mended(n, w)
 }
 
 // A positive number of 53 digits, and the power of two that it is multiplied by.
@@ -138,16 +248,18 @@ fn scaled(field: u64, digits: u64) -> Parts
     Parts { m: m, h: h }
 }
 
-// The bits of the f64 nearest to the root of m * 2^h * 2^-2148, for an m of 53 digits.
+// The bits of the f64 nearest to the root of m * 2^h * 2^-2148, for an m of 53 digits. The whole root has 54, and the last rounds.
 fn root_bits(m: u64, h: u64) -> u64
     requires { ⌜ (4503599627370496 ≤ m) × (m < 9007199254740992) × (1022 ≤ h) × (h ≤ 3119) ⌝ }
     ensures { λ r. ⌜ (ofBits binary64 r ≡ nearestRoot (m * 2 ^ h)) × (r < 9218868437227405312) ⌝ }
 {
-    (h - 52) / 2 * LEAD + by_digits(m << (h % 2))
+    let odd = h % 2;
+    let r = whole_root(m << odd, m - LEAD + odd * LEAD);
+    (h - 52) / 2 * LEAD + (r.whole + 1) / 2
 }
 
-// The square root, digit by digit.
-fn sqrt_by_digits(x: f64) -> f64
+// The square root, as IEEE 754 has it.
+pub fn sqrt(x: f64) -> f64
     ensures { λ r. ⌜ r ≡ sqrtOf x ⌝ }
 {
     if x != x {
@@ -167,58 +279,4 @@ fn sqrt_by_digits(x: f64) -> f64
     }
     let p = scaled(field, b % LEAD);
     f64::from_bits(root_bits(p.m, p.h))
-}
-
-// A guess at the root of a normal number x with the bits b. Nothing is promised of it: `is_root` decides.
-// l * i * j * k is the polynomial of degree 7 that is nearest to the inverse root of q, to 2^-40; in factors, since none of
-// them waits for another. So g is near the root s, and h near 1 / 2s. t is g's upper half, and s = t + (x - t^2 + (s - t)^2) / 2s.
-fn guess(x: f64, b: u64) -> f64
-    requires { ⌜ b < 9218868437227405312 ⌝ }
-{
-    let y = f64::from_bits(START - b / 2);
-    let coarse = f64::from_bits(COARSE + b / (2 * LEAD) * LEAD);
-    let w = x * y;
-    let q = w * y;
-    let l = 0.4825546520374847 - 0.21120795028548567 * q;
-    let i = (q - 0.16954498125727815) * q + 0.6104514507377133;
-    let j = (q - 3.757764058626149) * q + 4.388019592206678;
-    let k = (q - 1.8647117549090022) * q + 2.4335709904163836;
-    let p = i * j;
-    let g = p * (w * l * k);
-    let h = p * (0.5 * y * l * k);
-    let t = g + coarse - coarse;
-    let d = g - t;
-    t + (x - t * t + d * d) * h
-}
-
-// Whether r has the bits of the f64 nearest to the root of m * 2^h * 2^-2148, for an m of 53 digits; no need not mean that
-// it has not.
-fn is_root(m: u64, h: u64, r: u64) -> bool
-    requires { ⌜ (4503599627370496 ≤ m) × (m < 9007199254740992) × (1022 ≤ h) × (h ≤ 3119) ⌝ }
-    ensures { λ a. ⌜ (a ≡ true → (ofBits binary64 r ≡ nearestRoot (m * 2 ^ h)) × (r < 9218868437227405312)) ⌝ }
-{
-    let near = is_near(m << (h % 2), LEAD + r % LEAD);
-    near & (r / LEAD == (h - 50) / 2)
-}
-
-// The square root, as IEEE 754 has it.
-pub fn sqrt(x: f64) -> f64
-    ensures { λ r. ⌜ r ≡ sqrtOf x ⌝ }
-{
-    if x != x {
-        return x;
-    }
-    let b = f64::to_bits(x);
-    if (b < LEAD) | (INFINITY <= b) {
-        return sqrt_by_digits(x);
-    }
-    let v = guess(x, b);
-    if v != v {
-        return sqrt_by_digits(x);
-    }
-    let r = f64::to_bits(v);
-    if is_root(LEAD + b % LEAD, 1073 + b / LEAD, r) {
-        return f64::from_bits(r);
-    }
-    sqrt_by_digits(x)
 }

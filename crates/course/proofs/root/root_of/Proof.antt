@@ -25,7 +25,7 @@ back s h = omega arith
 two-more : (n s : ℕ) → 2 ≤ s → n / 2 ^ s ≡ n / 2 ^ (s - 2) / 4
 two-more n s h = sym (shr-shr n (s - 2) 2 ∙ ap (λ (x : ℕ). n / 2 ^ x) (back s h))
 
-small : (n s w l : ℕ) → Leaves (n / 2 ^ s) w l → n < 18014398509481984 → w < 4503599627370496
+small : (n s w l : ℕ) → Leaves (n / 2 ^ s) w l → n < 18014398509481984 → w < 9007199254740992
 small n s w l h k =
     let g : w < 134217728 = root-below n w 134217728 (omega (arith, h, shr-le n s)) k in
     omega arith

@@ -1,7 +1,7 @@
 -- `course::root::scaled` meets its contract. The invariant of the loop: m * 2 ^ h stays the same number. Assumes nothing.
 use mathlib.Core.Path.{_≡_, refl, sym, ap, _∙_, subst}
-use Prim.Native.Nat.{ℕ, suc, _+_, _-_, _*_, _/_, _%_, _^_, _≤_, _<_}
-use native.Mathlib.Nat.{mul-assoc, mul-left-comm, mul-comm, pow-succ', lt-of-not-le, lt-irrefl, lt-of-lt-of-le, lt-of-le-of-lt, mul-one}
+use Prim.Native.Nat.{ℕ, suc, _-_, _*_, _^_, _≤_, _<_}
+use native.Mathlib.Nat.{mul-assoc, pow-succ', lt-of-not-le, lt-irrefl, lt-of-lt-of-le}
 use native.Mathlib.Omega.{arith}
 use lib.Dec.{lit≤}
 use lib.Pow.{pow-mono}
