@@ -7,14 +7,14 @@ use native.Mathlib.Nat.{eq-zero-or-pos, mul-pos, mul-one, one-mul, pow-succ'}
 use native.Mathlib.Omega.{arith}
 use lib.IntN.{ℤ, pos, negsuc}
 use lib.Dec.{T, ltb, eqb, eqb→eq}
-use lib.Ieee.{Float, nan, inf, fin, fits, isNan, ne, eq, lt, le, add, sum, sub, div, binary64, ofInt, neg, up, down, round}
+use lib.Ieee.{Float, nan, inf, fin, fits, isNan, ne, eq, lt, le, add, sum, sub, mul, div, binary64, ofInt, neg, up, down, round}
 use lib.Ieee.Compare.{differs-from-itself, nan-differs}
 use lib.Ieee.Fits.{up-pos, and-l}
 use borrow.Author.Tests.{ltb-true, ltb-false, eq-eqb, eqb-true}
 use Rattle.course.specs.Arithmetic.{natural}
 use Rattle.course.specs.Numeric.{signumOf, absOf}
 use Rattle.course.proofs.Naturals.{same-test}
-use Rattle.course.proofs.Bounds.{plain, plain-round}
+use Rattle.course.proofs.Bounds.{plain, plain-round, neg-round}
 use Rattle.course.proofs.OwnValue.{own-value}
 
 -- a NaN, and nothing else, differs from itself
@@ -163,3 +163,35 @@ abs-up (fin false m e) h = refl
 abs-up (fin true m e) h =
     let n = neither (lt (fin true m e) nought) (eq (fin true m e) nought) h in
     absurd (true≢false (sym (both-zero (m * up e) (down e) (n .0)) ∙ n .1))
+
+-- ---- the size of n · 2 ^ d · x, n above 0, is told by the side of zero on which x lies
+abs-plain : (x : Float) → T (plain x) → (x ≡ absOf x) × (neg (neg x) ≡ absOf (neg x))
+unfolding absOf neg
+abs-plain nan p = absurd p
+abs-plain (inf true) p = absurd p
+abs-plain (inf false) p = (refl, refl)
+abs-plain (fin true m e) p = absurd p
+abs-plain (fin false m e) p = (refl, refl)
+
+round-above : (a b : ℕ) → round binary64 false a b ≡ absOf (round binary64 false a b)
+round-above a b = abs-plain (round binary64 false a b) (plain-round binary64 a b) .0
+
+round-below : (a b : ℕ) → neg (round binary64 true a b) ≡ absOf (round binary64 true a b)
+round-below a b = subst (λ (x : Float). neg x ≡ absOf x) (sym (neg-round binary64 a b)) (abs-plain (round binary64 false a b) (plain-round binary64 a b) .1)
+
+module _ (n : ℕ) (d : ℤ) (some : eqb n 0 ≡ false) (m : ℕ) (e : ℤ) where
+  pub times-above : (x : Float) → lt (fin false m e) x ≡ true → mul binary64 (fin false n d) x ≡ absOf (mul binary64 (fin false n d) x)
+  unfolding lt mul absOf
+  times-above nan h = absurd (false≢true h)
+  times-above (inf true) h = absurd (false≢true h)
+  times-above (inf false) h = rw some
+  times-above (fin true k l) h = absurd (false≢true h)
+  times-above (fin false k l) h = round-above (n * up d * (k * up l)) (down d * down l)
+
+  pub times-below : (x : Float) → lt x (fin true m e) ≡ true → neg (mul binary64 (fin false n d) x) ≡ absOf (mul binary64 (fin false n d) x)
+  unfolding lt mul absOf neg
+  times-below nan h = absurd (false≢true h)
+  times-below (inf true) h = rw some
+  times-below (inf false) h = absurd (false≢true h)
+  times-below (fin true k l) h = round-below (n * up d * (k * up l)) (down d * down l)
+  times-below (fin false k l) h = absurd (false≢true h)

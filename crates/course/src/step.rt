@@ -159,16 +159,17 @@ fn proj(w: Walk, h: SinCos, tx: f64, ty: f64) -> f64
     (h.cos * (tx - w.x) + h.sin * (ty - w.y)) * SCALE
 }
 
-// Beta turned towards the checkpoint, at most by the turn rate.
+// Beta turned towards the checkpoint, at most by the turn rate. The side is asked first: it tells the sign of v, so that
+// |v| is v or -v.
 fn steer(beta: f64, proj: f64) -> f64
     ensures { λ r. ⌜ r ≡ steered beta proj ⌝ }
 {
-    let m = numeric::min(TRACK_TURN_RATE, numeric::abs(0.001 * proj));
+    let v = 0.001 * proj;
     if proj > 0.3 {
-        return beta - m;
+        return beta - numeric::min(TRACK_TURN_RATE, v);
     }
     if proj < -0.3 {
-        return beta + m;
+        return beta + numeric::min(TRACK_TURN_RATE, -v);
     }
     beta
 }
