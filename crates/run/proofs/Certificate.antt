@@ -13,7 +13,7 @@ use Rattle.course.specs.Lengths.{mostPoints, mostNumbers}
 use Rattle.course.specs.Tiles.{tilesOf}
 use Rattle.course.specs.Course.{cellsOf}
 use Rattle.course.specs.Lent as course
-use Rattle.course.specs.Lent.{Outcome, answered, layInto, laidValuesOf}
+use Rattle.course.specs.Lent.{Outcome, layInto, laidValuesOf}
 use Rattle.course.specs.Lay.{courseOf}
 use Rattle.course.specs.declared.tiles.TrackPoint.{TrackPoint}
 use Rattle.course.proofs.CourseSizes.{course-sized}
@@ -30,7 +30,7 @@ use Rattle.run.specs.Settle.{settleAnswer, settleCause, settleAt, settle
 use Rattle.run.specs.Answers.{Answer}
 use Rattle.run.specs.Answers.Answer.{refused}
 use Rattle.run.specs.Calls.{Call, Replied, replyOf, repliesOf, stateAfter}
-use Rattle.run.specs.Scorer.{Opening, Told, History, opening, drives, settles, lastPoses, touch, touched, touchedCount, lapDone, over, ended, startNumber, score, scores, keptOf}
+use Rattle.run.specs.Scorer.{Opening, Told, History, opening, drives, settles, lastPoses, touch, touched, touchedCount, lapDone, ended, startNumber, score, scores, keptOf}
 use Rattle.run.specs.Scorer.History.{begun}
 use Rattle.run.specs.Certificate.{Lending, lentBy, lengthsOf, Given, callOf, toldOf, callsOf, toldsOf, newSum, endedBy, allOccur, settingsOn, keptBy, Graded, startOn, Demand3, layNumber, Certificate}
 use Rattle.run.specs.Certificate.Lending.{laid, short}

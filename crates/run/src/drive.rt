@@ -1,7 +1,7 @@
 // The call `drive`: forces for the host (document 01, "Drive").
 ghost use mathlib.Core.Path.{_≡_};
 ghost use Prim.Native.Nat.{ℕ, _+_, _*_, _^_, _≤_, _<_};
-ghost use lib.ListN.{length, getD};
+ghost use lib.ListN.{getD};
 ghost use Rattle.run.specs.Widths.{fullWords, mostTiles};
 ghost use Rattle.run.specs.State.{view, awaiting};
 ghost use Rattle.run.specs.Grip.{onRoad, roadsOf};

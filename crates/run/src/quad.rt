@@ -1,10 +1,8 @@
 // Quads of four corners: a wheel's, a tile's, and whether two of them overlap (document 01, "Touch").
 ghost use mathlib.Core.Path.{_≡_};
 ghost use mathlib.Core.Bool.{not, _||_};
-ghost use Prim.Native.Nat.{_+_, _*_, _≤_};
-ghost use lib.ListN.{length};
-ghost use Rattle.course.specs.Tiles.{corner};
-ghost use Rattle.run.specs.Overlap.{leastOn, greatestOn, apartOn, apartAlong, apartByEdges, overlapOf};
+ghost use Prim.Native.Nat.{_+_, _*_};
+ghost use Rattle.run.specs.Overlap.{leastOn, greatestOn, apartOn, apartByEdges, overlapOf};
 ghost use Rattle.run.specs.Wheel.{placed, wheelQuad, boxCells};
 ghost use Rattle.run.specs.TouchSteps.{firstSide, beyond, apartByOthers, sixteenCells};
 use crate::dynamics::SIZE;

@@ -10,7 +10,7 @@ ghost use Rattle.run.specs.Calls.{Call, replyOf, repliesOf, stateAfter};
 ghost use Rattle.run.specs.Replay.{callWords, callNumbers, answerWords, answerNumbers, motionsFrom, posesFrom, numberAt, wordsOf, numbersOf, allWords, allNumbers};
 ghost use Rattle.run.specs.ReplaySteps.{callFrom, callsTo};
 ghost use Rattle.run.specs.Batch.{roomFor, replay, replayOf};
-ghost use Rattle.course.specs.Lent.{lent, laidValuesOf};
+ghost use Rattle.course.specs.Lent.{lent};
 use crate::answer;
 use crate::call;
 use crate::drive;

@@ -2,7 +2,7 @@
 ghost use mathlib.Core.Path.{_≡_};
 ghost use Rattle.run.specs.Widths.{fullWords, mostTiles};
 ghost use Rattle.run.specs.State.{view, columns};
-ghost use Rattle.run.specs.Start.{startCause, setupOf, firstProgress, zeroState, begun, startOf};
+ghost use Rattle.run.specs.Start.{startCause, firstProgress, zeroState, begun, startOf};
 ghost use Rattle.run.specs.Pass.{stillCar};
 ghost use Rattle.run.specs.Arguments.{settingsOk};
 ghost use Rattle.run.specs.TouchSteps.{sixteenCells};
