@@ -20,7 +20,7 @@ use Rattle.course.proofs.Naturals.{same-test, natural-val}
 use Rattle.course.proofs.Bounds.{neg-round}
 
 -- ---- quotients of numbers
-quotient : (c y d : ℕ) → 0 < d → c * d ≤ y → y < c * d + d → y / d ≡ c
+pub quotient : (c y d : ℕ) → 0 < d → c * d ≤ y → y < c * d + d → y / d ≡ c
 quotient c y d D h k =
     let a : c ≤ y / d = le-div-iff-mul-le D .1 h in
     let b : y / d < suc c = div-lt-iff-lt-mul D .1 (subst (λ (z : ℕ). y < z) (sym (suc-mul c d)) k) in

@@ -1,8 +1,9 @@
 -- Definitions that only private functions' contracts cite. Assumes nothing.
 use Prim.Native.Nat.{ℕ, _*_, _≤_}
+use mathlib.Core.Path.{_≡_}
 use lib.IntN.{ℤ, pos}
 use lib.Ieee.{Float, nan, inf, fin, up, down, binary64, ofInt}
-use Rattle.course.specs.Trig.{quarterOf}
+use Rattle.course.specs.Trig.{quarterOf, turnsOf}
 use Rattle.course.specs.declared.trig.Turns.{Turns}
 use Rattle.course.specs.declared.trig.Whole.{Whole}
 
@@ -19,3 +20,8 @@ wholeAt n = record { n = n; f = ofInt binary64 (pos n) }
 -- a whole number as a float, and modulo 4
 unfoldable pub turnsAt : ℤ → Turns
 turnsAt k = record { k = ofInt binary64 k; quarter = quarterOf k }
+
+-- the quarter turns in some angle
+pub record OfAngle (t : Turns) : Type 0 where
+  pub angle : Float
+  pub is : t ≡ turnsAt (turnsOf angle)

@@ -2,7 +2,8 @@
 ghost use mathlib.Core.Path.{_≡_};
 ghost use Prim.Native.Nat.{_≤_, _<_};
 ghost use lib.ListN.{getD};
-ghost use Rattle.course.specs.Trig.{sinCosOf};
+ghost use Rattle.course.specs.Trig.{turnsOf, sinCosOf};
+ghost use Rattle.course.specs.Steps.{turnsAt};
 ghost use Rattle.course.specs.Finder.{noCheckpoint};
 ghost use Rattle.course.specs.Step.{walkLap, lapsOf, sightOf, turnDown, turnUp, turnOf, steered, projOf, landedOf, movedOf, stepOf};
 use crate::checkpoints::Checkpoint;
@@ -16,6 +17,7 @@ use crate::finder::Dest;
 use crate::numeric;
 use crate::trig;
 use crate::trig::SinCos;
+use crate::trig::Turns;
 
 const DOWN: f64 = 1.5 * PI;
 
@@ -212,15 +214,16 @@ fn moved(w: Walk, h: SinCos, s: Sight, alpha: f64, dest: usize, c: Checkpoint) -
     }
 }
 
-// A step of the walk; `here` is the checkpoint that it makes for. It refuses at a third pass over the checkpoints, a fifth
-// turn of beta, and beta beyond ±16 at its end. The heading comes first: the next step waits for it, and not for the angle.
-pub(crate) fn step(cs: [Checkpoint; 12], here: Checkpoint, w: Walk) -> Stepped
+// A step of the walk; `here` is the checkpoint that it makes for, t the quarter turns in its heading. It refuses at a third
+// pass over the checkpoints, a fifth turn of beta, and beta beyond ±16 at its end. The heading comes first: the next step
+// waits for it, and not for the angle.
+pub(crate) fn step(cs: [Checkpoint; 12], here: Checkpoint, w: Walk, t: Turns) -> Stepped
     requires { ⌜ w .laps ≤ 4 ⌝ }
     requires { ⌜ w .dest < 12 ⌝ }
     requires { ⌜ here ≡ getD cs (w .dest) noCheckpoint ⌝ }
+    requires { ⌜ t ≡ turnsAt (turnsOf (w .beta)) ⌝ }
     ensures { λ r. ⌜ r ≡ stepOf cs w ⌝ }
 {
-    let t = trig::quarter_turns(w.beta);
     let h = trig::turned(w.beta, t);
     let s = look(w);
     let d = finder::dest_from(cs, here, w.dest, s.alpha);

@@ -8,7 +8,7 @@ ghost use lib.IntN.{pos};
 ghost use lib.Ieee.{fin, lt, toUnsigned};
 ghost use Rattle.course.specs.Trig.{sinePoly, cosinePoly, atanPoly, floor, wholeBelow, turnsOf, sinCosOf, arc, arcOf, ratioOf, steepOf, leftward, downward, directionOf, atan2Of};
 ghost use Rattle.course.specs.Angle.{sineCall, cosineCall, atan2Call};
-ghost use Rattle.course.specs.Steps.{Bounded, wholeAt, turnsAt};
+ghost use Rattle.course.specs.Steps.{Bounded, wholeAt, turnsAt, OfAngle};
 use crate::constants::HALF_PI;
 use crate::numeric;
 
@@ -166,6 +166,22 @@ pub(crate) fn quarter_turns(a: f64) -> Turns
     ensures { λ r. ⌜ r ≡ turnsAt (turnsOf a) ⌝ }
 {
     whole_below(a / HALF_PI + 0.5)
+}
+
+// The same, with the quarter turns t of another angle tried first: those of a heading are mostly those of the step before,
+// and a processor foresees a comparison and need not wait for a.
+pub(crate) fn quarter_turns_from(a: f64, t: Turns) -> Turns
+    requires { ⌜ OfAngle t ⌝ }
+    ensures { λ r. ⌜ r ≡ turnsAt (turnsOf a) ⌝ }
+{
+    let v = a / HALF_PI + 0.5;
+    let k = t.k;
+    if k <= v {
+        if v < k + 1.0 {
+            return t;
+        }
+    }
+    whole_below(v)
 }
 
 // Cosine and sine of a, from the quarter turns in it. It is short enough to be compiled in place, where both results stay in

@@ -11,6 +11,7 @@ use crate::constants::MOST_POINTS;
 use crate::step;
 use crate::step::Stepped;
 use crate::step::Walk;
+use crate::trig;
 
 // How many steps were stored, and whether none was refused.
 pub(crate) struct Walked {
@@ -47,11 +48,12 @@ pub(crate) fn walk_round(
     ensures { λ r. ⌜ Trod cs (now (alpha .entry)) (now (beta .entry)) (now (x .entry)) (now (y .entry)) (now (alpha .exit)) (now (beta .exit)) (now (x .exit)) (now (y .exit)) (r .n) (r .ok) ⌝ }
 {
     let mut w = start();
+    let mut t = trig::quarter_turns(w.beta);
     let mut k: usize = 0;
     while k < MOST_POINTS {
         let at = w.dest;
         let here = cs[at];
-        let s = step::step(cs, here, w);
+        let s = step::step(cs, here, w, t);
         let Stepped::On(p, next) = s else {
             return Walked { n: k, ok: false };
         };
@@ -64,6 +66,7 @@ pub(crate) fn walk_round(
             return Walked { n: k, ok: true };
         }
         w = next;
+        t = trig::quarter_turns_from(w.beta, t);
     }
     Walked { n: k, ok: true }
 }

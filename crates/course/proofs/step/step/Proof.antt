@@ -10,15 +10,11 @@ use Rattle.course.proofs.step.step.Reads as reads
 use Rattle.course.proofs.step.step.Lts as lts
 use Rattle.course.proofs.finder.dest_from.Reads as dest-from-reads
 use Rattle.course.proofs.step.look.Reads as look-reads
-use Rattle.course.proofs.trig.quarter_turns.Reads as quarter-turns-reads
 use Rattle.course.proofs.trig.turned.Reads as turned-reads
 use Rattle.course.proofs.step.moved.Reads as moved-reads
 
-quarter-turns-requires : tie.Need-quarter-turns-requires
-quarter-turns-requires c κs = search needs
-
 turned-requires : tie.Need-turned-requires
-turned-requires c κs = c .quarter-turns .ensures
+turned-requires c κs = c .pre .1 .1 .1
 
 look-requires : tie.Need-look-requires
 look-requires c κs = search needs
@@ -39,7 +35,7 @@ returns : tie.Need-returns
 unfolding thenMoved stepOf
 returns c =
     let f = c .before .before in
-    let a = f .before .before .before .before .args in
+    let a = f .before .before .before .args in
     ap (thenMoved (a .w) (f .before .look .result)) (sym (c .enum-told .given .1) ∙ f .dest-from .ensures)
     ∙ ap (λ (s : Sight). thenMoved (a .w) s (destOf (a .cs) (a .w .dest) (s .alpha))) (f .before .look .ensures)
 
@@ -47,7 +43,7 @@ returns-2 : tie.Need-returns-2
 unfolding thenMoved stepOf
 returns-2 c =
     let f = c .before .before .before .before in
-    let a = f .before .before .before .before .args in
+    let a = f .before .before .before .args in
     c .moved .ensures
     ∙ ap (thenMoved (a .w) (f .before .look .result)) (sym (c .before .before .d .given .1) ∙ f .dest-from .ensures)
     ∙ ap (λ (s : Sight). thenMoved (a .w) s (destOf (a .cs) (a .w .dest) (s .alpha))) (f .before .look .ensures)
@@ -56,7 +52,6 @@ pub step-spec : {M : Type 1} → statement M
 step-spec =
     tie.close
     (tie.spec
-    quarter-turns-requires
     turned-requires
     look-requires
     dest-from-requires

@@ -1,8 +1,10 @@
 -- `course::walk::walk_round` meets its contract. Assumes nothing.
 use borrow.Author.Needs.{needs}
-use mathlib.Core.Path.{refl, sym, _∙_}
+use mathlib.Core.Path.{_≡_, refl, sym, _∙_}
 use Prim.Native.Nat.{_-_}
 use native.Mathlib.Omega.{arith}
+use Rattle.course.specs.Trig.{turnsOf}
+use Rattle.course.specs.Steps.{turnsAt}
 use Rattle.course.proofs.WalkSteps.{Walking, begun, walked-full, walked-refused, walked-end, walked-on}
 use Rattle.course.proofs.walk.walk_round.Statement.{statement}
 use Rattle.course.proofs.walk.walk_round.Tie as tie
@@ -10,27 +12,35 @@ use Rattle.course.proofs.walk.walk_round.Reads as reads
 use Rattle.course.proofs.walk.walk_round.Lts as lts
 use Rattle.course.proofs.step.step.Reads as step-reads
 use Rattle.course.proofs.walk.start.Reads as start-reads
+use Rattle.course.proofs.trig.quarter_turns.Reads as quarter-turns-reads
+use Rattle.course.proofs.trig.quarter_turns_from.Reads as quarter-turns-from-reads
 
 abbrev Inv-loop : tie.InvT-loop
-Inv-loop alpha₀ beta₀ x₀ y₀ cs w₀ k₀ alpha beta x y w k = Walking cs alpha₀ beta₀ x₀ y₀ alpha beta x y w k
+Inv-loop alpha₀ beta₀ x₀ y₀ cs w₀ t₀ k₀ alpha beta x y w t k = Walking cs alpha₀ beta₀ x₀ y₀ alpha beta x y w k × (t ≡ turnsAt (turnsOf (w .beta)))
 
 abbrev μ-loop : tie.MeasureT-loop
-μ-loop alpha₀ beta₀ x₀ y₀ cs w₀ k₀ alpha beta x y w k = 2500 - k
+μ-loop alpha₀ beta₀ x₀ y₀ cs w₀ t₀ k₀ alpha beta x y w t k = 2500 - k
 
 start-requires : tie.Need-start-requires Inv-loop μ-loop
 start-requires c κs = search needs
 
+quarter-turns-requires : tie.Need-quarter-turns-requires Inv-loop μ-loop
+quarter-turns-requires c κs = search needs
+
 loop-holds : tie.Need-loop-holds Inv-loop μ-loop
-loop-holds c = let s = c .before .before .before .before .before in let q = s .pre in begun _ _ _ _ _ _ (c .start .ensures) (s .good .0 .1 .0 .1) (q .0) (q .1 .0) (q .1 .1 .0) (q .1 .1 .1)
+loop-holds c =
+    let s = c .before .before .before .before .before .before in
+    let q = s .pre in
+    (begun _ _ _ _ _ _ (c .before .start .ensures) (s .good .0 .1 .0 .1) (q .0) (q .1 .0) (q .1 .1 .0) (q .1 .1 .1), c .quarter-turns .ensures)
 
 mul-here : tie.Need-mul-here Inv-loop μ-loop
-mul-here c = let h = c .before .loop .inv .near in omega arith
+mul-here c = let h = c .before .loop .inv .0 .near in omega arith
 
 array-copy-out-here : tie.Need-array-copy-out-here Inv-loop μ-loop
-array-copy-out-here c = c .before .loop .inv .near
+array-copy-out-here c = c .before .loop .inv .0 .near
 
 step-requires : tie.Need-step-requires Inv-loop μ-loop
-step-requires c κs = let s = c .before .before .loop .inv in (s .slow, (s .near, refl))
+step-requires c κs = let s = c .before .before .loop .inv in (s .0 .slow, (s .0 .near, (refl, s .1)))
 
 enum-known-s : tie.Need-enum-known-s Inv-loop μ-loop
 enum-known-s c = search needs
@@ -53,7 +63,7 @@ same-length-4 c = search needs
 returns : tie.Need-returns Inv-loop μ-loop
 returns c =
     let s = c .before .before in
-    walked-refused _ _ _ _ _ _ _ _ _ _ _ (s .before .before .before .loop .inv) (s .before .before .loop-test .taken) (sym (s .step .ensures) ∙ c .enum-told .given .1)
+    walked-refused _ _ _ _ _ _ _ _ _ _ _ (s .before .before .before .loop .inv .0) (s .before .before .loop-test .taken) (sym (s .step .ensures) ∙ c .enum-told .given .1)
 
 mul-alpha : tie.Need-mul-alpha Inv-loop μ-loop
 mul-alpha c = search needs
@@ -98,16 +108,21 @@ returns-2 : tie.Need-returns-2 Inv-loop μ-loop
 returns-2 c =
     let u = c .before .before .before in
     let s = u .before .before in
-    walked-end _ _ _ _ _ _ _ _ _ _ _ (s .before .before .before .loop .inv) _ _ (s .before .before .loop-test .taken) (sym (s .step .ensures) ∙ u .s .given .1) (c .if1 .taken)
+    walked-end _ _ _ _ _ _ _ _ _ _ _ (s .before .before .before .loop .inv .0) _ _ (s .before .before .loop-test .taken) (sym (s .step .ensures) ∙ u .s .given .1) (c .if1 .taken)
+
+quarter-turns-from-requires : tie.Need-quarter-turns-from-requires Inv-loop μ-loop
+quarter-turns-from-requires c κs =
+    let l = c .before .before .before .before .before .before .before .before .loop in
+    record { angle = l .w .beta; is = l .inv .1 }
 
 loop-less : tie.Need-loop-less Inv-loop μ-loop
 loop-less c = search needs
 
 loop-again : tie.Need-loop-again Inv-loop μ-loop
 loop-again c =
-    let u = c .before .before .before in
+    let u = c .before .before .before .before in
     let s = u .before .before in
-    walked-on _ _ _ _ _ _ _ _ _ _ _ (s .before .before .before .loop .inv) _ _ (s .before .before .loop-test .taken) (sym (s .step .ensures) ∙ u .s .given .1) (c .if1 .left)
+    (walked-on _ _ _ _ _ _ _ _ _ _ _ (s .before .before .before .loop .inv .0) _ _ (s .before .before .loop-test .taken) (sym (s .step .ensures) ∙ u .s .given .1) (c .before .if1 .left), c .quarter-turns-from .ensures)
 
 same-length-9 : tie.Need-same-length-9 Inv-loop μ-loop
 same-length-9 c = search needs
@@ -122,7 +137,7 @@ same-length-12 : tie.Need-same-length-12 Inv-loop μ-loop
 same-length-12 c = search needs
 
 returns-3 : tie.Need-returns-3 Inv-loop μ-loop
-returns-3 c = walked-full _ _ _ _ _ _ _ _ _ _ _ (c .before .loop .inv) (c .loop-test .left)
+returns-3 c = walked-full _ _ _ _ _ _ _ _ _ _ _ (c .before .loop .inv .0) (c .loop-test .left)
 
 pub walk-round-spec : {M : Type 1} → statement M
 walk-round-spec =
@@ -131,6 +146,7 @@ walk-round-spec =
     Inv-loop
     μ-loop
     start-requires
+    quarter-turns-requires
     loop-holds
     mul-here
     array-copy-out-here
@@ -156,6 +172,7 @@ walk-round-spec =
     same-length-7
     same-length-8
     returns-2
+    quarter-turns-from-requires
     loop-less
     loop-again
     same-length-9
