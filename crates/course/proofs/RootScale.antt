@@ -241,6 +241,9 @@ kept m o h k = mod-eq-of-lt (omega (arith, small m o h k))
 pub shifted : (m o : ℕ) → m < 9007199254740992 → o < 2 → m * 2 ^ o % 18446744073709551616 < 18014398509481984
 shifted m o h k = subst (λ (x : ℕ). x < 18014398509481984) (sym (kept m o h k)) (small m o h k)
 
+pub reaches : (m o : ℕ) → 4503599627370496 ≤ m → m < 9007199254740992 → o < 2 → 4503599627370496 ≤ m * 2 ^ o % 18446744073709551616
+reaches m o g h k = subst (λ (x : ℕ). 4503599627370496 ≤ x) (sym (kept m o h k)) (le-trans g (le-trans (le-of-eq (sym (mul-one m))) (mul-le-mul-left m (pow-pos o))))
+
 -- ---- the whole root of the shifted significand, with a digit to spare
 abbrev spare : ℕ → ℕ → ℕ
 spare m o = m * 2 ^ o % 18446744073709551616 * 18014398509481984

@@ -1,6 +1,6 @@
 -- The law of `wholeRoot`: it is the one whole number w with w * w ≤ n < (w + 1) * (w + 1). Assumes nothing.
 use mathlib.Core.Path.{_≡_, refl, sym, ap, _∙_, subst}
-use Prim.Native.Nat.{ℕ, zero, suc, _+_, _-_, _*_, _/_, _%_, _^_, _≤_, _<_, compare, Ordering, Ordering·lt, Ordering·eq, Ordering·gt}
+use Prim.Native.Nat.{ℕ, zero, suc, _+_, _-_, _*_, _/_, _^_, _≤_, _<_, compare, Ordering, Ordering·lt, Ordering·eq, Ordering·gt}
 use native.Mathlib.Nat.{le-trans, le-of-eq, le-antisymm, lt-of-lt-of-le, lt-irrefl, le-of-suc-le-suc, lt-of-not-le, mul-add, add-mul, mul-one, one-mul, mul-assoc, mul-left-comm, mul-comm, mul-right-comm, mul-mul-mul-comm, mul-le-mul, pow-succ'}
 use native.Mathlib.Omega.{arith}
 use mathlib.Core.Bool.{Bool, true, false, not, cond}
@@ -194,24 +194,23 @@ near-half m w l e h z u v = go (leb (2 * e) w) (leb→le (2 * e) w) (nleb→lt (
     go true p q = let f : 2 * e ≤ w = p tt in half-even m w e l (omega arith) h (omega arith)
     go false p q = let f : w < 2 * e = q tt in half-odd m w e l (omega arith) h (omega arith)
 
--- ---- a square by the halves of its root
-square-halves : (a b : ℕ) → (a * 134217728 + b) * (a * 134217728 + b) ≡ a * a * 18014398509481984 + a * b * 268435456 + b * b
-square-halves a b =
+-- ---- a square by the upper digits of its root and those that follow
+square-parts : (s d : ℕ) → (s * 4194304 + d) * (s * 4194304 + d) ≡ s * s * 17592186044416 + s * d * 8388608 + d * d
+square-parts s d =
     omega (
       arith,
-      add-mul (a * 134217728) b (a * 134217728 + b),
-      mul-add (a * 134217728) (a * 134217728) b,
-      mul-add b (a * 134217728) b,
-      mul-mul-mul-comm a 134217728 a 134217728,
-      mul-right-comm a 134217728 b,
-      mul-comm b (a * 134217728),
+      add-mul (s * 4194304) d (s * 4194304 + d),
+      mul-add (s * 4194304) (s * 4194304) d,
+      mul-add d (s * 4194304) d,
+      mul-mul-mul-comm s 4194304 s 4194304,
+      mul-right-comm s 4194304 d,
+      mul-comm d (s * 4194304),
     )
 
--- w's halves are a and b
-pub leaves-halves : (n w a b : ℕ) → w ≡ a * 134217728 + b → a * a ≤ n → a * b ≤ (n - a * a) * 67108864
-    → b * b ≤ ((n - a * a) * 67108864 - a * b) * 268435456
-    → ((n - a * a) * 67108864 - a * b) * 268435456 - b * b ≤ w * 2
-    → Leaves (n * 18014398509481984) w (((n - a * a) * 67108864 - a * b) * 268435456 - b * b)
-leaves-halves n w a b h u v p q =
-    let s : w * w ≡ a * a * 18014398509481984 + a * b * 268435456 + b * b = ap (λ (x : ℕ). x * x) h ∙ square-halves a b in
-    record { sum = omega (arith, s); less = omega arith }
+-- the upper digits s leave e, and d follows
+pub leaves-parts : (s e d t l : ℕ) → t + s * d ≡ e * 2097152 → l + d * d ≡ t * 8388608 → l ≤ s * 8388608 + d * 2 → Leaves ((s * s + e) * 17592186044416) (s * 4194304 + d) l
+leaves-parts s e d t l p q h = record { sum = omega (arith, square-parts s d); less = omega arith }
+
+-- 2 ^ 10 of the 2 ^ 54
+pub leaves-of : (n x w l : ℕ) → x ≡ n * 1024 → Leaves (x * 17592186044416) w l → Leaves (n * 18014398509481984) w l
+leaves-of n x w l e h = subst (λ (y : ℕ). Leaves y w l) (omega arith) h

@@ -15,6 +15,9 @@ const SIGN: u64 = 0x8000_0000_0000_0000;
 // 2^32: the digits of a factor whose products are exact.
 const WORD: u64 = 0x1_0000_0000;
 
+// Where the start of the guess is for the number 1: a little below 2^54.
+const START: u64 = 0x3f_fc00_0000_0000;
+
 // `whole` is the whole part of the root of a number n, and `left` is n less its square.
 struct Root {
     whole: u64,
@@ -100,43 +103,29 @@ fn less(a: u64, b: u64) -> u64
     std::num::wrapping_sub_u64(a, b) % WORD
 }
 
-// 32 digits each of a root and of its inverse.
+// Digits of a root, 32, and of its inverse, 31.
 struct Estimate {
     root: u64,
     inverse: u64,
 }
 
-// A guess at the root of a, and at its inverse, from a y near the inverse. Nothing but its size is promised: `tested` decides.
-// q is a * y * y, near 1, and f * g * h the polynomial in q that is nearest to the inverse root of q; in factors, since none of
-// them waits for another. The last two constants are the polynomial's scale, for the root and for the inverse.
+// A guess at the root of a / 2^30, times 2^31, and at its inverse, from a y near 2^32 times the inverse. Nothing but the size is
+// promised: `tested` decides. q is the number times the square of y, near 1, and t the polynomial f * g * h / 2 of degree 6 that is
+// nearest to the inverse root of q among those with the highest coefficient 1/8; in factors, since none of them waits for another.
 fn guess(a: u64, y: u64) -> Estimate
-    requires { ⌜ (a < 4294967296) × (y < 4294967296) ⌝ }
+    requires { ⌜ (a < 4294967296) × (y < 4294967288) ⌝ }
     ensures { λ r. ⌜ (r .root < 4294967296) × (r .inverse < 4294967296) ⌝ }
 {
     let w = from_31(a, y);
     let q = from_32(w, y);
-    let f = less(0x1_7f2e_89dd, from_31(less(0x1_2e40_4c57, q / 2), q));
-    let g = (0x7acc_54ea + from_31(less(q, 0x294d_efcd), q)) % WORD;
-    let h = less(0xea30_f9b1, from_32(less(0x1_5302_4a59, q), q));
-    let p = from_31(f, g);
+    let f = less(0x1_87b9_d99d, from_31(less(0x1_319b_78ab, q / 2), q));
+    let g = (0x7d7b_7ebe + from_31(less(q, 0x29c7_620b), q)) % WORD;
+    let h = less(0xef5e_28d9, from_32(less(0x1_56c8_48b2, q), q));
+    let t = from_32(g, from_31(f, h));
     Estimate {
-        root: from_31(from_31(from_32(w, 0x8967_d7d6), h), p),
-        inverse: from_32(from_31(from_32(y, 0x8967_d7dc), h), p),
+        root: from_31(w, t),
+        inverse: from_32(y + 8, t),
     }
-}
-
-// A number near the root of n * 4^27. Nothing but its size is promised: `tested` decides.
-// l is what the guess starts from: the line through it is near the inverse root of n, whatever the parity of its digits.
-fn near_root(n: u64, l: u64) -> u64
-    requires { ⌜ (n < 18014398509481984) × (l < 9007199254740992) ⌝ }
-    ensures { λ r. ⌜ r < 18014398639505408 ⌝ }
-{
-    let a = n * 1024;
-    let g = guess(a / WORD, 0xff7c_ed91 - l / 0x40_0000);
-    let s = g.root;
-    let left = std::num::wrapping_sub_u64(a, product(s, s)) / 16 % WORD;
-    let d = product(left, g.inverse) / 0x20_0000_0000;
-    s * 0x40_0000 + d
 }
 
 // Whether a number is the whole root, and what it leaves where it is.
@@ -145,81 +134,69 @@ struct Verdict {
     left: u64,
 }
 
-// Whether w is the whole root of n * 4^27, by w's square in two halves.
-fn tested(n: u64, w: u64) -> Verdict
-    requires { ⌜ (n < 18014398509481984) × (w < 18014398643699712) ⌝ }
-    ensures { λ t. ⌜ (t .ok ≡ true → Leaves (n * 18014398509481984) w (t .left)) ⌝ }
+// Whether s * 2^22 + d is the whole root of a * 2^44, for an a that is the square of s and e more.
+fn tested(s: u64, e: u64, d: u64) -> Verdict
+    requires { ⌜ (s < 4294967296) × (e < 137438953472) × (d ≤ 268435456) ⌝ }
+    ensures { λ t. ⌜ (t .ok ≡ true → Leaves ((s * s + e) * 17592186044416) (s * 4194304 + d) (t .left)) ⌝ }
 {
-    let refused = Verdict { ok: false, left: 0 };
-    let a = w / 0x800_0000;
-    let b = w % 0x800_0000;
-    let square = a * a;
-    if n < square {
-        return refused;
+    let t = std::num::wrapping_sub_u64(e * 0x20_0000, product(s, d));
+    if 0x100_0000_0000 <= t {
+        return Verdict { ok: false, left: 0 };
     }
-    let c = n - square;
-    if 0x2000_0000 <= c {
-        return refused;
-    }
-    let u = c * 0x400_0000;
-    let v = a * b;
-    if u < v {
-        return refused;
-    }
-    let t = u - v;
-    if 0x1000_0000 <= t {
-        return refused;
-    }
-    let p = t * 0x1000_0000;
-    let q = b * b;
-    if p < q {
-        return refused;
-    }
-    let left = p - q;
+    let left = std::num::wrapping_sub_u64(t * 0x80_0000, product(d, d));
     Verdict {
-        ok: left <= w * 2,
+        ok: left <= s * 0x80_0000 + d * 2,
         left: left,
     }
 }
 
-// The root of n * 4^27 where w is not it: one of its neighbours, or else by digits.
-fn mended(n: u64, w: u64) -> Root
-    requires { ⌜ (n < 18014398509481984) × (w < 18014398639505408) ⌝ }
+// The root of n * 4^27 where s * 2^22 + d is not it: one of the neighbours, or else by digits.
+fn mended(n: u64, s: u64, e: u64, d: u64) -> Root
+    requires { ⌜ (n < 18014398509481984) × (s * s + e ≡ n * 1024) × (s < 4294967296) × (e < 137438953472) × (d < 268435456) ⌝ }
     ensures { λ r. ⌜ Leaves (n * 18014398509481984) (r .whole) (r .left) ⌝ }
 {
-    let below = std::num::wrapping_sub_u64(w, 1) % (4 * LEAD);
-    let t = tested(n, below);
+    let below = std::num::wrapping_sub_u64(d, 1) % 0x1000_0000;
+    let t = tested(s, e, below);
     if t.ok {
         return Root {
-            whole: below,
+            whole: s * 0x40_0000 + below,
             left: t.left,
         };
     }
-    let above = w + 1;
-    let u = tested(n, above);
+    let above = d + 1;
+    let u = tested(s, e, above);
     if u.ok {
         return Root {
-            whole: above,
+            whole: s * 0x40_0000 + above,
             left: u.left,
         };
     }
     by_digits(n)
 }
 
-// The root of n * 4^27: a number near it, if that is tested, or one of its neighbours, or else by digits.
+// The root of n * 4^27: s is a guess at its upper digits, e is what s leaves, and d the digits that follow from that. They are
+// taken if they are tested, or a neighbour is, and else the digits are worked out.
+// l stands for n in the start of the guess: 1 less l / 2^54 is near the inverse root of n / 2^52.
 fn whole_root(n: u64, l: u64) -> Root
-    requires { ⌜ (n < 18014398509481984) × (l < 9007199254740992) ⌝ }
+    requires { ⌜ (4503599627370496 ≤ n) × (n < 18014398509481984) × (l < 9007199254740992) ⌝ }
     ensures { λ r. ⌜ Leaves (n * 18014398509481984) (r .whole) (r .left) ⌝ }
 {
-    let w = near_root(n, l);
-    let t = tested(n, w);
+    let a = n * 1024;
+    let g = guess(a / WORD, (START - l) / 0x40_0000);
+    let s = g.root;
+    let e = std::num::wrapping_sub_u64(a, product(s, s));
+    if 0x20_0000_0000 <= e {
+        return by_digits(n);
+    }
+    let d = product(e / 32, g.inverse) / 0x10_0000_0000;
+    let t = tested(s, e, d);
     if t.ok {
         return Root {
-            whole: w,
+            whole: s * 0x40_0000 + d,
             left: t.left,
         };
     }
-    mended(n, w)
+    mended(n, s, e, d)
 }
 
 // A positive number of 53 digits, and the power of two that it is multiplied by.

@@ -1,8 +1,8 @@
 -- `course::root::root_bits` meets its contract: m * 2 ^ h is X * 4 ^ K, with X of 105 or 106 digits, by h's parity; the whole root of 4 * X, halved, is rounded. Assumes nothing.
-use Prim.Native.Nat.{_+_, _/_, _%_}
+use Prim.Native.Nat.{_%_}
 use native.Mathlib.Omega.{arith}
 use borrow.Author.Needs.{needs}
-use Rattle.course.proofs.RootScale.{shifted, root-small, rounded, bits-at}
+use Rattle.course.proofs.RootScale.{reaches, shifted, root-small, rounded, bits-at}
 use Rattle.course.proofs.root.root_bits.Statement.{statement}
 use Rattle.course.proofs.root.root_bits.Tie as tie
 use Rattle.course.proofs.root.root_bits.Reads as reads
@@ -22,7 +22,7 @@ add-whole-root : tie.Need-add-whole-root
 add-whole-root c = search needs
 
 whole-root-requires : tie.Need-whole-root-requires
-whole-root-requires c κs = let a = c .args in (shifted (a .m) (a .h % 2) (omega arith) (omega arith), omega arith)
+whole-root-requires c κs = let a = c .args in (reaches (a .m) (a .h % 2) (omega arith) (omega arith) (omega arith), shifted (a .m) (a .h % 2) (omega arith) (omega arith), omega arith)
 
 sub-result : tie.Need-sub-result
 sub-result c = search needs

@@ -1,92 +1,75 @@
--- `course::root::tested` meets its contract, by the law `leaves-halves`. Assumes nothing.
-use mathlib.Core.Path.{_≡_, sym, subst}
+-- `course::root::tested` meets its contract, by the law `leaves-parts`: neither difference can have wrapped, since what is left is small. Assumes nothing.
+use mathlib.Core.Path.{sym, subst}
 use mathlib.Core.Bool.{false≢true}
-use Prim.Native.Nat.{ℕ, _+_, _*_, _/_, _%_, _≤_, _<_}
+use Prim.Native.Nat.{ℕ, _+_, _*_, _≤_}
 use native.Mathlib.Nat.{mul-le-mul}
 use native.Mathlib.Omega.{arith}
 use lib.Dec.{T, leb→le}
 use borrow.Author.Needs.{needs}
-use Rattle.course.proofs.WholeRoot.{leaves-halves}
+use Rattle.course.proofs.WholeRoot.{leaves-parts}
 use Rattle.course.proofs.root.tested.Statement.{statement}
 use Rattle.course.proofs.root.tested.Tie as tie
 use Rattle.course.proofs.root.tested.Reads as reads
 use Rattle.course.proofs.root.tested.Lts as lts
+use Rattle.course.proofs.root.product.Reads as product-reads
+use Rattle.std.proofs.num.wrapping_sub_u64.Reads as wrapping-sub-u64-reads
 
-abbrev upper : ℕ → ℕ
-upper e = e / 134217728
+product : (s d : ℕ) → s ≤ 4294967295 → d ≤ 268435456 → s * d ≤ 1152921504338411520
+product s d h k = mul-le-mul h k
 
-abbrev lower : ℕ → ℕ
-lower e = e % 134217728
+square : (d : ℕ) → d ≤ 268435456 → d * d ≤ 72057594037927936
+square d h = mul-le-mul h h
 
-high : (e : ℕ) → e < 18014398643699712 → upper e ≤ 134217728
-high e h = omega arith
+mul-wrapping-sub-u64 : tie.Need-mul-wrapping-sub-u64
+mul-wrapping-sub-u64 c = search needs
 
-low : (e : ℕ) → lower e ≤ 134217727
-low e = omega arith
+product-requires : tie.Need-product-requires
+product-requires c κs = search needs
 
-both : (e : ℕ) → e ≡ upper e * 134217728 + lower e
-both e = omega arith
-
-square : (e : ℕ) → e < 18014398643699712 → upper e * upper e ≤ 18014398509481984
-square e h = omega (arith, mul-le-mul (high e h) (high e h))
-
-product : (e : ℕ) → e < 18014398643699712 → upper e * lower e < 18014398509481984
-product e h = omega (arith, mul-le-mul (high e h) (low e))
-
-rest : (e : ℕ) → lower e * lower e < 18014398509481984
-rest e = omega (arith, mul-le-mul (low e) (low e))
-
-mul-square : tie.Need-mul-square
-mul-square c = let e = c .args .w in omega (arith, square e (omega arith))
+wrapping-sub-u64-requires : tie.Need-wrapping-sub-u64-requires
+wrapping-sub-u64-requires c κs = search needs
 
 returns : tie.Need-returns
 returns c h = absurd (false≢true h)
 
+mul-wrapping-sub-u64-2 : tie.Need-mul-wrapping-sub-u64-2
+mul-wrapping-sub-u64-2 c = search needs
+
+product-requires-2 : tie.Need-product-requires-2
+product-requires-2 c κs = search needs
+
+wrapping-sub-u64-requires-2 : tie.Need-wrapping-sub-u64-requires-2
+wrapping-sub-u64-requires-2 c κs = search needs
+
+mul-t6 : tie.Need-mul-t6
+mul-t6 c = search needs
+
+mul-t7 : tie.Need-mul-t7
+mul-t7 c = search needs
+
+add-t9 : tie.Need-add-t9
+add-t9 c = search needs
+
 returns-2 : tie.Need-returns-2
-returns-2 c h = absurd (false≢true h)
-
-mul-u : tie.Need-mul-u
-mul-u c = search needs
-
-mul-v : tie.Need-mul-v
-mul-v c = let e = c .before .before .args .w in omega (arith, product e (omega arith))
-
-returns-3 : tie.Need-returns-3
-returns-3 c h = absurd (false≢true h)
-
-returns-4 : tie.Need-returns-4
-returns-4 c h = absurd (false≢true h)
-
-mul-p : tie.Need-mul-p
-mul-p c = search needs
-
-mul-q : tie.Need-mul-q
-mul-q c = let e = c .before .before .before .before .args .w in omega (arith, rest e)
-
-returns-5 : tie.Need-returns-5
-returns-5 c h = absurd (false≢true h)
-
-mul-twice : tie.Need-mul-t15
-mul-twice c = search needs
-
-returns-6 : tie.Need-returns-6
-returns-6 c h =
+returns-2 c h =
     let a = c .before .before .before .before .before .args in
-    leaves-halves (a .n) (a .w) (upper (a .w)) (lower (a .w)) (both (a .w)) (omega arith) (omega arith) (omega arith) (leb→le _ _ (subst T (sym h) tt))
+    let t = c .before .before .before .wrapping-sub-u64 .result in
+    let l = c .wrapping-sub-u642 .result in
+    let k : l ≤ a .s * 8388608 + a .d * 2 = leb→le _ _ (subst T (sym h) tt) in
+    leaves-parts (a .s) (a .e) (a .d) t l (omega (arith, product (a .s) (a .d) (omega arith) (omega arith))) (omega (arith, square (a .d) (omega arith))) k
 
 pub tested-spec : {M : Type 1} → statement M
 tested-spec =
     tie.close
     (tie.spec
-    mul-square
+    mul-wrapping-sub-u64
+    product-requires
+    wrapping-sub-u64-requires
     returns
-    returns-2
-    mul-u
-    mul-v
-    returns-3
-    returns-4
-    mul-p
-    mul-q
-    returns-5
-    mul-twice
-    returns-6)
+    mul-wrapping-sub-u64-2
+    product-requires-2
+    wrapping-sub-u64-requires-2
+    mul-t6
+    mul-t7
+    add-t9
+    returns-2)
