@@ -1,18 +1,19 @@
 -- `sqrtOf` by the fields of an f64's bits. Assumes nothing.
 use mathlib.Core.Path.{_≡_, refl, sym, ap, _∙_, subst}
+use mathlib.Core.Logic.{inl, inr}
 use Prim.Native.Nat.{ℕ, zero, suc, _+_, _-_, _*_, _/_, _%_, _^_, _≤_, _<_}
-use native.Mathlib.Nat.{lt-irrefl, zero-mul, mul-pos, mul-assoc, mul-div-cancel, mul-one, mod-eq-of-lt, not-le-of-lt}
+use native.Mathlib.Nat.{eq-or-lt-of-le, lt-irrefl, zero-mul, mul-pos, mul-assoc, mul-div-cancel, mul-one, mod-eq-of-lt, not-le-of-lt}
 use native.Mathlib.Omega.{arith}
 use mathlib.Core.Bool.{Bool, true, false, not, cond, true≢false, false≢true}
 use lib.Dec.{T, leb, ltb, eqb, le→leb, leb→le, not-T, eqb→eq, ltb→lt, nltb→le}
 use lib.Pow.{pow-add, pow-pos}
 use lib.Ieee.{Float, nan, inf, fin, binary64, up, down, odd, ofFields, ofBits, nanBits, toBits, fits, isNan, ne, div}
 use lib.Ieee.Fits.{down-pos}
-use lib.Ieee.Bits.{ofBits-toBits, nanBits-above, is-true, is-false, cond-no}
+use lib.Ieee.Bits.{ofBits-toBits, toBits-lt, nanBits-above, is-true, is-false, cond-no}
 use lib.Ieee.Compare.{nan-differs}
 use lib.Ieee.Exact.{HasValue, odd-sign}
 use Rattle.course.specs.Root.{nearestRoot, sqrtOf}
-use Rattle.course.specs.RootSteps.{unitsOf, Split}
+use Rattle.course.specs.RootSteps.{unitsOf, Scaled}
 
 -- ---- by the value
 zero-value : (e : ℕ) (a c u : ℕ) → 0 < a → 0 < e → zero * u * c ≡ a * e → ⊥
@@ -91,24 +92,50 @@ sqrt-negative f t F p = go (ltb f 2047) (ltb→lt f 2047) (nltb→le f 2047)
     go true a b = sqrt-below (ofFields binary64 true f t) (unitsOf f t) (fields-value true f t (a tt)) (units-pos f t p)
     go false a b = ap (λ (y : ℕ). sqrtOf (ofFields binary64 true y t)) (eq f F (b tt)) ∙ ap sqrtOf (at-ones true t) ∙ no-root (eqb t 0)
 
--- ---- a field above 0, as 53 digits and a power of two
-normal : (x t : ℕ) → suc x < 2047 → t < 4503599627370496 → Split (unitsOf (suc x) t) (4503599627370496 + t) (1073 + suc x)
-normal x t X H = record {
-  same = ap (λ (k : ℕ). (4503599627370496 + t) * k) (ap (λ (k : ℕ). 2 ^ k) (more x) ∙ pow-add 2 x 1074) ∙ sym (mul-assoc (4503599627370496 + t) (2 ^ x) (2 ^ 1074));
-  high = omega arith;
-  low = omega arith;
-  least = omega arith;
-  most = omega arith;
-}
+-- ---- the bits of a normal number
+normal : (x t : ℕ) → (4503599627370496 + t) * 2 ^ (1073 + suc x) ≡ unitsOf (suc x) t * 2 ^ 1074
+normal x t = ap (λ (k : ℕ). (4503599627370496 + t) * k) (ap (λ (k : ℕ). 2 ^ k) (more x) ∙ pow-add 2 x 1074) ∙ sym (mul-assoc (4503599627370496 + t) (2 ^ x) (2 ^ 1074))
   where
     more : (k : ℕ) → 1073 + suc k ≡ k + 1074
     more k = omega arith
 
-pub normal-at : (f t : ℕ) → 0 < f → f < 2047 → t < 4503599627370496 → Split (unitsOf f t) (4503599627370496 + t) (1073 + f)
-normal-at f t p X H = subst (λ (k : ℕ). Split (unitsOf k t) (4503599627370496 + t) (1073 + k)) (pred f p) (normal (f - 1) t (subst (λ (k : ℕ). k < 2047) (sym (pred f p)) X) H)
+normal-at : (f t : ℕ) → 0 < f → (4503599627370496 + t) * 2 ^ (1073 + f) ≡ unitsOf f t * 2 ^ 1074
+normal-at f t p = subst (λ (k : ℕ). (4503599627370496 + t) * 2 ^ (1073 + k) ≡ unitsOf k t * 2 ^ 1074) (pred f p) (normal (f - 1) t)
   where
     pred : (k : ℕ) → 0 < k → suc (k - 1) ≡ k
     pred k h = omega arith
+
+pub as-it-is : (b : ℕ) → 4503599627370496 ≤ b → b < 9218868437227405312 → Scaled (unitsOf (b / 4503599627370496) (b % 4503599627370496)) b 0
+as-it-is b h k = record {
+  same = ap (λ (e : ℕ). (4503599627370496 + b % 4503599627370496) * 2 ^ e) (none (1073 + b / 4503599627370496)) ∙ normal-at (b / 4503599627370496) (b % 4503599627370496) (omega arith);
+  normal = h;
+  finite = k;
+  few = omega arith;
+  room = omega arith;
+}
+  where
+    none : (e : ℕ) → e - 2 * 0 ≡ e
+    none e = omega arith
+
+-- a field of 0, with the digits b brought to 53
+below-field : (f t : ℕ) → f ≡ 0 → unitsOf f t ≡ t
+below-field f t e = ap (λ (k : ℕ). unitsOf k t) e
+
+pub brought : (b m h : ℕ) → b < 4503599627370496 → m * 2 ^ h ≡ b * 2 ^ 1074 → 4503599627370496 ≤ m → m < 9007199254740992 → 1022 ≤ h → h ≤ 1074
+    → Scaled (unitsOf (b / 4503599627370496) (b % 4503599627370496)) ((h - 1020) * 4503599627370496 + m) 27
+brought b m h z e lo hi least most =
+    let c = (h - 1020) * 4503599627370496 + m in
+    let p : 4503599627370496 + c % 4503599627370496 ≡ m = omega arith in
+    let q : 1073 + c / 4503599627370496 - 2 * 27 ≡ h = omega arith in
+    let u : b / 4503599627370496 ≡ 0 = omega arith in
+    let v : b % 4503599627370496 ≡ b = omega arith in
+    record {
+      same = (λ i. p i * 2 ^ q i) ∙ e ∙ ap (λ (k : ℕ). k * 2 ^ 1074) (sym (below-field (b / 4503599627370496) (b % 4503599627370496) u ∙ v));
+      normal = omega arith;
+      finite = omega arith;
+      few = omega arith;
+      room = omega arith;
+    }
 
 -- ---- the fields of a value's own bits
 ofBits-is : (b : ℕ) → ofBits binary64 b ≡ ofFields binary64 (leb 9223372036854775808 b) (b % 9223372036854775808 / 4503599627370496) (b % 4503599627370496)
@@ -119,10 +146,7 @@ pub from-fields : (x : Float) → T (fits binary64 x) → (b : ℕ) → b ≡ to
     → x ≡ ofFields binary64 (leb 9223372036854775808 b) (b % 9223372036854775808 / 4503599627370496) (b % 4503599627370496)
 from-fields x F b e = sym (ofBits-toBits binary64 x F) ∙ ap (λ (y : ℕ). ofBits binary64 y) (sym e) ∙ ofBits-is b
 
-lt-or-ge : {a c : ℕ} → (a < c → ⊥) → c ≤ a
-lt-or-ge {a} {c} h = omega arith
-
--- ---- the five ways of the code, for the bits b of x
+-- ---- the ways of the code, for the bits b of x
 module _ (x : Float) (F : T (fits binary64 x)) (b : ℕ) (e : b ≡ toBits binary64 x) where
   pub way-zero : b % 9223372036854775808 ≡ 0 → x ≡ sqrtOf x
   way-zero z =
@@ -135,20 +159,23 @@ module _ (x : Float) (F : T (fits binary64 x)) (b : ℕ) (e : b ≡ toBits binar
       low : b % 4503599627370496 ≡ 0
       low = omega arith
 
-  pub way-negative : (b ≡ b % 9223372036854775808 → ⊥) → (b % 9223372036854775808 ≡ 0 → ⊥) → nan ≡ sqrtOf x
-  way-negative n z =
+  pub way-negative : 9223372036854775808 < b → nan ≡ sqrtOf x
+  way-negative h =
       let f : x ≡ ofFields binary64 true (b % 9223372036854775808 / 4503599627370496) (b % 4503599627370496) =
       from-fields x F b e ∙ ap (λ (s : Bool). ofFields binary64 s (b % 9223372036854775808 / 4503599627370496) (b % 4503599627370496)) (is-true (leb 9223372036854775808 b) (le→leb 9223372036854775808 b sign)) in
       sym (ap sqrtOf f ∙ sqrt-negative (b % 9223372036854775808 / 4503599627370496) (b % 4503599627370496) small some)
     where
       sign : 9223372036854775808 ≤ b
-      sign = lt-or-ge (λ g. n (sym (mod-eq-of-lt g)))
+      sign = omega arith
 
       small : b % 9223372036854775808 / 4503599627370496 ≤ 2047
       small = omega arith
 
+      bound : b < 18446744073709551616
+      bound = subst (λ (y : ℕ). y < 18446744073709551616) (sym e) (toBits-lt binary64 x F)
+
       some : 0 < b % 9223372036854775808 / 4503599627370496 + b % 4503599627370496
-      some = omega arith
+      some = omega (arith, bound)
 
   plain : b < 9223372036854775808 → x ≡ ofFields binary64 false (b / 4503599627370496) (b % 4503599627370496)
   plain h =
@@ -156,10 +183,16 @@ module _ (x : Float) (F : T (fits binary64 x)) (b : ℕ) (e : b ≡ toBits binar
       ∙ ap (λ (s : Bool). ofFields binary64 s (b % 9223372036854775808 / 4503599627370496) (b % 4503599627370496)) (is-false (leb 9223372036854775808 b) (not-T (leb 9223372036854775808 b) (λ u. not-le-of-lt h (leb→le 9223372036854775808 b u))))
       ∙ ap (λ (y : ℕ). ofFields binary64 false (y / 4503599627370496) (b % 4503599627370496)) (mod-eq-of-lt h)
 
-  pub way-ones : b < 9223372036854775808 → b / 4503599627370496 ≡ 2047 → x ≡ sqrtOf x
+  way-ones : b < 9223372036854775808 → b / 4503599627370496 ≡ 2047 → x ≡ sqrtOf x
   way-ones h g =
       let f : x ≡ ofFields binary64 false 2047 (b % 4503599627370496) = plain h ∙ ap (λ (y : ℕ). ofFields binary64 false y (b % 4503599627370496)) g in
       f ∙ sym (sqrt-ones (b % 4503599627370496)) ∙ ap sqrtOf (sym f)
+
+  pub way-top : 9218868437227405312 ≤ b → b ≤ 9223372036854775808 → x ≡ sqrtOf x
+  way-top h k = elim (eq-or-lt-of-le k) [
+    | inl z ↦ way-zero (omega arith)
+    | inr l ↦ way-ones l (omega arith)
+  ]
 
   pub way-root : b < 9223372036854775808 → b / 4503599627370496 < 2047 → 0 < b / 4503599627370496 + b % 4503599627370496
       → sqrtOf x ≡ nearestRoot (unitsOf (b / 4503599627370496) (b % 4503599627370496) * 2 ^ 1074)

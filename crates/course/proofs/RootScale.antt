@@ -221,11 +221,9 @@ below m o h k = go (m * 2 ^ o) (omega (arith, mul-le-mul-left m (pow-mono (up o 
     go x g = omega arith
 
 -- m's power by its parity, and the rest halved
-pub bits-at : (m h r : ℕ) → 4503599627370496 ≤ m → m < 9007199254740992 → 1022 ≤ h → h ≤ 3119 → r ≡ nearWhole (m * 2 ^ (h % 2) * 4503599627370496)
-    → (ofBits binary64 ((h - 52) / 2 * 4503599627370496 + r) ≡ nearestRoot (m * 2 ^ h)) × ((h - 52) / 2 * 4503599627370496 + r < 9218868437227405312)
-bits-at m h r lo hi least most q =
-    let o = h % 2 in
-    bits m (o + 52) ((h - 52) / 2) h (m * 2 ^ o * 4503599627370496) r (parity m o) (omega arith) (above m o lo) (below m o hi (omega arith)) (omega arith) q
+pub bits-at : (m o K h r : ℕ) → 4503599627370496 ≤ m → m < 9007199254740992 → o < 2 → o + 52 + (K + K) ≡ h → K ≤ 2000 → r ≡ nearWhole (m * 2 ^ o * 4503599627370496)
+    → (ofBits binary64 (K * 4503599627370496 + r) ≡ nearestRoot (m * 2 ^ h)) × (K * 4503599627370496 + r < 9218868437227405312)
+bits-at m o K h r lo hi p e k q = bits m (o + 52) K h (m * 2 ^ o * 4503599627370496) r (parity m o) e (above m o lo) (below m o hi p) k q
 
 -- ---- the significand, shifted by a parity
 small : (m o : ℕ) → m < 9007199254740992 → o < 2 → m * 2 ^ o < 18014398509481984

@@ -1,19 +1,26 @@
--- The fields of an f64's bits as a number, and that number as 53 digits and a power of two. Only private functions of `root` cite these. Assumes nothing.
+-- The fields of an f64's bits as a number, that number as 53 digits and a power of two, and a root with what it leaves. Only private functions of `root` cite these. Assumes nothing.
 use mathlib.Core.Path.{_≡_}
-use Prim.Native.Nat.{ℕ, zero, suc, _+_, _*_, _^_, _≤_, _<_}
+use Prim.Native.Nat.{ℕ, zero, suc, _+_, _-_, _*_, _/_, _%_, _^_, _≤_, _<_}
 
 -- the number of 2 ^ -1074 that the exponent's field and the digits below the leading one stand for
 abbrev pub unitsOf : ℕ → ℕ → ℕ
 unitsOf zero t = t
 unitsOf (suc x) t = (4503599627370496 + t) * 2 ^ x
 
--- n * 2 ^ 1074 is m * 2 ^ h, and m has 53 digits
-pub record Split (n m h : ℕ) : Type 0 where
-  pub same : m * 2 ^ h ≡ n * 2 ^ 1074
-  pub high : 4503599627370496 ≤ m
-  pub low : m < 9007199254740992
-  pub least : 1022 ≤ h
-  pub most : h ≤ 3119
+-- the 53 digits of a normal number with the bits b, and the power of two that they are multiplied by in units of 2 ^ -2148, over 4 ^ k
+abbrev pub significand : ℕ → ℕ
+significand b = 4503599627370496 + b % 4503599627370496
+
+abbrev pub power : ℕ → ℕ → ℕ
+power b k = 1073 + b / 4503599627370496 - 2 * k
+
+-- b are the bits of a normal number, that is n times 2 ^ -1074 and times 4 ^ k
+pub record Scaled (n b k : ℕ) : Type 0 where
+  pub same : significand b * 2 ^ power b k ≡ n * 2 ^ 1074
+  pub normal : 4503599627370496 ≤ b
+  pub finite : b < 9218868437227405312
+  pub few : k ≤ 27
+  pub room : 2 * k ≤ 51 + b / 4503599627370496
 
 -- w is the whole part of the root of n, and l is what w's square leaves of n
 pub record Leaves (n w l : ℕ) : Type 0 where

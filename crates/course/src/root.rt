@@ -2,21 +2,24 @@
 // significand and a power of two, from those to the significand's whole root with a digit to spare, and that digit rounds it.
 ghost use mathlib.Core.Path.{_≡_};
 ghost use mathlib.Core.Bool.{true};
-ghost use Prim.Native.Nat.{_+_, _*_, _^_, _<_, _≤_};
+ghost use Prim.Native.Nat.{_+_, _*_, _/_, _%_, _^_, _<_, _≤_};
 ghost use Rattle.course.specs.Root.{nearestRoot, sqrtOf};
 ghost use lib.Ieee.{binary64, ofBits};
-ghost use Rattle.course.specs.RootSteps.{unitsOf, Split, Leaves};
+ghost use Rattle.course.specs.RootSteps.{unitsOf, significand, power, Scaled, Leaves};
 
 // The weight of a significand's leading digit, and so of the exponent's field; and that of the sign.
 const LEAD: u64 = 0x10_0000_0000_0000;
 
 const SIGN: u64 = 0x8000_0000_0000_0000;
 
-// 2^32: the digits of a factor whose products are exact.
+// The bits of the infinity: those of a finite number are below it, and those of a negative one above.
+const INFINITY: u64 = 0x7ff0_0000_0000_0000;
+
+// 2^32, which both factors of a product are below.
 const WORD: u64 = 0x1_0000_0000;
 
-// Where the start of the guess is for the number 1: a little below 2^54.
-const START: u64 = 0x3f_fc00_0000_0000;
+// What the start of a guess is taken from: a little less than 2^54.
+const START: u64 = 4 * LEAD - 0x400_0000_0000;
 
 // `whole` is the whole part of the root of a number n, and `left` is n less its square.
 struct Root {
@@ -58,7 +61,7 @@ fn root_of(n: u64) -> Root
     r
 }
 
-// The root of n * 4^27: the digits of n, then 27 zeros in pairs.
+// The root of n * 4^27: the 27 pairs of n's digits, then 27 pairs of zeros.
 fn by_digits(n: u64) -> Root
     requires { ⌜ n < 18014398509481984 ⌝ }
     ensures { λ r. ⌜ Leaves (n * 18014398509481984) (r .whole) (r .left) ⌝ }
@@ -103,15 +106,16 @@ fn less(a: u64, b: u64) -> u64
     std::num::wrapping_sub_u64(a, b) % WORD
 }
 
-// Digits of a root, 32, and of its inverse, 31.
+// A root and its inverse, in units of 2^-31.
 struct Estimate {
     root: u64,
     inverse: u64,
 }
 
-// A guess at the root of a / 2^30, times 2^31, and at its inverse, from a y near 2^32 times the inverse. Nothing but the size is
-// promised: `tested` decides. q is the number times the square of y, near 1, and t the polynomial f * g * h / 2 of degree 6 that is
-// nearest to the inverse root of q among those with the highest coefficient 1/8; in factors, since none of them waits for another.
+// A guess at the root of a, which is from 1 to 4 in units of 2^-30, from a y near the inverse of the root, in units of 2^-32.
+// Nothing but the size is promised: `tested` decides. In units of 2^-31, q is a * y * y, near 1, and t is f * g * h / 2: of the
+// polynomials of degree 6 with the highest coefficient 1/8 the nearest to the inverse root of q. It is worked out in factors, since
+// none of them waits for another. The 8 makes up for the digits that were cut off.
 fn guess(a: u64, y: u64) -> Estimate
     requires { ⌜ (a < 4294967296) × (y < 4294967288) ⌝ }
     ensures { λ r. ⌜ (r .root < 4294967296) × (r .inverse < 4294967296) ⌝ }
@@ -134,7 +138,8 @@ struct Verdict {
     left: u64,
 }
 
-// Whether s * 2^22 + d is the whole root of a * 2^44, for an a that is the square of s and e more.
+// Whether s * 2^22 + d is the whole root of a * 2^44, for an a that is the square of s and e more. What it leaves is
+// (e * 2^21 - s * d) * 2^23 - d^2. A difference below zero wraps to one that is far too large.
 fn tested(s: u64, e: u64, d: u64) -> Verdict
     requires { ⌜ (s < 4294967296) × (e < 137438953472) × (d ≤ 268435456) ⌝ }
     ensures { λ t. ⌜ (t .ok ≡ true → Leaves ((s * s + e) * 17592186044416) (s * 4194304 + d) (t .left)) ⌝ }
@@ -174,9 +179,9 @@ fn mended(n: u64, s: u64, e: u64, d: u64) -> Root
     by_digits(n)
 }
 
-// The root of n * 4^27: s is a guess at its upper digits, e is what s leaves, and d the digits that follow from that. They are
-// taken if they are tested, or a neighbour is, and else the digits are worked out.
-// l stands for n in the start of the guess: 1 less l / 2^54 is near the inverse root of n / 2^52.
+// The root of n * 4^27. s is a guess at its upper digits, e is what s leaves, and d are the digits that follow from that. They are
+// taken if they or a neighbour are tested, and else all digits are worked out.
+// l is to be such that 1 - l / 2^54 is near the inverse root of n / 2^52; any other costs only time.
 fn whole_root(n: u64, l: u64) -> Root
     requires { ⌜ (4503599627370496 ≤ n) × (n < 18014398509481984) × (l < 9007199254740992) ⌝ }
     ensures { λ r. ⌜ Leaves (n * 18014398509481984) (r .whole) (r .left) ⌝ }
@@ -199,43 +204,46 @@ fn whole_root(n: u64, l: u64) -> Root
     mended(n, s, e, d)
 }
 
-// A positive number of 53 digits, and the power of two that it is multiplied by.
-struct Parts {
-    m: u64,
-    h: u64,
+// The bits of a normal number, and how many times it was multiplied by four.
+struct Normal {
+    bits: u64,
+    fours: u64,
 }
 
-// The digits and the power of a positive finite value, in units of 2^-2148.
-fn scaled(field: u64, digits: u64) -> Parts
-    requires { ⌜ (field < 2047) × (digits < 4503599627370496) × (0 < field + digits) ⌝ }
-    ensures { λ p. ⌜ Split (unitsOf field digits) (p .m) (p .h) ⌝ }
+// The bits of a positive finite number, b, brought to those of a normal one.
+fn scaled(b: u64) -> Normal
+    requires { ⌜ (0 < b) × (b < 9218868437227405312) ⌝ }
+    ensures { λ p. ⌜ Scaled (unitsOf (b / 4503599627370496) (b % 4503599627370496)) (p .bits) (p .fours) ⌝ }
 {
-    if field > 0 {
-        return Parts {
-            m: LEAD + digits,
-            h: 1073 + field,
-        };
+    if LEAD <= b {
+        return Normal { bits: b, fours: 0 };
     }
-    let mut m = digits;
+    let mut m = b;
     let mut h: u64 = 1074;
     while m < LEAD {
         m = m * 2;
         h -= 1;
     }
-    Parts { m: m, h: h }
+    Normal {
+        bits: (h - 1020) * LEAD + m,
+        fours: 27,
+    }
 }
 
-// The bits of the f64 nearest to the root of m * 2^h * 2^-2148, for an m of 53 digits. The whole root has 54, and the last rounds.
-fn root_bits(m: u64, h: u64) -> u64
-    requires { ⌜ (4503599627370496 ≤ m) × (m < 9007199254740992) × (1022 ≤ h) × (h ≤ 3119) ⌝ }
-    ensures { λ r. ⌜ (ofBits binary64 r ≡ nearestRoot (m * 2 ^ h)) × (r < 9218868437227405312) ⌝ }
+// The bits of the f64 nearest to the root of 4^-k times the normal number with the bits b. l is the digits below the leading one,
+// and before them the parity of the power: with an odd one, n is twice the significand. The whole root of n * 4^27 has 54 digits, of
+// which the last rounds the others.
+fn root_bits(b: u64, k: u64) -> u64
+    requires { ⌜ (4503599627370496 ≤ b) × (b < 9218868437227405312) × (k ≤ 27) × (2 * k ≤ 51 + b / 4503599627370496) ⌝ }
+    ensures { λ r. ⌜ (ofBits binary64 r ≡ nearestRoot (significand b * 2 ^ power b k)) × (r < 9218868437227405312) ⌝ }
 {
-    let odd = h % 2;
-    let r = whole_root(m << odd, m - LEAD + odd * LEAD);
-    (h - 52) / 2 * LEAD + (r.whole + 1) / 2
+    let l = (b + LEAD) % (2 * LEAD);
+    let n = (LEAD + b % LEAD) << (l / LEAD);
+    let r = whole_root(n, l);
+    ((b / LEAD + 1021) / 2 - k) * LEAD + (r.whole + 1) / 2
 }
 
-// The square root, as IEEE 754 has it.
+// The square root, as IEEE 754 has it. The infinity and the zeros are their own roots, and there is none below zero.
 pub fn sqrt(x: f64) -> f64
     ensures { λ r. ⌜ r ≡ sqrtOf x ⌝ }
 {
@@ -243,17 +251,15 @@ pub fn sqrt(x: f64) -> f64
         return x;
     }
     let b = f64::to_bits(x);
-    let magnitude = b % SIGN;
-    if magnitude == 0 {
-        return x;
-    }
-    if b != magnitude {
+    if INFINITY <= b {
+        if b <= SIGN {
+            return x;
+        }
         return 0.0 / 0.0;
     }
-    let field = b / LEAD;
-    if field == 2047 {
+    if b == 0 {
         return x;
     }
-    let p = scaled(field, b % LEAD);
-    f64::from_bits(root_bits(p.m, p.h))
+    let p = scaled(b);
+    f64::from_bits(root_bits(p.bits, p.fours))
 }

@@ -1,22 +1,21 @@
 -- `course::root::scaled` meets its contract. The invariant of the loop: m * 2 ^ h stays the same number. Assumes nothing.
-use mathlib.Core.Path.{_≡_, refl, sym, ap, _∙_, subst}
+use mathlib.Core.Path.{_≡_, refl, sym, ap, _∙_}
 use Prim.Native.Nat.{ℕ, suc, _-_, _*_, _^_, _≤_, _<_}
 use native.Mathlib.Nat.{mul-assoc, pow-succ', lt-of-not-le, lt-irrefl, lt-of-lt-of-le}
 use native.Mathlib.Omega.{arith}
 use lib.Dec.{lit≤}
 use lib.Pow.{pow-mono}
-use Rattle.course.specs.RootSteps.{unitsOf, Split}
-use Rattle.course.proofs.RootFields.{normal-at}
+use Rattle.course.proofs.RootFields.{as-it-is, brought}
 use Rattle.course.proofs.root.scaled.Statement.{statement}
 use Rattle.course.proofs.root.scaled.Tie as tie
 use Rattle.course.proofs.root.scaled.Reads as reads
 use Rattle.course.proofs.root.scaled.Lts as lts
 
 abbrev Inv-loop : tie.InvT-loop
-Inv-loop field digits m₀ h₀ m h = (m * 2 ^ h ≡ digits * 2 ^ 1074) × (2 ^ (1074 - h) ≤ m) × (m < 9007199254740992) × (1022 ≤ h) × (h ≤ 1074)
+Inv-loop b m₀ h₀ m h = (m * 2 ^ h ≡ b * 2 ^ 1074) × (2 ^ (1074 - h) ≤ m) × (m < 9007199254740992) × (1022 ≤ h) × (h ≤ 1074)
 
 abbrev μ-loop : tie.MeasureT-loop
-μ-loop field digits m₀ h₀ m h = h
+μ-loop b m₀ h₀ m h = h
 
 -- a turn
 above : (m h : ℕ) → 2 ^ (1074 - h) ≤ m → m < 4503599627370496 → 1022 < h
@@ -45,20 +44,8 @@ twice m h p q g =
     one : (k : ℕ) → 0 < k → k ≤ 1074 → 1074 - (k - 1) ≡ suc (1074 - k)
     one k a b = omega arith
 
-at-zero : (f t m h : ℕ) → f ≤ 0 → m * 2 ^ h ≡ t * 2 ^ 1074 → 4503599627370496 ≤ m → m < 9007199254740992 → 1022 ≤ h → h ≤ 1074 → Split (unitsOf f t) m h
-at-zero f t m h z e a b c d = subst (λ (k : ℕ). Split (unitsOf k t) m h) (none f z) (record { same = e; high = a; low = b; least = c; most = omega arith })
-  where
-    none : (k : ℕ) → k ≤ 0 → 0 ≡ k
-    none k g = omega arith
-
-add-t6 : tie.Need-add-t6 Inv-loop μ-loop
-add-t6 c = omega arith
-
-add-t7 : tie.Need-add-t7 Inv-loop μ-loop
-add-t7 c = omega arith
-
 returns : tie.Need-returns Inv-loop μ-loop
-returns c = let a = c .before .args in normal-at (a .field) (a .digits) (omega arith) (omega arith) (omega arith)
+returns c = as-it-is (c .before .args .b) (omega arith) (omega arith)
 
 loop-holds : tie.Need-loop-holds Inv-loop μ-loop
 loop-holds c = (refl, omega arith, omega arith, lit≤ tt, lit≤ tt)
@@ -79,11 +66,19 @@ loop-again c =
     let z : 0 < l .h = omega arith in
     (doubled (l .m) (l .h) z ∙ l .inv .0, twice (l .m) (l .h) z (l .inv .4) (l .inv .1), omega arith, omega arith, omega arith)
 
+sub-t6 : tie.Need-sub-t6 Inv-loop μ-loop
+sub-t6 c = omega (arith, c .before .loop .inv)
+
+mul-t7 : tie.Need-mul-t7 Inv-loop μ-loop
+mul-t7 c = omega (arith, c .before .loop .inv)
+
+add-t8 : tie.Need-add-t8 Inv-loop μ-loop
+add-t8 c = omega (arith, c .before .loop .inv)
+
 returns-2 : tie.Need-returns-2 Inv-loop μ-loop
 returns-2 c =
-    let a = c .before .before .before .args in
     let l = c .before .loop in
-    at-zero (a .field) (a .digits) (l .m) (l .h) (omega arith) (l .inv .0) (omega arith) (l .inv .2) (l .inv .3) (l .inv .4)
+    brought (c .before .before .before .args .b) (l .m) (l .h) (omega arith) (l .inv .0) (omega arith) (l .inv .2) (l .inv .3) (l .inv .4)
 
 pub scaled-spec : {M : Type 1} → statement M
 scaled-spec =
@@ -91,12 +86,13 @@ scaled-spec =
     (tie.spec
     Inv-loop
     μ-loop
-    add-t6
-    add-t7
     returns
     loop-holds
     mul-m
     sub-h
     loop-less
     loop-again
+    sub-t6
+    mul-t7
+    add-t8
     returns-2)

@@ -6,7 +6,7 @@ use lib.Ieee.{binary64, fits, toBits}
 use lib.Ieee.Compare.{differs-from-itself}
 use borrow.Author.Needs.{needs}
 use Rattle.course.specs.Root.{nearestRoot}
-use Rattle.course.proofs.RootFields.{way-nan, no-nan, way-zero, way-negative, way-ones, way-root, makes-nan, below-inf}
+use Rattle.course.proofs.RootFields.{way-nan, no-nan, way-zero, way-top, way-negative, way-root, makes-nan, below-inf}
 use Rattle.course.proofs.root.sqrt.Statement.{statement}
 use Rattle.course.proofs.root.sqrt.Tie as tie
 use Rattle.course.proofs.root.sqrt.Reads as reads
@@ -25,15 +25,13 @@ float-to-bits-b : tie.Need-float-to-bits-b
 float-to-bits-b c = no-nan (c .before .args .x) (c .if1 .left)
 
 returns-2 : tie.Need-returns-2
-returns-2 c = let s = c .before .before in way-zero (s .args .x) (held s) (toBits binary64 (s .args .x)) refl (c .if2 .taken)
+returns-2 c = let s = c .before .before .before in way-top (s .args .x) (held s) (toBits binary64 (s .args .x)) refl (c .before .if2 .taken) (c .if3 .taken)
 
 returns-3 : tie.Need-returns-3
-returns-3 c = let s = c .before .before .before in makes-nan ∙ way-negative (s .args .x) (held s) (toBits binary64 (s .args .x)) refl (c .if3 .taken) (c .before .if2 .left)
+returns-3 c = let s = c .before .before .before in makes-nan ∙ way-negative (s .args .x) (held s) (toBits binary64 (s .args .x)) refl (omega arith)
 
 returns-4 : tie.Need-returns-4
-returns-4 c =
-    let s = c .before .before .before .before in
-    way-ones (s .args .x) (held s) (toBits binary64 (s .args .x)) refl (omega arith) (c .if4 .taken)
+returns-4 c = let s = c .before .before .before in way-zero (s .args .x) (held s) (toBits binary64 (s .args .x)) refl (omega arith)
 
 scaled-requires : tie.Need-scaled-requires
 scaled-requires c κs = search needs
@@ -46,7 +44,7 @@ float-from-bits-result c = below-inf (c .root-bits .result) (c .root-bits .ensur
 
 returns-5 : tie.Need-returns-5
 returns-5 c =
-    let s = c .before .before .before .before .before .before in
+    let s = c .before .before .before .before .before in
     c .root-bits .ensures .0
     ∙ ap nearestRoot (c .before .scaled .ensures .same)
     ∙ sym (way-root (s .args .x) (held s) (toBits binary64 (s .args .x)) refl (omega arith) (omega arith) (omega arith))
