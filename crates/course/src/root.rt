@@ -113,9 +113,9 @@ struct Estimate {
 }
 
 // A guess at the root of a, which is from 1 to 4 in units of 2^-30, from a y near the inverse of the root, in units of 2^-32.
-// Nothing but the size is promised: `tested` decides. In units of 2^-31, q is a * y * y, near 1, and t is f * g * h / 2: of the
-// polynomials of degree 6 with the highest coefficient 1/8 the nearest to the inverse root of q. It is worked out in factors, since
-// none of them waits for another. The 8 makes up for the digits that were cut off.
+// Nothing but the size is promised: `tested` decides. In units of 2^-31, q is a * y * y, near 1, and t is f * g * h / 2, a polynomial
+// of degree 6 near the inverse root of q. It is worked out in factors, since none of them waits for another, and its highest
+// coefficient is 1/8, which needs no product. The 8 makes up for the digits that were cut off.
 fn guess(a: u64, y: u64) -> Estimate
     requires { ⌜ (a < 4294967296) × (y < 4294967288) ⌝ }
     ensures { λ r. ⌜ (r .root < 4294967296) × (r .inverse < 4294967296) ⌝ }

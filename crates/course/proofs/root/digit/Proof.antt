@@ -1,4 +1,4 @@
--- `course::root::digit` meets its contract: the two ways of a digit are laws of `specs/Whole.antt`. Assumes nothing.
+-- `course::root::digit` meets its contract: the two ways of a digit are laws of `WholeRoot`. Assumes nothing.
 use native.Mathlib.Omega.{arith}
 use Rattle.course.proofs.WholeRoot.{digit-less, digit-more}
 use Rattle.course.proofs.root.digit.Statement.{statement}
