@@ -32,7 +32,9 @@ pub(crate) fn shift(col: &mut [f64], from: usize, n: usize)
 // 0 from number n up to `end`.
 pub(crate) fn clear_from(col: &mut [f64], n: usize, end: usize)
     requires { ⌜ (n ≤ end) × (end ≤ length (now col)) ⌝ }
-    ensures { λ r. ⌜ now (col .exit) ≡ take n (now (col .entry)) ++ (replicate (end - n) nought ++ drop end (now (col .entry))) ⌝ }
+    ensures { λ r. ⌜
+        now (col .exit) ≡ take n (now (col .entry)) ++ (replicate (end - n) nought ++ drop end (now (col .entry)))
+        ⌝ }
 {
     let mut i = n;
     while i < end {
@@ -44,7 +46,9 @@ pub(crate) fn clear_from(col: &mut [f64], n: usize, end: usize)
 // The same for marks.
 pub(crate) fn clear_marks(col: &mut [u8], n: usize, end: usize)
     requires { ⌜ (n ≤ end) × (end ≤ length (now col)) ⌝ }
-    ensures { λ r. ⌜ now (col .exit) ≡ take n (now (col .entry)) ++ (replicate (end - n) 0 ++ drop end (now (col .entry))) ⌝ }
+    ensures { λ r. ⌜
+        now (col .exit) ≡ take n (now (col .entry)) ++ (replicate (end - n) 0 ++ drop end (now (col .entry)))
+        ⌝ }
 {
     let mut i = n;
     while i < end {

@@ -161,7 +161,12 @@ fn put_curb(
 ) -> usize
     requires { ⌜ (i < n) × (n ≤ length (now beta)) × (n ≤ length (now x)) × (n ≤ length (now y)) ⌝ }
     requires { ⌜ (m ≤ i) × (n ≤ mostPoints) × (mostNumbers ≤ length (now quads)) × (mostPoints ≤ length (now white)) ⌝ }
-    ensures { λ r. ⌜ Curbed (bordered (now (beta .entry)) n i) (curbQuad (pointAt (now (beta .entry)) (now (x .entry)) (now (y .entry)) i) (pointAt (now (beta .entry)) (now (x .entry)) (now (y .entry)) (beforeOf n i))) (whiteOf i) m (now (quads .entry)) (now (white .entry)) r (now (quads .exit)) (now (white .exit)) ⌝ }
+    ensures { λ r. ⌜
+        Curbed (bordered (now (beta .entry)) n i)
+        (curbQuad (pointAt (now (beta .entry)) (now (x .entry)) (now (y .entry)) i)
+        (pointAt (now (beta .entry)) (now (x .entry)) (now (y .entry)) (beforeOf n i))) (whiteOf i) m
+        (now (quads .entry)) (now (white .entry)) r (now (quads .exit)) (now (white .exit))
+        ⌝ }
 {
     if !is_bordered(beta, n, i) {
         return m;
@@ -186,7 +191,10 @@ fn write_curbs(
 ) -> usize
     requires { ⌜ (n ≤ length (now beta)) × (n ≤ length (now x)) × (n ≤ length (now y)) ⌝ }
     requires { ⌜ (n ≤ mostPoints) × (mostNumbers ≤ length (now quads)) × (mostPoints ≤ length (now white)) ⌝ }
-    ensures { λ r. ⌜ CurbsTo (now (beta .entry)) (now (x .entry)) (now (y .entry)) n n r (now (quads .entry)) (now (white .entry)) (now (quads .exit)) (now (white .exit)) ⌝ }
+    ensures { λ r. ⌜
+        CurbsTo (now (beta .entry)) (now (x .entry)) (now (y .entry)) n n r (now (quads .entry)) (now (white .entry))
+        (now (quads .exit)) (now (white .exit))
+        ⌝ }
 {
     let mut m: usize = 0;
     let mut i: usize = 0;
@@ -215,7 +223,11 @@ pub fn curbs(
     quads: &mut [f64],
     white: &mut [u8],
 ) -> CurbAnswer
-    ensures { λ r. ⌜ edged r (now (quads .exit)) (now (white .exit)) ≡ curbsCall (now (pbeta .entry)) (now (px .entry)) (now (py .entry)) count (now (quads .entry)) (now (white .entry)) ⌝ }
+    ensures { λ r. ⌜
+        edged r (now (quads .exit)) (now (white .exit))
+        ≡ curbsCall (now (pbeta .entry)) (now (px .entry)) (now (py .entry)) count (now (quads .entry))
+        (now (white .entry))
+        ⌝ }
 {
     let n = count as usize;
     let room = curb_room(quads, white);

@@ -276,7 +276,10 @@ pub(crate) fn build_index(
 ) -> IndexRoom
     requires { ⌜ (n ≤ mostPoints) × (n * 8 ≤ length (now tiles)) ⌝ }
     requires { ⌜ (n ≤ length (now rects)) × (offsetCount ≤ length (now offsets)) ⌝ }
-    ensures { λ r. ⌜ Built (now (tiles .entry)) n (now (offsets .entry)) (now (list .entry)) (now (offsets .exit)) (now (list .exit)) (r .short) (r .need) ⌝ }
+    ensures { λ r. ⌜
+        Built (now (tiles .entry)) n (now (offsets .entry)) (now (list .entry)) (now (offsets .exit))
+        (now (list .exit)) (r .short) (r .need)
+        ⌝ }
     ensures { λ r. ⌜ drop n (now (rects .exit)) ≡ drop n (now (rects .entry)) ⌝ }
 {
     let need = total(tiles, n, rects);

@@ -49,7 +49,10 @@ fn attempt(
     requires { ⌜ mostPoints ≤ length (now beta) ⌝ }
     requires { ⌜ mostPoints ≤ length (now x) ⌝ }
     requires { ⌜ mostPoints ≤ length (now y) ⌝ }
-    ensures { λ r. ⌜ InFront (attemptOn cs) (now (alpha .entry)) (now (beta .entry)) (now (x .entry)) (now (y .entry)) (now (alpha .exit)) (now (beta .exit)) (now (x .exit)) (now (y .exit)) r ⌝ }
+    ensures { λ r. ⌜
+        InFront (attemptOn cs) (now (alpha .entry)) (now (beta .entry)) (now (x .entry)) (now (y .entry))
+        (now (alpha .exit)) (now (beta .exit)) (now (x .exit)) (now (y .exit)) r
+        ⌝ }
 {
     let w = walk::walk_round(cs, alpha, beta, x, y);
     let len = w.n;
@@ -77,7 +80,10 @@ fn try_generate(
     requires { ⌜ mostPoints ≤ length (now beta) ⌝ }
     requires { ⌜ mostPoints ≤ length (now x) ⌝ }
     requires { ⌜ mostPoints ≤ length (now y) ⌝ }
-    ensures { λ r. ⌜ InFront (attemptOn (checkpointsOf 12 g)) (now (alpha .entry)) (now (beta .entry)) (now (x .entry)) (now (y .entry)) (now (alpha .exit)) (now (beta .exit)) (now (x .exit)) (now (y .exit)) (r .n) ⌝ }
+    ensures { λ r. ⌜
+        InFront (attemptOn (checkpointsOf 12 g)) (now (alpha .entry)) (now (beta .entry)) (now (x .entry))
+        (now (y .entry)) (now (alpha .exit)) (now (beta .exit)) (now (x .exit)) (now (y .exit)) (r .n)
+        ⌝ }
     ensures { λ r. ⌜ r .rng ≡ after 24 g ⌝ }
 {
     let d = checkpoints::checkpoints(g);
@@ -133,7 +139,10 @@ fn generate_with_attempts(
     requires { ⌜ mostPoints ≤ length (now beta) ⌝ }
     requires { ⌜ mostPoints ≤ length (now x) ⌝ }
     requires { ⌜ mostPoints ≤ length (now y) ⌝ }
-    ensures { λ r. ⌜ InFront (courseWithin attempts seed .points) (now (alpha .entry)) (now (beta .entry)) (now (x .entry)) (now (y .entry)) (now (alpha .exit)) (now (beta .exit)) (now (x .exit)) (now (y .exit)) (r .n) ⌝ }
+    ensures { λ r. ⌜
+        InFront (courseWithin attempts seed .points) (now (alpha .entry)) (now (beta .entry)) (now (x .entry))
+        (now (y .entry)) (now (alpha .exit)) (now (beta .exit)) (now (x .exit)) (now (y .exit)) (r .n)
+        ⌝ }
     ensures { λ r. ⌜ r .fallback ≡ courseWithin attempts seed .fallback ⌝ }
 {
     let mut g = SplitMix64::from_seed(seed);
@@ -166,7 +175,10 @@ fn generate_on(
     requires { ⌜ mostPoints ≤ length (now beta) ⌝ }
     requires { ⌜ mostPoints ≤ length (now x) ⌝ }
     requires { ⌜ mostPoints ≤ length (now y) ⌝ }
-    ensures { λ r. ⌜ InFront (courseOn cs .points) (now (alpha .entry)) (now (beta .entry)) (now (x .entry)) (now (y .entry)) (now (alpha .exit)) (now (beta .exit)) (now (x .exit)) (now (y .exit)) (r .n) ⌝ }
+    ensures { λ r. ⌜
+        InFront (courseOn cs .points) (now (alpha .entry)) (now (beta .entry)) (now (x .entry)) (now (y .entry))
+        (now (alpha .exit)) (now (beta .exit)) (now (x .exit)) (now (y .exit)) (r .n)
+        ⌝ }
     ensures { λ r. ⌜ r .fallback ≡ courseOn cs .fallback ⌝ }
 {
     let n = attempt(cs, alpha, beta, x, y);
@@ -192,7 +204,13 @@ pub fn lay_attempts(
     offsets: &mut [u32],
     list: &mut [u32],
 ) -> Laid
-    ensures { λ r. ⌜ outcome r (lent (now (alpha .exit)) (now (beta .exit)) (now (x .exit)) (now (y .exit)) (now (tiles .exit)) (now (offsets .exit)) (now (list .exit))) ≡ layCall attempts seed (lent (now (alpha .entry)) (now (beta .entry)) (now (x .entry)) (now (y .entry)) (now (tiles .entry)) (now (offsets .entry)) (now (list .entry))) ⌝ }
+    ensures { λ r. ⌜
+        outcome r (lent (now (alpha .exit)) (now (beta .exit)) (now (x .exit)) (now (y .exit)) (now (tiles .exit))
+        (now (offsets .exit)) (now (list .exit)))
+        ≡ layCall attempts seed
+        (lent (now (alpha .entry)) (now (beta .entry)) (now (x .entry)) (now (y .entry)) (now (tiles .entry))
+        (now (offsets .entry)) (now (list .entry)))
+        ⌝ }
 {
     if !points::roomy(alpha, beta, x, y, tiles, offsets) {
         return Laid::Refused(2);
@@ -212,7 +230,13 @@ pub fn lay(
     offsets: &mut [u32],
     list: &mut [u32],
 ) -> Laid
-    ensures { λ r. ⌜ outcome r (lent (now (alpha .exit)) (now (beta .exit)) (now (x .exit)) (now (y .exit)) (now (tiles .exit)) (now (offsets .exit)) (now (list .exit))) ≡ layCall maxAttempts seed (lent (now (alpha .entry)) (now (beta .entry)) (now (x .entry)) (now (y .entry)) (now (tiles .entry)) (now (offsets .entry)) (now (list .entry))) ⌝ }
+    ensures { λ r. ⌜
+        outcome r (lent (now (alpha .exit)) (now (beta .exit)) (now (x .exit)) (now (y .exit)) (now (tiles .exit))
+        (now (offsets .exit)) (now (list .exit)))
+        ≡ layCall maxAttempts seed
+        (lent (now (alpha .entry)) (now (beta .entry)) (now (x .entry)) (now (y .entry)) (now (tiles .entry))
+        (now (offsets .entry)) (now (list .entry)))
+        ⌝ }
 {
     lay_attempts(MAX_ATTEMPTS, seed, alpha, beta, x, y, tiles, offsets, list)
 }
@@ -229,7 +253,13 @@ pub fn lay_checkpoints(
     offsets: &mut [u32],
     list: &mut [u32],
 ) -> Laid
-    ensures { λ r. ⌜ outcome r (lent (now (alpha .exit)) (now (beta .exit)) (now (x .exit)) (now (y .exit)) (now (tiles .exit)) (now (offsets .exit)) (now (list .exit))) ≡ layOnCall cs (lent (now (alpha .entry)) (now (beta .entry)) (now (x .entry)) (now (y .entry)) (now (tiles .entry)) (now (offsets .entry)) (now (list .entry))) ⌝ }
+    ensures { λ r. ⌜
+        outcome r (lent (now (alpha .exit)) (now (beta .exit)) (now (x .exit)) (now (y .exit)) (now (tiles .exit))
+        (now (offsets .exit)) (now (list .exit)))
+        ≡ layOnCall cs
+        (lent (now (alpha .entry)) (now (beta .entry)) (now (x .entry)) (now (y .entry)) (now (tiles .entry))
+        (now (offsets .entry)) (now (list .entry)))
+        ⌝ }
 {
     if !points::roomy(alpha, beta, x, y, tiles, offsets) {
         return Laid::Refused(2);

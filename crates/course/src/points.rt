@@ -109,7 +109,11 @@ pub(crate) fn roomy(
     tiles: &[f64],
     offsets: &[u32],
 ) -> bool
-    ensures { λ r. ⌜ r ≡ roomyOf (now (alpha .entry)) (now (beta .entry)) (now (x .entry)) (now (y .entry)) (now (tiles .entry)) (now (offsets .entry)) ⌝ }
+    ensures { λ r. ⌜
+        r
+        ≡ roomyOf (now (alpha .entry)) (now (beta .entry)) (now (x .entry)) (now (y .entry)) (now (tiles .entry))
+        (now (offsets .entry))
+        ⌝ }
 {
     let a = MOST_POINTS <= alpha.len();
     let b = MOST_POINTS <= beta.len();
@@ -166,7 +170,13 @@ pub(crate) fn finish(
 ) -> Laid
     requires { ⌜ (0 < n) × (n ≤ mostPoints) ⌝ }
     requires { ⌜ Roomy (now alpha) (now beta) (now x) (now y) (now tiles) (now offsets) ⌝ }
-    ensures { λ r. ⌜ outcome r (lent (now (alpha .exit)) (now (beta .exit)) (now (x .exit)) (now (y .exit)) (now (tiles .exit)) (now (offsets .exit)) (now (list .exit))) ≡ layInto fallback (pointsOf (now (beta .entry)) (now (x .entry)) (now (y .entry)) n) (lent (now (alpha .entry)) (now (beta .entry)) (now (x .entry)) (now (y .entry)) (now (tiles .entry)) (now (offsets .entry)) (now (list .entry))) ⌝ }
+    ensures { λ r. ⌜
+        outcome r (lent (now (alpha .exit)) (now (beta .exit)) (now (x .exit)) (now (y .exit)) (now (tiles .exit))
+        (now (offsets .exit)) (now (list .exit)))
+        ≡ layInto fallback (pointsOf (now (beta .entry)) (now (x .entry)) (now (y .entry)) n)
+        (lent (now (alpha .entry)) (now (beta .entry)) (now (x .entry)) (now (y .entry)) (now (tiles .entry))
+        (now (offsets .entry)) (now (list .entry)))
+        ⌝ }
 {
     let first = tiles::point_at(beta, x, y, 0);
     let m = n * 8;
@@ -224,7 +234,13 @@ pub fn points(
     offsets: &mut [u32],
     list: &mut [u32],
 ) -> Laid
-    ensures { λ r. ⌜ outcome r (lent (now (alpha .exit)) (now (beta .exit)) (now (x .exit)) (now (y .exit)) (now (tiles .exit)) (now (offsets .exit)) (now (list .exit))) ≡ pointsCall (now (pbeta .entry)) (now (px .entry)) (now (py .entry)) count (lent (now (alpha .entry)) (now (beta .entry)) (now (x .entry)) (now (y .entry)) (now (tiles .entry)) (now (offsets .entry)) (now (list .entry))) ⌝ }
+    ensures { λ r. ⌜
+        outcome r (lent (now (alpha .exit)) (now (beta .exit)) (now (x .exit)) (now (y .exit)) (now (tiles .exit))
+        (now (offsets .exit)) (now (list .exit)))
+        ≡ pointsCall (now (pbeta .entry)) (now (px .entry)) (now (py .entry)) count
+        (lent (now (alpha .entry)) (now (beta .entry)) (now (x .entry)) (now (y .entry)) (now (tiles .entry))
+        (now (offsets .entry)) (now (list .entry)))
+        ⌝ }
 {
     let n = count as usize;
     let room = roomy(alpha, beta, x, y, tiles, offsets);

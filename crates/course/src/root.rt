@@ -157,7 +157,9 @@ fn tested(s: u64, e: u64, d: u64) -> Verdict
 
 // The root of n * 4^27 where s * 2^22 + d is not it: one of the neighbours, or else by digits.
 fn mended(n: u64, s: u64, e: u64, d: u64) -> Root
-    requires { ⌜ (n < 18014398509481984) × (s * s + e ≡ n * 1024) × (s < 4294967296) × (e < 137438953472) × (d < 268435456) ⌝ }
+    requires { ⌜
+        (n < 18014398509481984) × (s * s + e ≡ n * 1024) × (s < 4294967296) × (e < 137438953472) × (d < 268435456)
+        ⌝ }
     ensures { λ r. ⌜ Leaves (n * 18014398509481984) (r .whole) (r .left) ⌝ }
 {
     let below = std::num::wrapping_sub_u64(d, 1) % 0x1000_0000;

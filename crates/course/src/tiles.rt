@@ -103,7 +103,11 @@ pub(crate) fn put_quad(tiles: &mut [f64], at: usize, q: [[f64; 2]; 4])
 pub(crate) fn write_tiles(beta: &[f64], x: &[f64], y: &[f64], n: usize, tiles: &mut [f64])
     requires { ⌜ (n ≤ length (now beta)) × (n ≤ length (now x)) × (n ≤ length (now y)) ⌝ }
     requires { ⌜ n * 8 ≤ length (now tiles) ⌝ }
-    ensures { λ r. ⌜ now (tiles .exit) ≡ tilesTo (pointsOf (now (beta .entry)) (now (x .entry)) (now (y .entry)) n) n ++ drop (n * 8) (now (tiles .entry)) ⌝ }
+    ensures { λ r. ⌜
+        now (tiles .exit)
+        ≡ tilesTo (pointsOf (now (beta .entry)) (now (x .entry)) (now (y .entry)) n) n
+        ++ drop (n * 8) (now (tiles .entry))
+        ⌝ }
 {
     if n == 0 {
         return;

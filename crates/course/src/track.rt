@@ -63,7 +63,12 @@ pub(crate) fn cut(alpha: &[f64], beta: &[f64], x: &[f64], y: &[f64], len: usize)
     requires { ⌜ (0 < len) × (len ≤ mostPoints) ⌝ }
     requires { ⌜ (mostPoints ≤ length (now alpha)) × (mostPoints ≤ length (now beta)) ⌝ }
     requires { ⌜ (mostPoints ≤ length (now x)) × (mostPoints ≤ length (now y)) ⌝ }
-    ensures { λ r. ⌜ ((ps : List TrackStep) → length ps ≡ len → Front ps (now (alpha .entry)) (now (beta .entry)) (now (x .entry)) (now (y .entry)) → Cut ps (r .from) (r .n)) ⌝ }
+    ensures { λ r. ⌜
+        ((ps : List TrackStep)
+        → length ps ≡ len
+        → Front ps (now (alpha .entry)) (now (beta .entry)) (now (x .entry)) (now (y .entry))
+        → Cut ps (r .from) (r .n))
+        ⌝ }
     ensures { λ r. ⌜ r .from + r .n ≤ len ⌝ }
 {
     let top = len - 1;

@@ -45,7 +45,10 @@ pub(crate) fn walk_round(
     requires { ⌜ mostPoints ≤ length (now beta) ⌝ }
     requires { ⌜ mostPoints ≤ length (now x) ⌝ }
     requires { ⌜ mostPoints ≤ length (now y) ⌝ }
-    ensures { λ r. ⌜ Trod cs (now (alpha .entry)) (now (beta .entry)) (now (x .entry)) (now (y .entry)) (now (alpha .exit)) (now (beta .exit)) (now (x .exit)) (now (y .exit)) (r .n) (r .ok) ⌝ }
+    ensures { λ r. ⌜
+        Trod cs (now (alpha .entry)) (now (beta .entry)) (now (x .entry)) (now (y .entry))
+        (now (alpha .exit)) (now (beta .exit)) (now (x .exit)) (now (y .exit)) (r .n) (r .ok)
+        ⌝ }
 {
     let mut w = start();
     let mut t = trig::quarter_turns(w.beta);
