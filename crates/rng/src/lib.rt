@@ -66,6 +66,13 @@ impl SplitMix64 {
         SplitMix64::new(0xCA75_EED0 ^ (seed as u64))
     }
 
+    // The state, by which `new` makes the same generator again.
+    pub fn state(self) -> u64
+        ensures { λ r. ⌜ r ≡ self .state ⌝ }
+    {
+        self.state
+    }
+
     // The next draw: 64 bits.
     pub fn next_u64(self) -> Draw
         ensures { λ r. ⌜ r ≡ drawOf self ⌝ }
