@@ -10,9 +10,9 @@ use native.Mathlib.Numerals.{add-one}
 use native.Mathlib.Omega.{arith}
 use lib.Ieee.{Float}
 use Rattle.course.specs.declared.index.Rect.{Rect}
-use Rattle.course.specs.Index.{start, offsetsOf, indexOf, pickList}
+use Rattle.course.specs.Index.{start, offsetsOf, indexOf}
 use Rattle.course.specs.Rect.{rectOf, holds, holdsOf, areaOf, needed}
-use Rattle.course.specs.IndexSteps.{Small, Built}
+use Rattle.course.specs.IndexSteps.{Small, Built, pickList}
 use Rattle.course.proofs.Cells.{cell-high}
 use Rattle.course.proofs.IndexLaws.{start-tile, start-no-tile, heldBelow}
 use Rattle.course.proofs.Rects.{held-area, area-small}

@@ -11,8 +11,8 @@ use borrow.Author.Tests.{leb-true, lt-ltb}
 use native.Mathlib.Decide.{decLt}
 use lib.Ieee.{Float}
 use Rattle.course.specs.Rect.{holdsOf, needed}
-use Rattle.course.specs.IndexSteps.{Built}
-use Rattle.course.specs.Index.{offsetsOf, indexOf, pickList}
+use Rattle.course.specs.IndexSteps.{Built, pickList}
+use Rattle.course.specs.Index.{offsetsOf, indexOf}
 use Rattle.course.proofs.IndexLaws.{index-length}
 use Rattle.course.proofs.CourseRects.{needed-start, needed-small}
 use Rattle.course.specs.Arithmetic.{nought}

@@ -13,9 +13,9 @@ use lib.Ieee.Fits.{down-pos, eq→eqb, nan-fits, inf-fits}
 use lib.Ieee.Bits.{ofBits-toBits}
 use lib.Ieee.Exact.{HasValue, units-val}
 use lib.Ieee.Positive.{positive, value-pos, values-of-le}
-use Rattle.course.specs.Root.{inUnits, wholeRoot, nearWhole, nearestRoot, sqrtOf}
+use Rattle.course.specs.Root.{inUnits, wholeRoot, nearestRoot, sqrtOf}
 use Rattle.course.specs.Nearest.{plain, operand, halfway, Nearest}
-use Rattle.course.specs.RootSteps.{unitsOf}
+use Rattle.course.specs.RootSteps.{unitsOf, nearWhole}
 use Rattle.course.proofs.WholeRoot.{IsRoot, root-law, square-next, square-twice, square-digit, Cmp, cmp}
 use Rattle.course.proofs.RootScale.{nearWhole-is, scaled-root, near-high, near-low, in-range, units-fits, toBits-val, root-high, joined}
 use Rattle.course.proofs.RootFields.{fields-value, from-fields, at-ones, sqrt-value}

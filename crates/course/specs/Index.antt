@@ -35,10 +35,6 @@ table f (suc k) = table f k ++ (f k ∷ [])
 abbrev pub offsetsOf : (ℕ → ℕ → Bool) → ℕ → ℕ → List ℕ
 offsetsOf h n cells = table (start h n) (cells + 1)
 
-abbrev pub pickList : Bool → List ℕ → List ℕ → List ℕ
-pickList true a b = a
-pickList false a b = b
-
 -- the offsets have cell c, do not fall there and do not pass the list
 unfoldable pub partOk : List ℕ → List ℕ → ℕ → Bool
 partOk offsets list c =

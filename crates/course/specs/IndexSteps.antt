@@ -9,7 +9,7 @@ use lib.ListN.{length, getD, drop}
 use lib.Dec.{T, ltb}
 use lib.Ieee.{Float, nan, isNan, binary64, toBits}
 use Rattle.course.specs.Lengths.{cellCount, mostPoints, offsetCount}
-use Rattle.course.specs.Index.{listed, start, pickList, offsetsOf, indexOf}
+use Rattle.course.specs.Index.{listed, start, offsetsOf, indexOf}
 use Rattle.course.specs.Rect.{rectOf, holds, holdsOf, needed}
 use Rattle.course.specs.declared.index.Rect.{Rect}
 
@@ -80,6 +80,11 @@ pub record Small (r : Rect) : Type 0 where
   pub bottom : r .y0 ≤ 66
   pub right : r .x1 ≤ 66
   pub top : r .y1 ≤ 66
+
+-- the first of two lists where a test holds, else the second
+abbrev pub pickList : Bool → List ℕ → List ℕ → List ℕ
+pickList true a b = a
+pickList false a b = b
 
 -- the columns after the builder: where the list is too short (cause 3), as before; else the index, and what stood past it
 pub record Built (tiles : List Float) (n : ℕ) (o l o′ l′ : List ℕ) (short : Bool) (need : ℕ) : Type 0 where

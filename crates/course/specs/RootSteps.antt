@@ -1,6 +1,8 @@
--- The fields of an f64's bits as a number, that number as 53 digits and a power of two, and a root with what it leaves. Only private functions of `root` cite these. Assumes nothing.
+-- The fields of an f64's bits as a number, that number as 53 digits and a power of two, a root with what it leaves, and the nearest whole number. Only private functions of `root` and laws cite these. Assumes nothing.
 use mathlib.Core.Path.{_≡_}
-use Prim.Native.Nat.{ℕ, zero, suc, _+_, _-_, _*_, _/_, _%_, _^_, _≤_, _<_}
+use Prim.Native.Nat.{ℕ, zero, suc, _+_, _-_, _*_, _/_, _%_, _^_, _≤_, _<_, compare}
+use lib.Ieee.{nearest}
+use Rattle.course.specs.Root.{wholeRoot}
 
 -- the number of 2 ^ -1074 that the exponent's field and the digits below the leading one stand for
 abbrev pub unitsOf : ℕ → ℕ → ℕ
@@ -26,3 +28,9 @@ pub record Scaled (n b k : ℕ) : Type 0 where
 pub record Leaves (n w l : ℕ) : Type 0 where
   pub sum : w * w + l ≡ n
   pub less : l ≤ 2 * w
+
+-- The whole number nearest to the root of n, which lies between r and r + 1. Halfway is (2 * r + 1) / 2: four times its square stands beside four times n.
+-- `nearest` takes r below it, r + 1 above it, and the even one at it.
+unfoldable pub nearWhole : ℕ → ℕ
+unfolding wholeRoot
+nearWhole n = let r = wholeRoot n in nearest r (compare (4 * n) ((2 * r + 1) * (2 * r + 1)))
