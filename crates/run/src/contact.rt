@@ -36,7 +36,11 @@ fn touch_sets(
 )
     requires { ⌜ Room 4 n (now tiles) (now tested) (now wheels) ⌝ }
     requires { ⌜ Looked (now offsets) (now list) n (sixteenCells poses) (now cells) ⌝ }
-    ensures { λ _. ⌜ now (wheels .exit) ≡ wheelSets (length (now (tested .entry))) (λ w. touchedBy (now (tiles .entry)) (now (offsets .entry)) (now (list .entry)) (quadOf poses w)) 4 ⌝ }
+    ensures { λ _. ⌜
+        now (wheels .exit)
+        ≡ wheelSets (length (now (tested .entry)))
+        (λ w. touchedBy (now (tiles .entry)) (now (offsets .entry)) (now (list .entry)) (quadOf poses w)) 4
+        ⌝ }
 {
     let m = tested.len();
     let mut w: usize = 0;
@@ -60,7 +64,11 @@ fn touch_sets(
 // What one wheel entered is credited: what is in its set now and was not in that before.
 fn credit_set(credited: &mut [u64], before: &[u64], wheel: &[u64], n: usize) -> Contact
     requires { ⌜ Creditable (length (now credited)) n (now before) (now wheel) ⌝ }
-    ensures { λ r. ⌜ credits (now (credited .exit)) (r .fresh) (r .zero) ≡ creditsOf (now (credited .entry)) (λ t. member (now (wheel .entry)) t && not (member (now (before .entry)) t)) ⌝ }
+    ensures { λ r. ⌜
+        credits (now (credited .exit)) (r .fresh) (r .zero)
+        ≡ creditsOf (now (credited .entry))
+        (λ t. member (now (wheel .entry)) t && not (member (now (before .entry)) t))
+        ⌝ }
 {
     let zero = words::has(wheel, 0) & !words::has(before, 0);
     let fresh = words::credit(credited, before, wheel, n);
@@ -70,7 +78,11 @@ fn credit_set(credited: &mut [u64], before: &[u64], wheel: &[u64], n: usize) -> 
 // What the four wheels entered is credited.
 fn credit_sets(credited: &mut [u64], before: &[u64], wheels: &[u64], n: usize) -> Contact
     requires { ⌜ AllCreditable (length (now credited)) n (now before) (now wheels) ⌝ }
-    ensures { λ r. ⌜ credits (now (credited .exit)) (r .fresh) (r .zero) ≡ creditsOf (now (credited .entry)) (enteredSince (length (now (credited .entry))) (now (before .entry)) (now (wheels .entry))) ⌝ }
+    ensures { λ r. ⌜
+        credits (now (credited .exit)) (r .fresh) (r .zero)
+        ≡ creditsOf (now (credited .entry))
+        (enteredSince (length (now (credited .entry))) (now (before .entry)) (now (wheels .entry)))
+        ⌝ }
 {
     let m = credited.len();
     let mut fresh: u32 = 0;
@@ -99,8 +111,17 @@ pub(crate) fn full_contact(
     wheels: &mut [u64; WHEEL_WORDS],
 ) -> Contact
     requires { ⌜ now cells ≡ sixteenCells poses ⌝ }
-    requires { ⌜ (0 < n) × (n ≤ mostTiles) × (n * 8 ≤ length (now tiles)) × (soundPoses (now offsets) (now list) n poses ≡ true) ⌝ }
-    ensures { λ r. ⌜ contacted (now (credited .exit)) (now (wheels .exit)) (r .fresh) (r .zero) ≡ contactOf fullWords (now (credited .entry)) (now (wheels .entry)) (λ w. touchedBy (now (tiles .entry)) (now (offsets .entry)) (now (list .entry)) (quadOf poses w)) ⌝ }
+    requires { ⌜
+        (0 < n)
+        × (n ≤ mostTiles)
+        × (n * 8 ≤ length (now tiles))
+        × (soundPoses (now offsets) (now list) n poses ≡ true)
+        ⌝ }
+    ensures { λ r. ⌜
+        contacted (now (credited .exit)) (now (wheels .exit)) (r .fresh) (r .zero)
+        ≡ contactOf fullWords (now (credited .entry)) (now (wheels .entry))
+        (λ w. touchedBy (now (tiles .entry)) (now (offsets .entry)) (now (list .entry)) (quadOf poses w))
+        ⌝ }
 {
     let mut tested = [0u64; FULL_WORDS];
     let before = *wheels;

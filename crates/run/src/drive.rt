@@ -283,7 +283,9 @@ pub fn drive_parts(
 
 // Forces for the host, or the number of a cause and the state as it was.
 pub fn drive(run: Run, action: u32, motion: [Motion; 4]) -> Drove
-    ensures { λ r. ⌜ driven (r .answer) (r .forces) (view (r .run)) ≡ driveOf fullWords mostTiles (view run) action motion ⌝ }
+    ensures { λ r. ⌜
+        driven (r .answer) (r .forces) (view (r .run)) ≡ driveOf fullWords mostTiles (view run) action motion
+        ⌝ }
 {
     let setup = run.setup;
     let credited = run.credited;

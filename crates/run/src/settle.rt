@@ -59,7 +59,11 @@ fn settle_cause(
     cells: &[usize],
 ) -> u32
     requires { ⌜ now cells ≡ sixteenCells poses ⌝ }
-    ensures { λ r. ⌜ r ≡ settleCause most setup progress (columns (now (tiles .entry)) (now (offsets .entry)) (now (list .entry))) x y poses ⌝ }
+    ensures { λ r. ⌜
+        r
+        ≡ settleCause most setup progress (columns (now (tiles .entry)) (now (offsets .entry)) (now (list .entry))) x
+        y poses
+        ⌝ }
 {
     if state::is_unfit(most, setup, progress) | progress.ended {
         return 4;
@@ -112,7 +116,11 @@ pub fn settle_parts(
     y: f64,
     poses: [Pose; 4],
 ) -> Settling
-    ensures { λ r. ⌜ settledParts (r .answer) (r .progress) (now (credited .exit)) (now (wheels .exit)) ≡ settlePartsOf fullWords mostTiles setup progress (now (credited .entry)) (now (wheels .entry)) (columns (now (tiles .entry)) (now (offsets .entry)) (now (list .entry))) x y poses ⌝ }
+    ensures { λ r. ⌜
+        settledParts (r .answer) (r .progress) (now (credited .exit)) (now (wheels .exit))
+        ≡ settlePartsOf fullWords mostTiles setup progress (now (credited .entry)) (now (wheels .entry))
+        (columns (now (tiles .entry)) (now (offsets .entry)) (now (list .entry))) x y poses
+        ⌝ }
 {
     let cells = quad::wheel_cells(poses);
     let k = settle_cause(
@@ -168,7 +176,11 @@ pub fn settle(
     y: f64,
     poses: [Pose; 4],
 ) -> Settlement
-    ensures { λ r. ⌜ done (r .answer) (view (r .run)) ≡ settleOf fullWords mostTiles (view run) (columns (now (tiles .entry)) (now (offsets .entry)) (now (list .entry))) x y poses ⌝ }
+    ensures { λ r. ⌜
+        done (r .answer) (view (r .run))
+        ≡ settleOf fullWords mostTiles (view run)
+        (columns (now (tiles .entry)) (now (offsets .entry)) (now (list .entry))) x y poses
+        ⌝ }
 {
     let setup = run.setup;
     let car = run.car;

@@ -60,7 +60,11 @@ fn start_cause(
     cells: &[usize],
 ) -> u32
     requires { ⌜ now cells ≡ sixteenCells poses ⌝ }
-    ensures { λ r. ⌜ r ≡ startCause most (columns (now (tiles .entry)) (now (offsets .entry)) (now (list .entry))) (record { n = n; fallback = fallback; share = share; limit = limit; poses = poses }) ⌝ }
+    ensures { λ r. ⌜
+        r
+        ≡ startCause most (columns (now (tiles .entry)) (now (offsets .entry)) (now (list .entry)))
+        (record { n = n; fallback = fallback; share = share; limit = limit; poses = poses })
+        ⌝ }
 {
     if !settings_ok(share, limit) {
         return 1;
@@ -141,7 +145,11 @@ pub fn start(
     limit: u32,
     poses: [Pose; 4],
 ) -> Started
-    ensures { λ r. ⌜ begun (r .answer) (view (r .run)) ≡ startOf fullWords mostTiles (columns (now (tiles .entry)) (now (offsets .entry)) (now (list .entry))) (record { n = n; fallback = fallback; share = share; limit = limit; poses = poses }) ⌝ }
+    ensures { λ r. ⌜
+        begun (r .answer) (view (r .run))
+        ≡ startOf fullWords mostTiles (columns (now (tiles .entry)) (now (offsets .entry)) (now (list .entry)))
+        (record { n = n; fallback = fallback; share = share; limit = limit; poses = poses })
+        ⌝ }
 {
     let cells = quad::wheel_cells(poses);
     let k = start_cause(

@@ -66,7 +66,11 @@ fn is_again(cells: &[usize], i: usize) -> bool
 // Cell i may be looked up, or the cell before it is the same.
 fn next_sound(offsets: &[u32], list: &[u32], n: usize, cells: &[usize], i: usize) -> bool
     requires { ⌜ i < length (now cells) ⌝ }
-    ensures { λ r. ⌜ r ≡ (again (now (cells .entry)) i || soundCell (now (offsets .entry)) (now (list .entry)) n (getD (now (cells .entry)) i 0)) ⌝ }
+    ensures { λ r. ⌜
+        r
+        ≡ (again (now (cells .entry)) i
+        || soundCell (now (offsets .entry)) (now (list .entry)) n (getD (now (cells .entry)) i 0))
+        ⌝ }
 {
     if is_again(cells, i) {
         return true;
@@ -99,7 +103,10 @@ fn touch_one(
 )
     requires { ⌜ Room 1 (id + 1) (now tiles) (now tested) (now touched) ⌝ }
     requires { ⌜ side ≡ firstSide q ⌝ }
-    ensures { λ _. ⌜ Tests (overlapsTile q (now (tiles .entry))) (λ t. eqb t id) (now (tested .entry)) (now (touched .entry)) (now (tested .exit)) (now (touched .exit)) ⌝ }
+    ensures { λ _. ⌜
+        Tests (overlapsTile q (now (tiles .entry))) (λ t. eqb t id) (now (tested .entry)) (now (touched .entry))
+        (now (tested .exit)) (now (touched .exit))
+        ⌝ }
 {
     if words::has(tested, id) {
         return;
@@ -123,7 +130,10 @@ fn touch_ids(
 )
     requires { ⌜ Room 1 n (now tiles) (now tested) (now touched) ⌝ }
     requires { ⌜ (everyOf (λ t. ltb t n) (now ids) ≡ true) × (side ≡ firstSide q) ⌝ }
-    ensures { λ _. ⌜ Tests (overlapsTile q (now (tiles .entry))) (lists (now (ids .entry))) (now (tested .entry)) (now (touched .entry)) (now (tested .exit)) (now (touched .exit)) ⌝ }
+    ensures { λ _. ⌜
+        Tests (overlapsTile q (now (tiles .entry))) (lists (now (ids .entry))) (now (tested .entry))
+        (now (touched .entry)) (now (tested .exit)) (now (touched .exit))
+        ⌝ }
 {
     let mut i: usize = 0;
     while i < ids.len() {
@@ -147,7 +157,11 @@ pub(crate) fn touch_quad(
 )
     requires { ⌜ Room 1 n (now tiles) (now tested) (now touched) ⌝ }
     requires { ⌜ Looked (now offsets) (now list) n (boxCells q) (now cells) ⌝ }
-    ensures { λ _. ⌜ now (touched .exit) ≡ setOf (length (now (tested .entry))) (touchedBy (now (tiles .entry)) (now (offsets .entry)) (now (list .entry)) q) ⌝ }
+    ensures { λ _. ⌜
+        now (touched .exit)
+        ≡ setOf (length (now (tested .entry)))
+        (touchedBy (now (tiles .entry)) (now (offsets .entry)) (now (list .entry)) q)
+        ⌝ }
 {
     let side = quad::first_side(q);
     words::clear(tested);

@@ -20,7 +20,9 @@ pub(crate) fn has(set: &[u64], id: usize) -> bool
 // The set with a tile more.
 pub(crate) fn put(set: &mut [u64], id: usize)
     requires { ⌜ id < 64 * length (now set) ⌝ }
-    ensures { λ _. ⌜ now (set .exit) ≡ setOf (length (now (set .entry))) (λ t. member (now (set .entry)) t || eqb t id) ⌝ }
+    ensures { λ _. ⌜
+        now (set .exit) ≡ setOf (length (now (set .entry))) (λ t. member (now (set .entry)) t || eqb t id)
+        ⌝ }
 {
     set[id / 64] = set[id / 64] | (1u64 << (id % 64));
 }
@@ -41,8 +43,17 @@ pub(crate) fn clear(set: &mut [u64])
 pub(crate) fn credit(credited: &mut [u64], last: &[u64], cur: &[u64], n: usize) -> u32
     requires { ⌜ Creditable (length (now credited)) n (now last) (now cur) ⌝ }
     requires { ⌜ ((j : ℕ) → getD (now credited) j 0 < 2 ^ 64) ⌝ }
-    ensures { λ r. ⌜ now (credited .exit) ≡ setOf (length (now (credited .entry))) (λ t. member (now (credited .entry)) t || (member (now (cur .entry)) t && not (member (now (last .entry)) t))) ⌝ }
-    ensures { λ r. ⌜ r ≡ howMany (64 * length (now (credited .entry))) (λ t. (member (now (cur .entry)) t && not (member (now (last .entry)) t)) && not (member (now (credited .entry)) t)) ⌝ }
+    ensures { λ r. ⌜
+        now (credited .exit)
+        ≡ setOf (length (now (credited .entry)))
+        (λ t. member (now (credited .entry)) t || (member (now (cur .entry)) t && not (member (now (last .entry)) t)))
+        ⌝ }
+    ensures { λ r. ⌜
+        r
+        ≡ howMany (64 * length (now (credited .entry)))
+        (λ t. (member (now (cur .entry)) t && not (member (now (last .entry)) t))
+        && not (member (now (credited .entry)) t))
+        ⌝ }
 {
     let end = (n + 63) / 64;
     let mut fresh: u32 = 0;
