@@ -6,7 +6,7 @@ use native.Mathlib.Omega.{arith}
 use lib.ListN.{length, getD, drop, drop-of-length-le}
 use lib.Seq.{drop-cons}
 use lib.Ieee.{Float, nan}
-use Rattle.run.specs.Replay.{numberAt}
+use Rattle.certificate.specs.Replay.{numberAt}
 use Rattle.run.specs.declared.state.WheelCtl.{WheelCtl}
 use Rattle.run.specs.declared.state.Car.{Car}
 use Rattle.abi.specs.Lent.{carLong, wheelFrom, carFrom, carNumbers}

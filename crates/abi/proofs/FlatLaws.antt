@@ -16,8 +16,8 @@ use Rattle.run.specs.State.{view, Columns}
 use Rattle.run.specs.Start.{Begun, begun, startCauseOf, startValuesOf}
 use Rattle.run.specs.Drive.{driveCauseOf, drivePartsOf}
 use Rattle.run.specs.Settle.{settleCauseOf, settleValuesOf, SettledParts, settledParts, settlePartsOf}
-use Rattle.run.specs.Replay.{motionsFrom, forceNumbers}
-use Rattle.run.specs.Batch.{Replay, replay}
+use Rattle.certificate.specs.Replay.{motionsFrom, forceNumbers}
+use Rattle.certificate.specs.Batch.{Replay, replay}
 use Rattle.run.specs.declared.state.Run.{Run}
 use Rattle.run.specs.declared.state.Setup.{Setup}
 use Rattle.run.specs.declared.state.Progress.{Progress}

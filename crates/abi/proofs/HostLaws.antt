@@ -11,9 +11,9 @@ use Rattle.run.specs.Pass.{gatheredOf, passOf, stillCar}
 use Rattle.run.specs.Drive.{driveAnswer, driveCauseOf, driveCause, driveAt, drivePartsOf, driveOf}
 use Rattle.run.specs.Settle.{settleAnswer, settleCauseOf, settleValuesOf, settleCause, settledBy, settleAt, settlePartsOf, settleOf}
 use Rattle.run.specs.Start.{zeroState, startedBy, startAt, startOf}
-use Rattle.run.specs.Answers.{Answer}
-use Rattle.run.specs.Calls.{Call, Replied, replyOf, repliesOf, stateAfter}
-use Rattle.run.specs.Replay.{motionsFrom, forceNumbers, forceFrom}
+use Rattle.certificate.specs.Answers.{Answer}
+use Rattle.certificate.specs.Calls.{Call, Replied, replyOf, repliesOf, stateAfter}
+use Rattle.certificate.specs.Replay.{motionsFrom, forceNumbers, forceFrom}
 use Rattle.run.specs.declared.state.Setup.{Setup}
 use Rattle.run.specs.declared.state.Progress.{Progress}
 use Rattle.run.specs.declared.state.Pose.{Pose}

@@ -16,7 +16,7 @@ use Rattle.run.specs.Start.{Begun, startCauseOf, startValuesOf}
 use Rattle.run.specs.Drive.{driveCauseOf}
 use Rattle.run.specs.Settle.{settleCauseOf, settleValuesOf}
 use Rattle.run.specs.Sheet.{sheetCauseOf, sheetFiguresOf}
-use Rattle.run.specs.Batch.{Replay}
+use Rattle.certificate.specs.Batch.{Replay}
 use Rattle.run.specs.declared.state.Run.{Run}
 use Rattle.run.specs.declared.start.StartAnswer.{StartAnswer}
 use Rattle.run.specs.declared.state.Progress.{Progress}

@@ -7,10 +7,10 @@ use Prim.Native.Nat.{ℕ}
 use lib.Dec.{eqb}
 use lib.Ieee.{Float}
 use Rattle.run.specs.State.{State, stateOf, Columns}
-use Rattle.run.specs.Answers.{Answer}
-use Rattle.run.specs.Answers.Answer.{drove, settled, refused}
-use Rattle.run.specs.Calls.{Call}
-use Rattle.run.specs.Replay.{motionsFrom, forceFrom}
+use Rattle.certificate.specs.Answers.{Answer}
+use Rattle.certificate.specs.Answers.Answer.{drove, settled, refused}
+use Rattle.certificate.specs.Calls.{Call}
+use Rattle.certificate.specs.Replay.{motionsFrom, forceFrom}
 use Rattle.run.specs.declared.state.Setup.{Setup}
 use Rattle.run.specs.declared.state.Progress.{Progress}
 use Rattle.run.specs.declared.state.Pose.{Pose}

@@ -9,7 +9,7 @@ use Rattle.run.specs.State.{Columns}
 use Rattle.run.specs.Pass.{ctlAt}
 use Rattle.run.specs.Drive.{driveCauseOf, drivePartsOf}
 use Rattle.run.specs.Settle.{settlePartsOf}
-use Rattle.run.specs.Replay.{numberAt, motionsFrom, forceNumbers}
+use Rattle.certificate.specs.Replay.{numberAt, motionsFrom, forceNumbers}
 use Rattle.run.specs.declared.state.WheelCtl.{WheelCtl}
 use Rattle.run.specs.declared.state.Setup.{Setup}
 use Rattle.run.specs.declared.state.Progress.{Progress}

@@ -1,8 +1,8 @@
 // The lines of answers.
 ghost use Prim.Native.Nat.{_≤_};
+use certificate::replay::ANSWER_NUMBERS;
+use certificate::replay::ANSWER_WORDS;
 use course::points::Laid;
-use run::replay::ANSWER_NUMBERS;
-use run::replay::ANSWER_WORDS;
 use run::sheet::RunSheet;
 use run::sheet::SheetAnswer;
 use run::start::StartAnswer;

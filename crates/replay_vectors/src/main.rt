@@ -1,5 +1,5 @@
-// Replays stored logs of whole runs over the crate run: a seed's course, a start on it and a list of drives and settles,
-// in one call.
+// Replays stored logs of whole runs over the crate certificate: a seed's course, a start on it and a list of drives and
+// settles, in one call.
 //
 // The list is ../stdin and the answers are ../stdout. Both are made by `host/compare/write replay`, whose module
 // host/compare/lists/replay.rs takes the answers from the Rust and, where the Rust has none, from document 01. A record of
@@ -11,8 +11,8 @@
 mod line;
 mod read;
 
-use run::replay;
-use run::replay::Replayed;
+use certificate::replay;
+use certificate::replay::Replayed;
 use vectors::front;
 
 // What stands in each place of a column before a call.

@@ -3,8 +3,8 @@
 // answered numbers, how many calls stand in the record; then the words of these, four to a call, and their numbers, twenty
 // to a call.
 ghost use Prim.Native.Nat.{_≤_};
-use run::replay::CALL_NUMBERS;
-use run::replay::CALL_WORDS;
+use certificate::replay::CALL_NUMBERS;
+use certificate::replay::CALL_WORDS;
 use run::state::Pose;
 
 const REPLAY: u64 = 1;

@@ -17,12 +17,3 @@ pub mod Examples
 pub mod SheetLaws
 pub mod PlainContact
 pub mod SetMembers
-pub mod ScoreLaws
-pub mod Simulation
-pub mod LaidTouch
-pub mod LentColumns
-pub mod Certificate
-pub mod BatchLaws
-pub mod ReplayLaws
-pub mod Worked
-pub mod ReadBack

@@ -18,11 +18,4 @@ pub mod Drive
 pub mod DriveSteps
 pub mod Reward
 pub mod Sheet
-pub mod Answers
-pub mod Scorer
-pub mod Calls
-pub mod Certificate
-pub mod Replay
-pub mod ReplaySteps
-pub mod Batch
 pub mod Examples

@@ -2,14 +2,11 @@
 //
 // Every function here is proved, and the crate assumes nothing of its own. No public function has a
 // `requires`. The definitions that the contracts cite stand in specs/, a file for each heading of document 01.
-pub mod answer;
-pub mod call;
 mod contact;
 pub mod drive;
 pub mod dynamics;
 mod lap;
 pub mod quad;
-pub mod replay;
 pub mod reward;
 pub mod settle;
 pub mod sheet;

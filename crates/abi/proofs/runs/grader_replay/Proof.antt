@@ -6,7 +6,7 @@ use Rattle.abi.proofs.runs.grader_replay.Tie as tie
 use Rattle.abi.proofs.runs.grader_replay.Reads as reads
 use Rattle.abi.proofs.runs.grader_replay.Lts as lts
 use Rattle.abi.proofs.flat.replayed.Reads as replayed-reads
-use Rattle.run.proofs.replay.replay.Reads as replay-reads
+use Rattle.certificate.proofs.replay.replay.Reads as replay-reads
 
 replay-requires : tie.Need-replay-requires
 replay-requires c κs = search needs

@@ -1,0 +1,373 @@
+-- What a replay leaves, from what its calls leave: the plain scorer's answers. Assumes nothing.
+use mathlib.Core.Bool.{Bool, true, false, cond, not, _&&_, _||_}
+use mathlib.Core.List.{List, [], _∷_, _++_, map-append}
+use mathlib.Core.Path.{_≡_, refl, sym, ap, ap₂, _∙_, subst}
+use Prim.Native.Nat.{ℕ, zero, suc, _*_, _≤_, _<_, min}
+use native.Mathlib.Numerals.{add-one}
+use native.Mathlib.Omega.{arith}
+use lib.Dec.{ltb, leb, eqb}
+use lib.ListN.{length, getD, take, drop, replicate, length-append, length-take, take-append-drop}
+use lib.Seq.{take-take, take-length}
+use lib.Ieee.{Float}
+use borrow.Author.Tests.{ltb-false, leb-true}
+use Rattle.course.specs.Constants.{maxAttempts}
+use Rattle.course.specs.Lengths.{mostNumbers, offsetCount, mostPoints}
+use Rattle.course.specs.Course.{cellsOf}
+use Rattle.course.specs.Lent as course
+use Rattle.course.specs.Lent.{Outcome, layInto, laidFigures, laidAnswer, laidCauseOf, laidValuesOf}
+use Rattle.course.specs.Lay.{CoursePoints, courseOf, layCall}
+use Rattle.course.specs.declared.tiles.TrackPoint.{TrackPoint}
+use Rattle.course.specs.declared.points.Laid.{Laid}
+use Rattle.course.specs.declared.points.LaidCourse.{LaidCourse}
+use Rattle.course.specs.declared.points.Laid.the-variants.{Course as Made, Short, Refused as NotLaid}
+use Rattle.course.proofs.IndexLaws.{and-left, and-right}
+use Rattle.course.proofs.CourseSizes.{course-sized}
+use Rattle.course.proofs.LayLaws.{roomy, lay-cause, lay-course}
+use Rattle.run.specs.Arguments.{settingsOk, shortColumns}
+use Rattle.run.specs.Widths.{fullWords, mostTiles}
+use Rattle.run.specs.State.{State, Columns, columns, shortOf, unfit}
+use Rattle.run.specs.Start.{Settings, startShort, startCause, startAnswer, setupOf, firstProgress, zeroState, Begun, begun, startAt, startOf}
+use Rattle.run.specs.Sheet.{figuresOf, sheetAnswer, noFigures, sheetCause, sheetOf}
+use Rattle.certificate.specs.Calls.{Call, repliesOf, stateAfter}
+use Rattle.certificate.specs.Answers.{Answer}
+use Rattle.certificate.specs.Answers.Answer.{refused}
+use Rattle.certificate.specs.Scorer.{Lengths, Opening, Told, History, touchedCount, lapDone, startNumber, scores, keptOf}
+use Rattle.certificate.specs.Certificate.{Lending, lentBy, lengthsOf, Given, callOf, toldOf, callsOf, toldsOf, startOn, layNumber}
+use Rattle.certificate.specs.Certificate.Lending.{laid, short}
+use Rattle.certificate.specs.Replay.{callWords, callNumbers, answerWords, answerNumbers, allWords, allNumbers, partAt, numberAt, motionsFrom, posesFrom}
+use Rattle.certificate.specs.ReplaySteps.{lentTo, callFrom, callsTo}
+use Rattle.certificate.specs.Batch.{toldFrom, toldsTo, plainStart, plainAnswers, sheetOn, plainSheet, laidCourse, replayOn, roomFor, replayOf}
+use Rattle.run.specs.declared.start.StartAnswer.{StartAnswer}
+use Rattle.run.specs.declared.start.StartAnswer.the-variants.{Refused as NotStarted}
+use Rattle.run.specs.declared.sheet.SheetAnswer.{SheetAnswer}
+use Rattle.run.specs.declared.sheet.SheetAnswer.the-variants.{Refused as NoSheet}
+use Rattle.run.proofs.CallLaws.{or-no}
+use Rattle.certificate.proofs.LentColumns.{laid-whole, count}
+use Rattle.certificate.proofs.Simulation.{Holds, stateOf, fits-state}
+use Rattle.certificate.proofs.Certificate.{zeros-stay, zeros-after, replies-are, after-is, begins, start-same, start-accepted, lent-holds, no-cause}
+
+-- ---- the calls of the columns are calls of the certificate's list
+
+-- a front of a column of which k entries are lent, and the rest of what is lent
+front-of : {A : Type 0} (m k : ℕ) (l : List A) → m ≤ length (take k l) → take m l ++ drop m (take k l) ≡ take k l
+front-of m k l h =
+    ap (λ (x : List _). x ++ drop m (take k l)) (sym (take-take m k l (within m k (length l) (subst (λ (n : ℕ). m ≤ n) (length-take k l) h))))
+    ∙ take-append-drop m (take k l)
+  where
+    within : (m k n : ℕ) → m ≤ min k n → m ≤ k
+    within m k n h = omega arith
+
+module _ (o : Outcome) where
+  abbrev pub columnsOf : Columns
+  columnsOf = columns (o .lent .tiles) (o .lent .offsets) (o .lent .list)
+
+  short-is : (l : Columns) (e : shortOf l ≡ true) → lentBy o (short l e) ≡ l
+  unfolding lentBy
+  short-is l e = refl
+
+  laid-is : (kt ko : ℕ) → shortOf (lentTo columnsOf kt ko) ≡ false
+      → lentBy o (laid (drop mostNumbers (take kt (o .lent .tiles))) (drop offsetCount (take ko (o .lent .offsets))) (drop (laidValuesOf (o .answer) .entries) (o .lent .list))) ≡ lentTo columnsOf kt ko
+  unfolding lentBy lentTo shortOf shortColumns
+  laid-is kt ko e =
+      let p = or-no (ltb (length (take kt (o .lent .tiles))) mostNumbers) (ltb (length (take ko (o .lent .offsets))) offsetCount) e in
+      λ i. columns (front-of mostNumbers kt (o .lent .tiles) (ltb-false _ _ (p .0)) i) (front-of offsetCount ko (o .lent .offsets) (ltb-false _ _ (p .1)) i)
+      (take-append-drop (laidValuesOf (o .answer) .entries) (o .lent .list) i)
+
+  -- parts of the laid columns are the course's with what stands beyond, or too short
+  parts : (kt ko : ℕ) → (by : Lending) × (lentBy o by ≡ lentTo columnsOf kt ko)
+  parts kt ko = go (shortOf (lentTo columnsOf kt ko)) refl
+    where
+      go : (b : Bool) → shortOf (lentTo columnsOf kt ko) ≡ b → (by : Lending) × (lentBy o by ≡ lentTo columnsOf kt ko)
+      go true e = (short (lentTo columnsOf kt ko) e, short-is (lentTo columnsOf kt ko) e)
+      go false e = (
+        laid (drop mostNumbers (take kt (o .lent .tiles))) (drop offsetCount (take ko (o .lent .offsets))) (drop (laidValuesOf (o .answer) .entries) (o .lent .list)),
+        laid-is kt ko e,
+      )
+
+  -- the lengths that the plain scorer is told
+  module _ (k : Lengths) (same-tiles : length (o .lent .tiles) ≡ k .tiles) (same-offsets : length (o .lent .offsets) ≡ k .offsets) where
+    lengths-are : (kt ko : ℕ) → lengthsOf (lentTo columnsOf kt ko) ≡ record { tiles = min kt (k .tiles); offsets = min ko (k .offsets) }
+    unfolding lengthsOf lentTo
+    lengths-are kt ko = λ i.
+        record {
+          tiles = (length-take kt (o .lent .tiles) ∙ ap (min kt) same-tiles) i;
+          offsets = (length-take ko (o .lent .offsets) ∙ ap (min ko) same-offsets) i;
+        }
+
+    -- a call of the list, as grader and scorer meet it
+    abbrev Meant : List ℕ → List Float → Type 0
+    Meant ws ns = (g : Given) × (callOf o g ≡ callFrom columnsOf ws ns) × (toldOf o g ≡ toldFrom k ws ns)
+
+    meant : (ws : List ℕ) (ns : List Float) → Meant ws ns
+    unfolding callOf toldOf callFrom toldFrom
+    meant ws ns = go (eqb (getD ws 0 0) 0) refl
+      where
+        by-parts : (by : Lending) × (lentBy o by ≡ lentTo columnsOf (getD ws 2 0) (getD ws 3 0))
+        by-parts = parts (getD ws 2 0) (getD ws 3 0)
+
+        go : (b : Bool) → eqb (getD ws 0 0) 0 ≡ b → Meant ws ns
+        go true e = (Given.drive (getD ws 1 0) (motionsFrom ns), sym (simp e), sym (simp e))
+        go false e = (
+          Given.settle (by-parts .0) (numberAt ns 0) (numberAt ns 1) (posesFrom ns),
+          ap (λ (l : Columns). Call.settle l (numberAt ns 0) (numberAt ns 1) (posesFrom ns)) (by-parts .1) ∙ sym (simp e),
+          ap (λ (l : Lengths). Told.settle l (numberAt ns 0) (numberAt ns 1) (posesFrom ns)) (ap lengthsOf (by-parts .1) ∙ lengths-are (getD ws 2 0) (getD ws 3 0)) ∙ sym (simp e),
+        )
+
+    pub all-meant : (ws : List ℕ) (ns : List Float) (n : ℕ) → (cs : List Given) × (callsOf o cs ≡ callsTo columnsOf ws ns n) × (toldsOf o cs ≡ toldsTo k ws ns n)
+    unfolding callsTo toldsTo
+    all-meant ws ns zero = ([], refl, refl)
+    all-meant ws ns (suc n) =
+        let r = all-meant ws ns n in
+        let g = meant (partAt callWords ws n) (partAt callNumbers ns n) in (
+          r .0 ++ (g .0 ∷ []),
+          map-append (callOf o) (r .0) (g .0 ∷ []) ∙ ap₂ (λ (x : List Call) (y : Call). x ++ (y ∷ [])) (r .1) (g .1),
+          map-append (toldOf o) (r .0) (g .0 ∷ []) ∙ ap₂ (λ (x : List Told) (y : Told). x ++ (y ∷ [])) (r .2) (g .2),
+        )
+
+-- ---- lengths
+pub calls-many : (l : Columns) (ws : List ℕ) (ns : List Float) (n : ℕ) → length (callsTo l ws ns n) ≡ n
+unfolding callsTo
+calls-many l ws ns zero = refl
+calls-many l ws ns (suc n) = length-append (callsTo l ws ns n) _ ∙ add-one (length (callsTo l ws ns n)) ∙ ap suc (calls-many l ws ns n)
+
+pub tolds-many : (k : Lengths) (ws : List ℕ) (ns : List Float) (n : ℕ) → length (toldsTo k ws ns n) ≡ n
+unfolding toldsTo
+tolds-many k ws ns zero = refl
+tolds-many k ws ns (suc n) = length-append (toldsTo k ws ns n) _ ∙ add-one (length (toldsTo k ws ns n)) ∙ ap suc (tolds-many k ws ns n)
+
+-- ---- a start and the calls after it, by the number of start's cause
+
+-- the sheet of a state
+abbrev pub sheetIn : State → SheetAnswer
+sheetIn s = sheetOf mostTiles (s .setup) (s .progress)
+
+module _ (b : Opening) (k : Lengths) (n : ℕ) (calls : List ℕ) (given : List Float) where
+  abbrev ts : List Told
+  ts = toldsTo k calls given n
+
+  -- what they leave on the course c, lent the columns l: the plain scorer's answers
+  pub record Plain (j : ℕ) (c : CoursePoints) (l : Columns) (sa : StartAnswer) (s : State) : Type 0 where
+    pub start : sa ≡ plainStart j (c .points) b
+    pub answers : repliesOf fullWords mostTiles s (callsTo l calls given n) ≡ plainAnswers j (c .points) b ts
+    pub sheet : sheetIn (stateAfter fullWords mostTiles s (callsTo l calls given n)) ≡ plainSheet j c b ts
+
+  -- a refused start
+  no-sheet : sheetIn (zeroState fullWords) ≡ sheetAnswer 4 noFigures
+  unfolding sheetOf sheetCause sheetAnswer unfit zeroState firstProgress
+  no-sheet = refl
+
+  refused-plain : (j : ℕ) (c : CoursePoints) (l l′ : Columns) (a : Settings) (sa : StartAnswer) (s : State) → begun sa s ≡ startAt fullWords (suc j) l′ a → Plain (suc j) c l sa s
+  unfolding startAt startAnswer plainStart plainAnswers plainSheet
+  refused-plain j c l l′ a sa s e =
+      let es : s ≡ zeroState fullWords = ap (λ (x : Begun). x .state) e in
+      record {
+        start = ap (λ (x : Begun). x .answer) e;
+        answers =
+            ap (λ (x : State). repliesOf fullWords mostTiles x (callsTo l calls given n)) es ∙ zeros-stay fullWords mostTiles (callsTo l calls given n)
+            ∙ ap (λ (x : ℕ). replicate x (refused 4)) (calls-many l calls given n ∙ sym (tolds-many k calls given n));
+        sheet =
+            ap (λ (x : State). sheetIn (stateAfter fullWords mostTiles x (callsTo l calls given n))) es
+            ∙ ap sheetIn (zeros-after fullWords mostTiles (callsTo l calls given n)) ∙ no-sheet;
+      }
+
+  -- ---- no course: every start is refused
+  abbrev nothing : CoursePoints
+  nothing = record { points = []; fallback = false }
+
+  or-yes : (a : Bool) → (a || true) ≡ true
+  or-yes true = refl
+  or-yes false = refl
+
+  none-number : startNumber [] mostTiles k b ≡ cond (not (settingsOk (b .share) (b .limit))) 1 2
+  unfolding startNumber
+  none-number = rw (or-yes (shortColumns (k .tiles) (k .offsets)))
+
+  none-cause : (l : Columns) (fb : Bool) → startCause mostTiles l (record { n = 0; fallback = fb; share = b .share; limit = b .limit; poses = b .poses }) ≡ cond (not (settingsOk (b .share) (b .limit))) 1 2
+  unfolding startCause startShort
+  none-cause l fb = rw (or-yes (shortOf l))
+
+  never-none : (p : Bool) → _≡_ {A = ℕ} (cond p 1 2) 0 → ⊥
+  never-none true e = omega (arith, e)
+  never-none false e = omega (arith, e)
+
+  no-course : (l : Columns) (fb : Bool) (sa : StartAnswer) (s : State)
+      → begun sa s ≡ startOf fullWords mostTiles l (record { n = 0; fallback = fb; share = b .share; limit = b .limit; poses = b .poses })
+      → Plain (startNumber [] mostTiles k b) nothing l sa s
+  unfolding startOf
+  no-course l fb sa s e = go (startNumber [] mostTiles k b) refl
+    where
+      a : Settings
+      a = record { n = 0; fallback = fb; share = b .share; limit = b .limit; poses = b .poses }
+
+      go : (j : ℕ) → startNumber [] mostTiles k b ≡ j → Plain j nothing l sa s
+      go zero q = absurd (never-none (not (settingsOk (b .share) (b .limit))) (sym none-number ∙ q))
+      go (suc j) q = refused-plain j nothing l l a sa s (e ∙ ap (λ (x : ℕ). startAt fullWords x l a) (none-cause l fb ∙ sym none-number ∙ q))
+
+  -- ---- a course of the points c that was laid in full
+  module _ (c : List TrackPoint) (some : 0 < length c) (fits : length c ≤ mostTiles) (fallback : Bool) (l : course.Lent)
+      (whole : ltb (length (l .list)) (cellsOf c) ≡ false) where
+    abbrev o : Outcome
+    o = layInto fallback c l
+
+    abbrev room : mostTiles ≤ 64 * fullWords
+    room = omega arith
+
+    abbrev small : mostTiles ≤ mostPoints
+    small = omega arith
+
+    holds : (by : Lending) → shortOf (lentBy o by) ≡ false → Holds fullWords mostTiles c room some fits (lentBy o by)
+    holds = lent-holds fullWords mostTiles c room some fits small fallback l whole
+
+    counted : laidValuesOf (o .answer) .n ≡ length c
+    counted = count fallback c l whole fits
+
+    same-fallback : laidValuesOf (o .answer) .fallback ≡ fallback
+    unfolding laidValuesOf laidAnswer laidFigures
+    same-fallback = ap (λ (x : Outcome). laidValuesOf (x .answer) .fallback) (laid-whole fallback c l whole fits)
+
+    -- the whole columns, as they are lent to start
+    whole-lent : (by : Lending) × (lentBy o by ≡ columnsOf o)
+    unfolding lentTo
+    whole-lent =
+        let p = parts o (length (o .lent .tiles)) (length (o .lent .offsets)) in
+        (p .0, p .1 ∙ (λ i. columns (take-length (o .lent .tiles) i) (take-length (o .lent .offsets) i) (o .lent .list)))
+
+    figures : (h : History) → sheetIn (stateOf fullWords mostTiles c room some fits fallback h) ≡ sheetOn c fallback h
+    unfolding sheetOf sheetCause figuresOf setupOf sheetOn
+    figures h = rw (fits-state fullWords mostTiles c room some fits fallback h)
+
+    module _ (same-tiles : length (o .lent .tiles) ≡ k .tiles) (same-offsets : length (o .lent .offsets) ≡ k .offsets) where
+      abbrev by : Lending
+      by = whole-lent .0
+
+      told-lengths : lengthsOf (lentBy o by) ≡ k
+      unfolding lengthsOf
+      told-lengths = ap lengthsOf (whole-lent .1) ∙ (λ i. record { tiles = same-tiles i; offsets = same-offsets i })
+
+      accepted-plain : (sa : StartAnswer) (s : State)
+          → begun sa s ≡ record { answer = startAnswer 0 (record { count = touchedCount c (History.begun b); lap = lapDone c (History.begun b) }); state = stateOf fullWords mostTiles c room some fits fallback (History.begun b) }
+          → Plain 0 (record { points = c; fallback = fallback }) (columnsOf o) sa s
+      unfolding plainStart plainAnswers plainSheet
+      accepted-plain sa s e =
+          let es = ap (λ (x : Begun). x .state) e in
+          let m = all-meant o k same-tiles same-offsets calls given n in
+          let first = begins fullWords mostTiles c room some fits o counted holds b in
+          record {
+            start = ap (λ (x : Begun). x .answer) e;
+            answers =
+                ap₂ (λ (x : State) (y : List Call). repliesOf fullWords mostTiles x y) es (sym (m .1))
+                ∙ replies-are fullWords mostTiles c room some fits o counted holds fallback (m .0) (History.begun b) first
+                ∙ ap (scores c (History.begun b)) (m .2);
+            sheet =
+                ap₂ (λ (x : State) (y : List Call). sheetIn (stateAfter fullWords mostTiles x y)) es (sym (m .1))
+                ∙ ap sheetIn (after-is fullWords mostTiles c room some fits o counted holds fallback (m .0) (History.begun b) first)
+                ∙ figures (keptOf c (History.begun b) (toldsOf o (m .0)))
+                ∙ ap (λ (x : List Told). sheetOn c fallback (keptOf c (History.begun b) x)) (m .2);
+          }
+
+      pub course-plain : (sa : StartAnswer) (s : State)
+          → begun sa s ≡ startOf fullWords mostTiles (columnsOf o) (record { n = laidValuesOf (o .answer) .n; fallback = laidValuesOf (o .answer) .fallback; share = b .share; limit = b .limit; poses = b .poses })
+          → Plain (startNumber c mostTiles k b) (record { points = c; fallback = fallback }) (columnsOf o) sa s
+      course-plain sa s e = go (startNumber c mostTiles k b) refl
+        where
+          on : begun sa s ≡ startOn fullWords mostTiles o by fallback b
+          on =
+              e ∙ ap₂ (λ (x : Columns) (f : Bool). startOf fullWords mostTiles x (record { n = laidValuesOf (o .answer) .n; fallback = f; share = b .share; limit = b .limit; poses = b .poses }))
+              (sym (whole-lent .1)) same-fallback
+
+          number : startNumber c mostTiles (lengthsOf (lentBy o by)) b ≡ startNumber c mostTiles k b
+          number = ap (λ (x : Lengths). startNumber c mostTiles x b) told-lengths
+
+          a : Settings
+          a = record { n = length c; fallback = fallback; share = b .share; limit = b .limit; poses = b .poses }
+
+          go : (j : ℕ) → startNumber c mostTiles k b ≡ j → Plain j (record { points = c; fallback = fallback }) (columnsOf o) sa s
+          go zero q = accepted-plain sa s (on ∙ start-accepted fullWords mostTiles c room some fits o counted holds by fallback b (number ∙ q))
+          go (suc j) q =
+              refused-plain j (record { points = c; fallback = fallback }) (columnsOf o) (lentBy o by) a sa s
+              (on ∙ start-same fullWords mostTiles c room some fits o counted holds by fallback b ∙ ap (λ (x : ℕ). startAt fullWords x (lentBy o by) a) (number ∙ q))
+
+-- ---- the whole replay
+few-points : (seed : ℕ) → length (courseOf seed .points) ≤ mostTiles
+few-points seed = omega (arith, course-sized seed .few)
+
+lays : (seed : ℕ) (l : course.Lent) → laidCauseOf (layCall maxAttempts seed l .answer) ≡ layNumber seed l
+unfolding layNumber courseOf
+lays seed l = lay-cause maxAttempts seed l
+
+no-count : (r : Laid) (q : ℕ) → laidCauseOf r ≡ suc q → laidValuesOf r .n ≡ 0
+unfolding laidCauseOf laidValuesOf
+no-count (Made v) q e = absurd (omega (arith, e))
+no-count (Short need) q e = refl
+no-count (NotLaid k) q e = refl
+
+module _ (seed : ℕ) (l : course.Lent) (b : Opening) (n : ℕ) (calls : List ℕ) (given : List Float) where
+  abbrev lengths : Lengths
+  lengths = record { tiles = length (l .tiles); offsets = length (l .offsets) }
+
+  -- lay, then a start with what it answered, then the calls
+  replay-plain : (j : ℕ) → layNumber seed l ≡ j → (o : Outcome) → o ≡ layCall maxAttempts seed l → length (o .lent .tiles) ≡ length (l .tiles) → length (o .lent .offsets) ≡ length (l .offsets)
+      → (sa : StartAnswer) (s : State)
+      → begun sa s ≡ startOf fullWords mostTiles (columnsOf o) (record { n = laidValuesOf (o .answer) .n; fallback = laidValuesOf (o .answer) .fallback; share = b .share; limit = b .limit; poses = b .poses })
+      → Plain b lengths n calls given (startNumber (laidCourse j seed .points) mostTiles lengths b) (laidCourse j seed) (columnsOf o) sa s
+  unfolding laidCourse layNumber
+  replay-plain zero q o eo et ef sa s es =
+      let p = no-cause (roomy l) (ltb (length (l .list)) (cellsOf (courseOf seed .points))) q in
+      subst (λ (x : Outcome). length (x .lent .tiles) ≡ length (l .tiles) → length (x .lent .offsets) ≡ length (l .offsets)
+      → begun sa s ≡ startOf fullWords mostTiles (columnsOf x) (record { n = laidValuesOf (x .answer) .n; fallback = laidValuesOf (x .answer) .fallback; share = b .share; limit = b .limit; poses = b .poses })
+      → Plain b lengths n calls given (startNumber (courseOf seed .points) mostTiles lengths b) (courseOf seed) (columnsOf x) sa s)
+      (sym (eo ∙ lay-course seed l (p .0)))
+      (λ t f e. course-plain b lengths n calls given (courseOf seed .points) (course-sized seed .some) (few-points seed) (courseOf seed .fallback) l (p .1) t f sa s e) et ef es
+  replay-plain (suc j) q o eo et ef sa s es =
+      no-course b lengths n calls given (columnsOf o) (laidValuesOf (o .answer) .fallback) sa s
+      (es ∙ ap (λ (x : ℕ). startOf fullWords mostTiles (columnsOf o) (record { n = x; fallback = laidValuesOf (o .answer) .fallback; share = b .share; limit = b .limit; poses = b .poses }))
+      (no-count (o .answer) j (ap (λ (x : Outcome). laidCauseOf (x .answer)) eo ∙ lays seed l ∙ q)))
+
+  -- all that it leaves, where the columns of calls and answers are long enough
+  pub replayed : (words : List ℕ) (numbers : List Float) (o : Outcome) (v : LaidCourse) (sa : StartAnswer) (s last : State) (sheet : SheetAnswer) (words′ : List ℕ) (numbers′ : List Float)
+      → roomFor n (length calls) (length given) (length words) (length numbers) ≡ true → o ≡ layCall maxAttempts seed l → length (o .lent .tiles) ≡ length (l .tiles) → length (o .lent .offsets) ≡ length (l .offsets)
+      → v ≡ laidValuesOf (o .answer)
+      → begun sa s ≡ startOf fullWords mostTiles (columnsOf o) (record { n = v .n; fallback = v .fallback; share = b .share; limit = b .limit; poses = b .poses })
+      → last ≡ stateAfter fullWords mostTiles s (callsTo (columnsOf o) calls given n)
+      → words′ ≡ allWords (repliesOf fullWords mostTiles s (callsTo (columnsOf o) calls given n)) ++ drop (answerWords * n) words
+      → numbers′ ≡ allNumbers (repliesOf fullWords mostTiles s (callsTo (columnsOf o) calls given n)) ++ drop (answerNumbers * n) numbers
+      → sheet ≡ sheetIn last
+      → record { laid = o .answer; start = sa; sheet = sheet; lent = o .lent; words = words′; numbers = numbers′ } ≡ replayOf seed l b n calls given words numbers
+  unfolding replayOf replayOn
+  replayed words numbers o v sa s last sheet words′ numbers′ room eo et ef ev es el ew en eh =
+      let p = replay-plain (layNumber seed l) refl o eo et ef sa s
+      (es ∙ (λ i. startOf fullWords mostTiles (columnsOf o) (record { n = ev i .n; fallback = ev i .fallback; share = b .share; limit = b .limit; poses = b .poses }))) in
+      rw room (λ i.
+      record {
+        laid = eo i .answer;
+        start = p .start i;
+        sheet = (eh ∙ ap sheetIn el ∙ p .sheet) i;
+        lent = eo i .lent;
+        words = (ew ∙ ap (λ (x : List Answer). allWords x ++ drop (answerWords * n) words) (p .answers)) i;
+        numbers = (en ∙ ap (λ (x : List Answer). allNumbers x ++ drop (answerNumbers * n) numbers) (p .answers)) i;
+      })
+
+  -- a column of calls or answers is short
+  pub short-replay : (words : List ℕ) (numbers : List Float) → roomFor n (length calls) (length given) (length words) (length numbers) ≡ false
+      → record { laid = NotLaid 2; start = NotStarted 2; sheet = NoSheet 4; lent = l; words = words; numbers = numbers } ≡ replayOf seed l b n calls given words numbers
+  unfolding replayOf laidAnswer startAnswer sheetAnswer
+  short-replay words numbers e = rw e
+
+-- room for n calls, column by column
+pub record Room (n c g w v : ℕ) : Type 0 where
+  pub calls : callWords * n ≤ c
+  pub given : callNumbers * n ≤ g
+  pub words : answerWords * n ≤ w
+  pub numbers : answerNumbers * n ≤ v
+
+pub room-each : (n calls given words numbers : ℕ) → roomFor n calls given words numbers ≡ true → Room n calls given words numbers
+unfolding roomFor
+room-each n calls given words numbers e =
+    let p = and-right (leb (callWords * n) calls) (leb (callNumbers * n) given && (leb (answerWords * n) words && leb (answerNumbers * n) numbers)) e in
+    let q = and-right (leb (callNumbers * n) given) (leb (answerWords * n) words && leb (answerNumbers * n) numbers) p in
+    record {
+      calls = leb-true _ _ (and-left (leb (callWords * n) calls) (leb (callNumbers * n) given && (leb (answerWords * n) words && leb (answerNumbers * n) numbers)) e);
+      given = leb-true _ _ (and-left (leb (callNumbers * n) given) (leb (answerWords * n) words && leb (answerNumbers * n) numbers) p);
+      words = leb-true _ _ (and-left (leb (answerWords * n) words) (leb (answerNumbers * n) numbers) q);
+      numbers = leb-true _ _ (and-right (leb (answerWords * n) words) (leb (answerNumbers * n) numbers) q);
+    }

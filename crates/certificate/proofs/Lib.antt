@@ -1,0 +1,9 @@
+pub mod ScoreLaws
+pub mod Simulation
+pub mod LaidTouch
+pub mod LentColumns
+pub mod Certificate
+pub mod BatchLaws
+pub mod ReplayLaws
+pub mod Worked
+pub mod ReadBack

@@ -1,0 +1,143 @@
+-- A worked instance of the certificate: a course of two points, a start beside it and five calls, three of them refused. Assumes nothing.
+use mathlib.Core.Path.{_≡_, refl, ap, _∙_}
+use mathlib.Core.Bool.{true, false}
+use mathlib.Core.List.{List, [], _∷_, _++_, append-nil}
+use Prim.Native.Nat.{_-_}
+use native.Mathlib.Omega.{arith}
+use lib.Dec.{ltb}
+use lib.ListN.{length, replicate}
+use lib.Ieee.{Float, ofInt, round, add, sub, mul, div, neg, lt, le, isNan, ofBits}
+use Rattle.course.specs.Arithmetic.{natural, decimal, nought}
+use Rattle.course.specs.Lengths.{mostNumbers}
+use Rattle.course.specs.Course.{fromPoints, cellsOf}
+use Rattle.course.specs.Lent.{Lent, Outcome, layInto}
+use Rattle.course.specs.Constants.{scale, playfield, trackWidth, gridCell, halfPi, f64Max, f64Min}
+use Rattle.course.specs.Numeric.{absOf, minOf, maxOf, leastOf, greatestOf, within}
+use Rattle.course.specs.Trig.{factorial, plus, minus, horner, sineTerms, cosineTerms, sinePoly, cosinePoly, floor, wholeBelow, turnsOf, restOf, quarterOf, pick, cosineOf, sineOf}
+use Rattle.course.specs.Cell.{count, along, cellOf, cellAt}
+use Rattle.course.specs.Rect.{rectOf, holds}
+use Rattle.course.specs.Tiles.{beforeOf, tileQuad, eight, tileAt, tilesTo, tilesOf}
+use Rattle.course.specs.declared.tiles.TrackPoint.{TrackPoint}
+use Rattle.run.specs.Below.{anyBelow, everyBelow, someOf, howMany}
+use Rattle.run.specs.Wheel.{size, wheelW, wheelR, placed, wheelQuad, quadOf, leastX, leastY, greatestX, greatestY, boxCells}
+use Rattle.run.specs.Overlap.{leastOn, greatestOn, apartOn, apartAlong, apartByEdges, overlapOf}
+use Rattle.run.specs.Arguments.{settingsOk, shortColumns, inRange, poseOk, posesOk, placesOk, motionOk, motionsOk}
+use Rattle.run.specs.Lap.{offField}
+use Rattle.certificate.specs.Answers.Answer.{drove, settled, refused}
+use Rattle.certificate.specs.Scorer.{Lengths, Opening, Told, opening, drives, settles, lastPoses, off, touch, touches, touched, touchedCount, newTiles, meetsLap, lapDone, over, ended, passed, startNumber, driveNumber, settleNumber, driveScore, settleScore, score, scores}
+use Rattle.certificate.specs.Scorer.History.{begun, thenDrive}
+use Rattle.run.specs.declared.dynamics.Motion.{Motion}
+use Rattle.run.specs.Widths.{fullWords, mostTiles}
+use Rattle.run.specs.State.{columns, shortOf}
+use Rattle.certificate.specs.Calls.{repliesOf}
+use Rattle.certificate.specs.Certificate.{Given, lentBy, lengthsOf, toldOf, callsOf, toldsOf, startOn}
+use Rattle.certificate.specs.Certificate.Lending.{laid, short}
+use Rattle.certificate.proofs.LentColumns.{tiles-few, own-long, offsets-long, lent-laid}
+use Rattle.certificate.proofs.Certificate.{laid-demand3}
+use Rattle.run.specs.declared.state.Pose.{Pose}
+
+-- two points, thirty apart: both tiles are the strip between them
+abbrev pub points : List TrackPoint
+points = record { beta = natural 0; x = natural 0; y = natural 0 } ∷ record { beta = natural 0; x = natural 0; y = natural 30 } ∷ []
+
+-- all four wheels at one place, heading north
+abbrev pub wheelsAt : Float → Float → List Pose
+wheelsAt x y =
+    let p : Pose = record { x = x; y = y; cos = natural 1; sin = natural 0 } in
+    p ∷ p ∷ p ∷ p ∷ []
+
+-- beside the strip, and on it
+abbrev pub away : List Pose
+away = wheelsAt (natural 100) (natural 100)
+
+abbrev pub on : List Pose
+on = wheelsAt (natural 0) (natural 10)
+
+-- lap share 0.5, ten ticks, beside the strip
+abbrev pub beside : Opening
+beside = record { share = decimal 5 10; limit = 10; poses = away }
+
+-- at rest
+abbrev pub still : List Motion
+still =
+    let m : Motion = record { «joint_angle» = natural 0; sin = natural 0; cos = natural 1; vx = natural 0; vy = natural 0 } in
+    m ∷ m ∷ m ∷ m ∷ []
+
+abbrev enough : Lengths
+enough = record { tiles = 20000; offsets = 4490 }
+
+-- what the plain scorer is told: a settle out of turn, a drive, a settle with no columns, a settle on the strip, and a drive after the end
+abbrev told : List Told
+told =
+    Told.settle enough (natural 0) (natural 10) on
+    ∷ Told.drive 3 still
+    ∷ Told.settle (record { tiles = 0; offsets = 0 }) (natural 0) (natural 10) on
+    ∷ Told.settle enough (natural 0) (natural 10) on
+    ∷ Told.drive 0 still
+    ∷ []
+
+-- its answers: the settle on the strip finds both tiles new, completes the lap and ends the run
+pub plain : scores points (begun beside) told
+    ≡ refused 5
+    ∷ drove (passed points (thenDrive (begun beside) 3 still) .forces)
+    ∷ refused 2
+    ∷ settled (record { «new_tiles» = 2; n = 2; off = false; lap = true; ended = true })
+    ∷ refused 4
+    ∷ []
+unfolding touches touched newTiles lapDone meetsLap touchedCount over ended off opening settles drives lastPoses driveNumber settleNumber startNumber driveScore settleScore score scores anyBelow everyBelow howMany offField absOf shortColumns settingsOk posesOk poseOk inRange placesOk motionsOk motionOk touch someOf holds rectOf tilesTo eight tileAt tileQuad beforeOf boxCells quadOf wheelQuad placed size wheelW wheelR leastX leastY greatestX greatestY cellAt cellOf count along overlapOf apartByEdges apartAlong apartOn leastOn greatestOn leastOf greatestOf minOf maxOf within cosineOf sineOf pick quarterOf restOf turnsOf wholeBelow floor cosinePoly sinePoly cosineTerms sineTerms horner minus plus factorial scale playfield trackWidth gridCell halfPi f64Max f64Min natural decimal ofInt round add sub mul div neg lt le isNan ofBits
+plain = refl
+
+-- the start beside the strip is accepted
+accepted : startNumber points 2500 enough beside ≡ 0
+unfolding touches touched newTiles lapDone meetsLap touchedCount over ended off opening settles drives lastPoses driveNumber settleNumber startNumber driveScore settleScore score scores anyBelow everyBelow howMany offField absOf shortColumns settingsOk posesOk poseOk inRange placesOk motionsOk motionOk touch someOf holds rectOf tilesTo eight tileAt tileQuad beforeOf boxCells quadOf wheelQuad placed size wheelW wheelR leastX leastY greatestX greatestY cellAt cellOf count along overlapOf apartByEdges apartAlong apartOn leastOn greatestOn leastOf greatestOf minOf maxOf within cosineOf sineOf pick quarterOf restOf turnsOf wholeBelow floor cosinePoly sinePoly cosineTerms sineTerms horner minus plus factorial scale playfield trackWidth gridCell halfPi f64Max f64Min natural decimal ofInt round add sub mul div neg lt le isNan ofBits
+accepted = refl
+
+pub no-columns : shortOf (columns [] [] []) ≡ true
+unfolding shortOf shortColumns
+no-columns = refl
+
+-- ---- the grader, lent the course of these points as it was laid into any columns with room for the list
+module _ (l : Lent) (whole : ltb (length (l .list)) (cellsOf points) ≡ false) where
+  abbrev o : Outcome
+  o = layInto false points l
+
+  -- the same calls: the first and the fourth are lent the course as laid, the third is lent nothing
+  abbrev pub given : List Given
+  given =
+      Given.settle (laid [] [] []) (natural 0) (natural 10) on
+      ∷ Given.drive 3 still
+      ∷ Given.settle (short (columns [] [] []) no-columns) (natural 0) (natural 10) on
+      ∷ Given.settle (laid [] [] []) (natural 0) (natural 10) on
+      ∷ Given.drive 0 still
+      ∷ []
+
+  lent-enough : lengthsOf (lentBy o (laid [] [] [])) ≡ enough
+  unfolding lengthsOf
+  lent-enough =
+      ap lengthsOf (lent-laid false points l whole (omega arith) [] [] [])
+      ∙ (λ i. record {
+        tiles = (ap (λ (z : List Float). length (tilesOf points ++ z)) (append-nil (replicate (mostNumbers - length (tilesOf points)) nought)) ∙ own-long mostNumbers (tilesOf points) (tiles-few points (omega arith))) i;
+        offsets = (ap length (append-nil (fromPoints points .offsets)) ∙ offsets-long points) i;
+      })
+
+  told-same : toldsOf o given ≡ told
+  unfolding toldOf lentBy lengthsOf
+  told-same = λ i.
+      Told.settle (lent-enough i) (natural 0) (natural 10) on
+      ∷ Told.drive 3 still
+      ∷ Told.settle (lengthsOf (columns [] [] [])) (natural 0) (natural 10) on
+      ∷ Told.settle (lent-enough i) (natural 0) (natural 10) on
+      ∷ Told.drive 0 still
+      ∷ []
+
+  pub graded : repliesOf fullWords mostTiles (startOn fullWords mostTiles o (laid [] [] []) false beside .state) (callsOf o given)
+      ≡ refused 5
+      ∷ drove (passed points (thenDrive (begun beside) 3 still) .forces)
+      ∷ refused 2
+      ∷ settled (record { «new_tiles» = 2; n = 2; off = false; lap = true; ended = true })
+      ∷ refused 4
+      ∷ []
+  graded =
+      laid-demand3 fullWords mostTiles points (omega arith) (omega arith) (omega arith) (omega arith) false l whole (laid [] [] []) false beside given .runs
+      (ap (λ (k : Lengths). startNumber points mostTiles k beside) lent-enough ∙ accepted) .answers
+      ∙ ap (scores points (begun beside)) told-same ∙ plain
