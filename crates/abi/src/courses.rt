@@ -25,8 +25,19 @@ pub extern "C" fn grader_lay(
     offsets: &mut [u32],
     list: &mut [u32],
 ) -> FlatLaid
-    ensures { λ r. ⌜ r ≡ flatLaid (layCall maxAttempts seed (lent (now (alpha .entry)) (now (beta .entry)) (now (x .entry)) (now (y .entry)) (now (tiles .entry)) (now (offsets .entry)) (now (list .entry))) .answer) ⌝ }
-    ensures { λ _. ⌜ lent (now (alpha .exit)) (now (beta .exit)) (now (x .exit)) (now (y .exit)) (now (tiles .exit)) (now (offsets .exit)) (now (list .exit)) ≡ layCall maxAttempts seed (lent (now (alpha .entry)) (now (beta .entry)) (now (x .entry)) (now (y .entry)) (now (tiles .entry)) (now (offsets .entry)) (now (list .entry))) .lent ⌝ }
+    ensures { λ r. ⌜
+        r
+        ≡ flatLaid (layCall maxAttempts seed
+        (lent (now (alpha .entry)) (now (beta .entry)) (now (x .entry)) (now (y .entry)) (now (tiles .entry))
+        (now (offsets .entry)) (now (list .entry))) .answer)
+        ⌝ }
+    ensures { λ _. ⌜
+        lent (now (alpha .exit)) (now (beta .exit)) (now (x .exit)) (now (y .exit)) (now (tiles .exit))
+        (now (offsets .exit)) (now (list .exit))
+        ≡ layCall maxAttempts seed
+        (lent (now (alpha .entry)) (now (beta .entry)) (now (x .entry)) (now (y .entry)) (now (tiles .entry))
+        (now (offsets .entry)) (now (list .entry))) .lent
+        ⌝ }
 {
     flat::laid(lay::lay(seed, alpha, beta, x, y, tiles, offsets, list))
 }
@@ -46,8 +57,19 @@ pub extern "C" fn grader_points(
     offsets: &mut [u32],
     list: &mut [u32],
 ) -> FlatLaid
-    ensures { λ r. ⌜ r ≡ flatLaid (pointsCall (now («given_beta» .entry)) (now («given_x» .entry)) (now («given_y» .entry)) count (lent (now (alpha .entry)) (now (beta .entry)) (now (x .entry)) (now (y .entry)) (now (tiles .entry)) (now (offsets .entry)) (now (list .entry))) .answer) ⌝ }
-    ensures { λ _. ⌜ lent (now (alpha .exit)) (now (beta .exit)) (now (x .exit)) (now (y .exit)) (now (tiles .exit)) (now (offsets .exit)) (now (list .exit)) ≡ pointsCall (now («given_beta» .entry)) (now («given_x» .entry)) (now («given_y» .entry)) count (lent (now (alpha .entry)) (now (beta .entry)) (now (x .entry)) (now (y .entry)) (now (tiles .entry)) (now (offsets .entry)) (now (list .entry))) .lent ⌝ }
+    ensures { λ r. ⌜
+        r
+        ≡ flatLaid (pointsCall (now («given_beta» .entry)) (now («given_x» .entry)) (now («given_y» .entry)) count
+        (lent (now (alpha .entry)) (now (beta .entry)) (now (x .entry)) (now (y .entry)) (now (tiles .entry))
+        (now (offsets .entry)) (now (list .entry))) .answer)
+        ⌝ }
+    ensures { λ _. ⌜
+        lent (now (alpha .exit)) (now (beta .exit)) (now (x .exit)) (now (y .exit)) (now (tiles .exit))
+        (now (offsets .exit)) (now (list .exit))
+        ≡ pointsCall (now («given_beta» .entry)) (now («given_x» .entry)) (now («given_y» .entry)) count
+        (lent (now (alpha .entry)) (now (beta .entry)) (now (x .entry)) (now (y .entry)) (now (tiles .entry))
+        (now (offsets .entry)) (now (list .entry))) .lent
+        ⌝ }
 {
     flat::laid(points::points(
         given_beta,
@@ -74,9 +96,21 @@ pub extern "C" fn grader_curbs(
     quads: &mut [f64],
     white: &mut [u8],
 ) -> FlatCurbs
-    ensures { λ r. ⌜ r ≡ flatCurbs (curbsCall (now (beta .entry)) (now (x .entry)) (now (y .entry)) count (now (quads .entry)) (now (white .entry)) .answer) ⌝ }
-    ensures { λ _. ⌜ now (quads .exit) ≡ curbsCall (now (beta .entry)) (now (x .entry)) (now (y .entry)) count (now (quads .entry)) (now (white .entry)) .quads ⌝ }
-    ensures { λ _. ⌜ now (white .exit) ≡ curbsCall (now (beta .entry)) (now (x .entry)) (now (y .entry)) count (now (quads .entry)) (now (white .entry)) .white ⌝ }
+    ensures { λ r. ⌜
+        r
+        ≡ flatCurbs (curbsCall (now (beta .entry)) (now (x .entry)) (now (y .entry)) count (now (quads .entry))
+        (now (white .entry)) .answer)
+        ⌝ }
+    ensures { λ _. ⌜
+        now (quads .exit)
+        ≡ curbsCall (now (beta .entry)) (now (x .entry)) (now (y .entry)) count (now (quads .entry))
+        (now (white .entry)) .quads
+        ⌝ }
+    ensures { λ _. ⌜
+        now (white .exit)
+        ≡ curbsCall (now (beta .entry)) (now (x .entry)) (now (y .entry)) count (now (quads .entry))
+        (now (white .entry)) .white
+        ⌝ }
 {
     flat::curbs(curbs::curbs(beta, x, y, count, quads, white))
 }

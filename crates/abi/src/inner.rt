@@ -27,8 +27,19 @@ pub extern "C" fn grader_lay_attempts(
     offsets: &mut [u32],
     list: &mut [u32],
 ) -> FlatLaid
-    ensures { λ r. ⌜ r ≡ flatLaid (layCall attempts seed (lent (now (alpha .entry)) (now (beta .entry)) (now (x .entry)) (now (y .entry)) (now (tiles .entry)) (now (offsets .entry)) (now (list .entry))) .answer) ⌝ }
-    ensures { λ _. ⌜ lent (now (alpha .exit)) (now (beta .exit)) (now (x .exit)) (now (y .exit)) (now (tiles .exit)) (now (offsets .exit)) (now (list .exit)) ≡ layCall attempts seed (lent (now (alpha .entry)) (now (beta .entry)) (now (x .entry)) (now (y .entry)) (now (tiles .entry)) (now (offsets .entry)) (now (list .entry))) .lent ⌝ }
+    ensures { λ r. ⌜
+        r
+        ≡ flatLaid (layCall attempts seed
+        (lent (now (alpha .entry)) (now (beta .entry)) (now (x .entry)) (now (y .entry)) (now (tiles .entry))
+        (now (offsets .entry)) (now (list .entry))) .answer)
+        ⌝ }
+    ensures { λ _. ⌜
+        lent (now (alpha .exit)) (now (beta .exit)) (now (x .exit)) (now (y .exit)) (now (tiles .exit))
+        (now (offsets .exit)) (now (list .exit))
+        ≡ layCall attempts seed
+        (lent (now (alpha .entry)) (now (beta .entry)) (now (x .entry)) (now (y .entry)) (now (tiles .entry))
+        (now (offsets .entry)) (now (list .entry))) .lent
+        ⌝ }
 {
     flat::laid(lay::lay_attempts(attempts, seed, alpha, beta, x, y, tiles, offsets, list))
 }
@@ -76,8 +87,19 @@ pub extern "C" fn grader_lay_checkpoints(
     offsets: &mut [u32],
     list: &mut [u32],
 ) -> FlatLaid
-    ensures { λ r. ⌜ r ≡ flatLaid (layOnCall (checkpointsFrom (cs .checkpoints)) (lent (now (alpha .entry)) (now (beta .entry)) (now (x .entry)) (now (y .entry)) (now (tiles .entry)) (now (offsets .entry)) (now (list .entry))) .answer) ⌝ }
-    ensures { λ _. ⌜ lent (now (alpha .exit)) (now (beta .exit)) (now (x .exit)) (now (y .exit)) (now (tiles .exit)) (now (offsets .exit)) (now (list .exit)) ≡ layOnCall (checkpointsFrom (cs .checkpoints)) (lent (now (alpha .entry)) (now (beta .entry)) (now (x .entry)) (now (y .entry)) (now (tiles .entry)) (now (offsets .entry)) (now (list .entry))) .lent ⌝ }
+    ensures { λ r. ⌜
+        r
+        ≡ flatLaid (layOnCall (checkpointsFrom (cs .checkpoints))
+        (lent (now (alpha .entry)) (now (beta .entry)) (now (x .entry)) (now (y .entry)) (now (tiles .entry))
+        (now (offsets .entry)) (now (list .entry))) .answer)
+        ⌝ }
+    ensures { λ _. ⌜
+        lent (now (alpha .exit)) (now (beta .exit)) (now (x .exit)) (now (y .exit)) (now (tiles .exit))
+        (now (offsets .exit)) (now (list .exit))
+        ≡ layOnCall (checkpointsFrom (cs .checkpoints))
+        (lent (now (alpha .entry)) (now (beta .entry)) (now (x .entry)) (now (y .entry)) (now (tiles .entry))
+        (now (offsets .entry)) (now (list .entry))) .lent
+        ⌝ }
 {
     let twelve = cs.checkpoints;
     let given = spots(twelve);

@@ -63,7 +63,12 @@ pub extern "C" fn grader_start(
     limit: u32,
     poses: Poses,
 ) -> FlatStarted
-    ensures { λ r. ⌜ r ≡ flatStarted (startOf fullWords mostTiles (columns (now (tiles .entry)) (now (offsets .entry)) (now (list .entry))) (record { n = n; fallback = fallback; share = share; limit = limit; poses = poses .wheels })) ⌝ }
+    ensures { λ r. ⌜
+        r
+        ≡ flatStarted
+        (startOf fullWords mostTiles (columns (now (tiles .entry)) (now (offsets .entry)) (now (list .entry)))
+        (record { n = n; fallback = fallback; share = share; limit = limit; poses = poses .wheels }))
+        ⌝ }
 {
     let wheels = poses.wheels;
     let s = start::start(tiles, offsets, list, n, fallback, share, limit, wheels);
@@ -89,7 +94,11 @@ pub extern "C" fn grader_drive_parts(
     motions: &[f64; MOTION_NUMBERS],
     forces: &mut [f64; FORCE_NUMBERS],
 ) -> FlatDriven
-    ensures { λ r. ⌜ lentDriven r (now (car .exit)) (now (forces .exit)) ≡ driveLent fullWords mostTiles setup progress (now (car .entry)) (now (wheels .entry)) action (now (motions .entry)) (now (forces .entry)) ⌝ }
+    ensures { λ r. ⌜
+        lentDriven r (now (car .exit)) (now (forces .exit))
+        ≡ driveLent fullWords mostTiles setup progress (now (car .entry)) (now (wheels .entry)) action
+        (now (motions .entry)) (now (forces .entry))
+        ⌝ }
 {
     let before = parts::car_from(car);
     let given = call::motions_lent(motions);
@@ -120,7 +129,11 @@ pub extern "C" fn grader_settle_parts(
     y: f64,
     poses: Poses,
 ) -> FlatSettled
-    ensures { λ r. ⌜ lentSettled r (now (credited .exit)) (now (wheels .exit)) ≡ settleLent fullWords mostTiles setup progress (now (credited .entry)) (now (wheels .entry)) (columns (now (tiles .entry)) (now (offsets .entry)) (now (list .entry))) x y (poses .wheels) ⌝ }
+    ensures { λ r. ⌜
+        lentSettled r (now (credited .exit)) (now (wheels .exit))
+        ≡ settleLent fullWords mostTiles setup progress (now (credited .entry)) (now (wheels .entry))
+        (columns (now (tiles .entry)) (now (offsets .entry)) (now (list .entry))) x y (poses .wheels)
+        ⌝ }
 {
     let given = poses.wheels;
     let s = settle::settle_parts(
@@ -169,8 +182,21 @@ pub extern "C" fn grader_replay(
     words: &mut [u32],
     numbers: &mut [f64],
 ) -> FlatReplayed
-    ensures { λ r. ⌜ r ≡ flatReplayed (replayOf seed (lent (now (alpha .entry)) (now (beta .entry)) (now (x .entry)) (now (y .entry)) (now (tiles .entry)) (now (offsets .entry)) (now (list .entry))) (record { share = share; limit = limit; poses = poses .wheels }) many (now (calls .entry)) (now (given .entry)) (now (words .entry)) (now (numbers .entry))) ⌝ }
-    ensures { λ _. ⌜ replayColumns (lent (now (alpha .exit)) (now (beta .exit)) (now (x .exit)) (now (y .exit)) (now (tiles .exit)) (now (offsets .exit)) (now (list .exit))) (now (words .exit)) (now (numbers .exit)) ≡ columnsAfter (replayOf seed (lent (now (alpha .entry)) (now (beta .entry)) (now (x .entry)) (now (y .entry)) (now (tiles .entry)) (now (offsets .entry)) (now (list .entry))) (record { share = share; limit = limit; poses = poses .wheels }) many (now (calls .entry)) (now (given .entry)) (now (words .entry)) (now (numbers .entry))) ⌝ }
+    ensures { λ r. ⌜
+        r
+        ≡ flatReplayed (replayOf seed
+        (lent (now (alpha .entry)) (now (beta .entry)) (now (x .entry)) (now (y .entry)) (now (tiles .entry))
+        (now (offsets .entry)) (now (list .entry))) (record { share = share; limit = limit; poses = poses .wheels })
+        many (now (calls .entry)) (now (given .entry)) (now (words .entry)) (now (numbers .entry)))
+        ⌝ }
+    ensures { λ _. ⌜
+        replayColumns (lent (now (alpha .exit)) (now (beta .exit)) (now (x .exit)) (now (y .exit)) (now (tiles .exit))
+        (now (offsets .exit)) (now (list .exit))) (now (words .exit)) (now (numbers .exit))
+        ≡ columnsAfter (replayOf seed
+        (lent (now (alpha .entry)) (now (beta .entry)) (now (x .entry)) (now (y .entry)) (now (tiles .entry))
+        (now (offsets .entry)) (now (list .entry))) (record { share = share; limit = limit; poses = poses .wheels })
+        many (now (calls .entry)) (now (given .entry)) (now (words .entry)) (now (numbers .entry)))
+        ⌝ }
 {
     let wheels = poses.wheels;
     let r = replay::replay(

@@ -24,7 +24,9 @@ fn put_words(a: u32, b: u32, c: u32, d: u32, words: &mut [u32])
 // A wheel's force, from number i on.
 fn put_force(f: Force, i: usize, numbers: &mut [f64])
     requires { ⌜ i + 3 ≤ length (now numbers) ⌝ }
-    ensures { λ _. ⌜ now (numbers .exit) ≡ set (set (set (now (numbers .entry)) i (f .motor)) (i + 1) (f .fx)) (i + 2) (f .fy) ⌝ }
+    ensures { λ _. ⌜
+        now (numbers .exit) ≡ set (set (set (now (numbers .entry)) i (f .motor)) (i + 1) (f .fx)) (i + 2) (f .fy)
+        ⌝ }
 {
     numbers[i] = f.motor;
     numbers[i + 1] = f.fx;

@@ -46,9 +46,19 @@ fn reply_drive(run: Run, action: u32, given: &[f64], words: &mut [u32], numbers:
     requires { do ⌜ 20 ≤ (← ⟦given.len()⟧) ⌝ }
     requires { ⌜ length (now words) ≡ 4 ⌝ }
     requires { ⌜ length (now numbers) ≡ 12 ⌝ }
-    ensures { λ r. ⌜ view r ≡ replyOf fullWords mostTiles (view run) (Call.drive action (motionsFrom (now (given .entry)))) .state ⌝ }
-    ensures { λ _. ⌜ now (words .exit) ≡ wordsOf (replyOf fullWords mostTiles (view run) (Call.drive action (motionsFrom (now (given .entry)))) .answer) ⌝ }
-    ensures { λ _. ⌜ now (numbers .exit) ≡ numbersOf (replyOf fullWords mostTiles (view run) (Call.drive action (motionsFrom (now (given .entry)))) .answer) ⌝ }
+    ensures { λ r. ⌜
+        view r ≡ replyOf fullWords mostTiles (view run) (Call.drive action (motionsFrom (now (given .entry)))) .state
+        ⌝ }
+    ensures { λ _. ⌜
+        now (words .exit)
+        ≡ wordsOf
+        (replyOf fullWords mostTiles (view run) (Call.drive action (motionsFrom (now (given .entry)))) .answer)
+        ⌝ }
+    ensures { λ _. ⌜
+        now (numbers .exit)
+        ≡ numbersOf
+        (replyOf fullWords mostTiles (view run) (Call.drive action (motionsFrom (now (given .entry)))) .answer)
+        ⌝ }
 {
     let d = drive::drive(run, action, call::motions(given));
     let said = d.answer;
@@ -71,9 +81,24 @@ fn reply_settle(
     requires { do ⌜ 20 ≤ (← ⟦given.len()⟧) ⌝ }
     requires { ⌜ length (now words) ≡ 4 ⌝ }
     requires { ⌜ length (now numbers) ≡ 12 ⌝ }
-    ensures { λ r. ⌜ view r ≡ replyOf fullWords mostTiles (view run) (Call.settle (columns (now (tiles .entry)) (now (offsets .entry)) (now (list .entry))) (numberAt (now (given .entry)) 0) (numberAt (now (given .entry)) 1) (posesFrom (now (given .entry)))) .state ⌝ }
-    ensures { λ _. ⌜ now (words .exit) ≡ wordsOf (replyOf fullWords mostTiles (view run) (Call.settle (columns (now (tiles .entry)) (now (offsets .entry)) (now (list .entry))) (numberAt (now (given .entry)) 0) (numberAt (now (given .entry)) 1) (posesFrom (now (given .entry)))) .answer) ⌝ }
-    ensures { λ _. ⌜ now (numbers .exit) ≡ numbersOf (replyOf fullWords mostTiles (view run) (Call.settle (columns (now (tiles .entry)) (now (offsets .entry)) (now (list .entry))) (numberAt (now (given .entry)) 0) (numberAt (now (given .entry)) 1) (posesFrom (now (given .entry)))) .answer) ⌝ }
+    ensures { λ r. ⌜
+        view r
+        ≡ replyOf fullWords mostTiles (view run)
+        (Call.settle (columns (now (tiles .entry)) (now (offsets .entry)) (now (list .entry)))
+        (numberAt (now (given .entry)) 0) (numberAt (now (given .entry)) 1) (posesFrom (now (given .entry)))) .state
+        ⌝ }
+    ensures { λ _. ⌜
+        now (words .exit)
+        ≡ wordsOf (replyOf fullWords mostTiles (view run)
+        (Call.settle (columns (now (tiles .entry)) (now (offsets .entry)) (now (list .entry)))
+        (numberAt (now (given .entry)) 0) (numberAt (now (given .entry)) 1) (posesFrom (now (given .entry)))) .answer)
+        ⌝ }
+    ensures { λ _. ⌜
+        now (numbers .exit)
+        ≡ numbersOf (replyOf fullWords mostTiles (view run)
+        (Call.settle (columns (now (tiles .entry)) (now (offsets .entry)) (now (list .entry)))
+        (numberAt (now (given .entry)) 0) (numberAt (now (given .entry)) 1) (posesFrom (now (given .entry)))) .answer)
+        ⌝ }
 {
     let d = settle::settle(
         run,
@@ -105,9 +130,24 @@ fn reply(
     requires { do ⌜ 20 ≤ (← ⟦given.len()⟧) ⌝ }
     requires { ⌜ length (now words) ≡ 4 ⌝ }
     requires { ⌜ length (now numbers) ≡ 12 ⌝ }
-    ensures { λ r. ⌜ view r ≡ replyOf fullWords mostTiles (view run) (callFrom (columns (now (tiles .entry)) (now (offsets .entry)) (now (list .entry))) (now (asked .entry)) (now (given .entry))) .state ⌝ }
-    ensures { λ _. ⌜ now (words .exit) ≡ wordsOf (replyOf fullWords mostTiles (view run) (callFrom (columns (now (tiles .entry)) (now (offsets .entry)) (now (list .entry))) (now (asked .entry)) (now (given .entry))) .answer) ⌝ }
-    ensures { λ _. ⌜ now (numbers .exit) ≡ numbersOf (replyOf fullWords mostTiles (view run) (callFrom (columns (now (tiles .entry)) (now (offsets .entry)) (now (list .entry))) (now (asked .entry)) (now (given .entry))) .answer) ⌝ }
+    ensures { λ r. ⌜
+        view r
+        ≡ replyOf fullWords mostTiles (view run)
+        (callFrom (columns (now (tiles .entry)) (now (offsets .entry)) (now (list .entry))) (now (asked .entry))
+        (now (given .entry))) .state
+        ⌝ }
+    ensures { λ _. ⌜
+        now (words .exit)
+        ≡ wordsOf (replyOf fullWords mostTiles (view run)
+        (callFrom (columns (now (tiles .entry)) (now (offsets .entry)) (now (list .entry))) (now (asked .entry))
+        (now (given .entry))) .answer)
+        ⌝ }
+    ensures { λ _. ⌜
+        now (numbers .exit)
+        ≡ numbersOf (replyOf fullWords mostTiles (view run)
+        (callFrom (columns (now (tiles .entry)) (now (offsets .entry)) (now (list .entry))) (now (asked .entry))
+        (now (given .entry))) .answer)
+        ⌝ }
 {
     if asked[0] == 0 {
         return reply_drive(run, asked[1], given, words, numbers);
@@ -141,9 +181,26 @@ pub(crate) fn replies(
     requires { do ⌜ callNumbers * many ≤ (← ⟦given.len()⟧) ⌝ }
     requires { ⌜ answerWords * many ≤ length (now words) ⌝ }
     requires { ⌜ answerNumbers * many ≤ length (now numbers) ⌝ }
-    ensures { λ r. ⌜ view r ≡ stateAfter fullWords mostTiles (view run) (callsTo (columns (now (tiles .entry)) (now (offsets .entry)) (now (list .entry))) (now (calls .entry)) (now (given .entry)) many) ⌝ }
-    ensures { λ _. ⌜ now (words .exit) ≡ allWords (repliesOf fullWords mostTiles (view run) (callsTo (columns (now (tiles .entry)) (now (offsets .entry)) (now (list .entry))) (now (calls .entry)) (now (given .entry)) many)) ++ drop (answerWords * many) (now (words .entry)) ⌝ }
-    ensures { λ _. ⌜ now (numbers .exit) ≡ allNumbers (repliesOf fullWords mostTiles (view run) (callsTo (columns (now (tiles .entry)) (now (offsets .entry)) (now (list .entry))) (now (calls .entry)) (now (given .entry)) many)) ++ drop (answerNumbers * many) (now (numbers .entry)) ⌝ }
+    ensures { λ r. ⌜
+        view r
+        ≡ stateAfter fullWords mostTiles (view run)
+        (callsTo (columns (now (tiles .entry)) (now (offsets .entry)) (now (list .entry))) (now (calls .entry))
+        (now (given .entry)) many)
+        ⌝ }
+    ensures { λ _. ⌜
+        now (words .exit)
+        ≡ allWords (repliesOf fullWords mostTiles (view run)
+        (callsTo (columns (now (tiles .entry)) (now (offsets .entry)) (now (list .entry))) (now (calls .entry))
+        (now (given .entry)) many))
+        ++ drop (answerWords * many) (now (words .entry))
+        ⌝ }
+    ensures { λ _. ⌜
+        now (numbers .exit)
+        ≡ allNumbers (repliesOf fullWords mostTiles (view run)
+        (callsTo (columns (now (tiles .entry)) (now (offsets .entry)) (now (list .entry))) (now (calls .entry))
+        (now (given .entry)) many))
+        ++ drop (answerNumbers * many) (now (numbers .entry))
+        ⌝ }
 {
     let mut state = run;
     let mut i: usize = 0;
@@ -198,7 +255,15 @@ pub fn replay(
     words: &mut [u32],
     numbers: &mut [f64],
 ) -> Replayed
-    ensures { λ r. ⌜ replay (r .laid) (r .start) (r .sheet) (lent (now (alpha .exit)) (now (beta .exit)) (now (x .exit)) (now (y .exit)) (now (tiles .exit)) (now (offsets .exit)) (now (list .exit))) (now (words .exit)) (now (numbers .exit)) ≡ replayOf seed (lent (now (alpha .entry)) (now (beta .entry)) (now (x .entry)) (now (y .entry)) (now (tiles .entry)) (now (offsets .entry)) (now (list .entry))) (record { share = share; limit = limit; poses = poses }) many (now (calls .entry)) (now (given .entry)) (now (words .entry)) (now (numbers .entry)) ⌝ }
+    ensures { λ r. ⌜
+        replay (r .laid) (r .start) (r .sheet)
+        (lent (now (alpha .exit)) (now (beta .exit)) (now (x .exit)) (now (y .exit)) (now (tiles .exit))
+        (now (offsets .exit)) (now (list .exit))) (now (words .exit)) (now (numbers .exit))
+        ≡ replayOf seed
+        (lent (now (alpha .entry)) (now (beta .entry)) (now (x .entry)) (now (y .entry)) (now (tiles .entry))
+        (now (offsets .entry)) (now (list .entry))) (record { share = share; limit = limit; poses = poses }) many
+        (now (calls .entry)) (now (given .entry)) (now (words .entry)) (now (numbers .entry))
+        ⌝ }
 {
     if !room_for(many, calls.len(), given.len(), words.len(), numbers.len()) {
         return Replayed {
