@@ -10,6 +10,7 @@ use lib.Seq.{take-at}
 use lib.Dec.{leb, ltb, eqb}
 use borrow.Author.Tests.{leb-true, lt-ltb, le-ltb}
 use lib.Ieee.{Float, nan}
+use Rattle.course.specs.Lengths.{mostPoints, mostNumbers}
 use Rattle.course.specs.Arithmetic.{nought}
 use Rattle.course.specs.Tiles.{pointAt, pointsOf, beforeOf, eight}
 use Rattle.course.specs.CourseSteps.{puts}
@@ -51,7 +52,7 @@ module _ (b e n : List Float) (k : ℕ) (q : List Float) (w : List ℕ) where
   unfolding quadsTo whitesTo
   curbs-none = record { few = omega arith; count = refl; long = refl; quads = refl; white = refl; same-quads = refl; same-white = refl }
 
-  next : (i m : ℕ) (q1 : List Float) (w1 : List ℕ) (m′ : ℕ) (q2 : List Float) (w2 : List ℕ) → i < 2500 → 20000 ≤ length q → 2500 ≤ length w → CurbsTo b e n k i m q w q1 w1
+  next : (i m : ℕ) (q1 : List Float) (w1 : List ℕ) (m′ : ℕ) (q2 : List Float) (w2 : List ℕ) → i < mostPoints → mostNumbers ≤ length q → mostPoints ≤ length w → CurbsTo b e n k i m q w q1 w1
       → Curbed (bordered b k i) (curbQuad (pointAt b e n i) (pointAt b e n (beforeOf k i))) (whiteOf i) m q1 w1 m′ q2 w2 → CurbsTo b e n k (suc i) m′ q w q2 w2
   unfolding quadsTo whitesTo eight
   next i m q1 w1 m′ q2 w2 h hq hw t s =
@@ -69,7 +70,7 @@ module _ (b e n : List Float) (k : ℕ) (q : List Float) (w : List ℕ) where
         same-white = rw′ .same;
       }
 
-  pub curbs-more : (i m : ℕ) (q1 : List Float) (w1 : List ℕ) (m′ : ℕ) (q2 : List Float) (w2 : List ℕ) → i < 2500 → 20000 ≤ length q → 2500 ≤ length w → CurbsTo b e n k i m q w q1 w1
+  pub curbs-more : (i m : ℕ) (q1 : List Float) (w1 : List ℕ) (m′ : ℕ) (q2 : List Float) (w2 : List ℕ) → i < mostPoints → mostNumbers ≤ length q → mostPoints ≤ length w → CurbsTo b e n k i m q w q1 w1
       → Curbed (bordered b k i) (curbQuad (pointAt b e n i) (pointAt b e n (beforeOf k i))) (whiteOf i) m q1 w1 m′ q2 w2 → CurbsTo b e n k (i + 1) m′ q w q2 w2
   curbs-more i m q1 w1 m′ q2 w2 h hq hw t s = subst (λ (z : ℕ). CurbsTo b e n k z m′ q w q2 w2) (sym (add-one i)) (next i m q1 w1 m′ q2 w2 h hq hw t s)
 
@@ -93,20 +94,20 @@ curb-put false quad quad′ mark mark′ m q q′ w w′ h eq em pq pw = absurd 
 -- ---- the call
 pub record Fits (b e n : List Float) (k : ℕ) (q : List Float) (w : List ℕ) : Type 0 where
   pub some : 0 < k
-  pub few : k ≤ 2500
-  pub quads : 20000 ≤ length q
-  pub white : 2500 ≤ length w
+  pub few : k ≤ mostPoints
+  pub quads : mostNumbers ≤ length q
+  pub white : mostPoints ≤ length w
   pub given : Given b e n k
 
 pub fits : (b e n : List Float) (k : ℕ) (q : List Float) (w : List ℕ) → givenCause (curbRoom q w) b e n k ≡ 0 → Fits b e n k q w
 unfolding givenCause curbRoom
 fits b e n k q w h =
-    let p = passed (eqb k 0) (ltb 2500 k) (curbRoom q w) (givenOf b e n k) (allGood (pointsOf b e n k)) h in
+    let p = passed (eqb k 0) (ltb mostPoints k) (curbRoom q w) (givenOf b e n k) (allGood (pointsOf b e n k)) h in
     record {
       some = positive k (p .some);
-      few = at-most 2500 k (p .few);
-      quads = leb-true 20000 (length q) (left _ _ (p .room));
-      white = leb-true 2500 (length w) (right (leb 20000 (length q)) _ (p .room));
+      few = at-most mostPoints k (p .few);
+      quads = leb-true mostNumbers (length q) (left _ _ (p .room));
+      white = leb-true mostPoints (length w) (right (leb mostNumbers (length q)) _ (p .room));
       given = given-long b e n k (p .given);
     }
 
@@ -123,14 +124,14 @@ fill-marks own t t1 t2 k m e h p r =
     ∙ ap₂ (λ (y z : List ℕ). y ++ (replicate (m - k) 0 ++ z)) (take-at own (drop k t) k e) (drop-past own t k m e h)
     ∙ ap (λ (j : ℕ). own ++ (replicate (m - j) 0 ++ drop m t)) (sym e)
 
-pub all-edged : (b e n : List Float) (k m : ℕ) (q q1 q2 : List Float) (w w1 w2 : List ℕ) → givenCause (curbRoom q w) b e n k ≡ 0 → k ≤ 2500 → CurbsTo b e n k k m q w q1 w1
-    → q2 ≡ take (m * 8) q1 ++ (replicate (20000 - m * 8) nought ++ drop 20000 q1) → w2 ≡ take m w1 ++ (replicate (2500 - m) 0 ++ drop 2500 w1)
+pub all-edged : (b e n : List Float) (k m : ℕ) (q q1 q2 : List Float) (w w1 w2 : List ℕ) → givenCause (curbRoom q w) b e n k ≡ 0 → k ≤ mostPoints → CurbsTo b e n k k m q w q1 w1
+    → q2 ≡ take (m * 8) q1 ++ (replicate (mostNumbers - m * 8) nought ++ drop mostNumbers q1) → w2 ≡ take m w1 ++ (replicate (mostPoints - m) 0 ++ drop mostPoints w1)
     → edged (Count m) q2 w2 ≡ curbsCall b e n k q w
 unfolding curbsCall curbCause curbsAt curbAnswer
 all-edged b e n k m q q1 q2 w w1 w2 h few t pq pw =
     same-edged (ap Count (sym (t .count)))
-    (fill-tiles (quadsTo b e n k k) q q1 q2 (m * 8) 20000 (t .long) (omega (arith, few, t .few)) (t .quads) pq)
-    (fill-marks (whitesTo b e n k k) w w1 w2 m 2500 (t .count) (omega (arith, few, t .few)) (t .white) pw)
+    (fill-tiles (quadsTo b e n k k) q q1 q2 (m * 8) mostNumbers (t .long) (omega (arith, few, t .few)) (t .quads) pq)
+    (fill-marks (whitesTo b e n k k) w w1 w2 m mostPoints (t .count) (omega (arith, few, t .few)) (t .white) pw)
     ∙ ap (λ (j : ℕ). curbsAt j b e n k q w) (sym h)
   where
     same-edged : {r r′ : CurbAnswer} {q q′ : List Float} {w w′ : List ℕ} → r ≡ r′ → q ≡ q′ → w ≡ w′ → edged r q w ≡ edged r′ q′ w′

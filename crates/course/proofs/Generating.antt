@@ -10,6 +10,7 @@ use lib.Seq.{take-at}
 use lib.Ieee.{Float}
 use Rattle.rng.specs.declared.SplitMix64.{SplitMix64}
 use Rattle.rng.specs.SplitMix.{after, seeded}
+use Rattle.course.specs.Lengths.{mostPoints}
 use Rattle.course.specs.Checkpoints.{checkpointsOf}
 use Rattle.course.specs.Tiles.{betas, xs, ys}
 use Rattle.course.specs.Lay.{attemptOn, ringPoint, ringOf, CoursePoints, ringCourse, orElse, courseOn, courseFrom, courseWithin}
@@ -31,11 +32,11 @@ pub record Ringing (b₀ u₀ v₀ b u v : List Float) (i : ℕ) : Type 0 where
   pub beta : Grown (betas (ringOf i)) b b₀ i
   pub x : Grown (xs (ringOf i)) u u₀ i
   pub y : Grown (ys (ringOf i)) v v₀ i
-  pub long-b : 2500 ≤ length b₀
-  pub long-x : 2500 ≤ length u₀
-  pub long-y : 2500 ≤ length v₀
+  pub long-b : mostPoints ≤ length b₀
+  pub long-x : mostPoints ≤ length u₀
+  pub long-y : mostPoints ≤ length v₀
 
-pub ring-none : (b x y : List Float) → 2500 ≤ length b → 2500 ≤ length x → 2500 ≤ length y → Ringing b x y b x y 0
+pub ring-none : (b x y : List Float) → mostPoints ≤ length b → mostPoints ≤ length x → mostPoints ≤ length y → Ringing b x y b x y 0
 unfolding ringOf
 ring-none b x y lb lx ly = record { few = omega arith; beta = grown-none b; x = grown-none x; y = grown-none y; long-b = lb; long-x = lx; long-y = ly }
 
@@ -57,8 +58,8 @@ ring-more b₀ x₀ y₀ b x y i p h e g = record {
 front-of : (f : TrackPoint → Float) (c c′ : List Float) → c′ ≡ map f (ringOf 100) ++ drop 100 c → take 100 c′ ≡ map f (ringOf 100)
 front-of f c c′ e = ap (take 100) e ∙ take-at (map f (ringOf 100)) (drop 100 c) 100 (length-map (ringOf 100) f ∙ ring-length 100)
 
-beyond : (f : TrackPoint → Float) (c c′ : List Float) → c′ ≡ map f (ringOf 100) ++ drop 100 c → drop 2500 c′ ≡ drop 2500 c
-beyond f c c′ e = ap (drop 2500) e ∙ drop-past (map f (ringOf 100)) c 100 2500 (length-map (ringOf 100) f ∙ ring-length 100) (omega arith)
+beyond : (f : TrackPoint → Float) (c c′ : List Float) → c′ ≡ map f (ringOf 100) ++ drop 100 c → drop mostPoints c′ ≡ drop mostPoints c
+beyond f c c′ e = ap (drop mostPoints) e ∙ drop-past (map f (ringOf 100)) c 100 mostPoints (length-map (ringOf 100) f ∙ ring-length 100) (omega arith)
 
 ring-front : (a b x y b′ x′ y′ : List Float) → b′ ≡ betas (ringOf 100) ++ drop 100 b → x′ ≡ xs (ringOf 100) ++ drop 100 x → y′ ≡ ys (ringOf 100) ++ drop 100 y
     → InFront (ringOf 100) a b x y a b′ x′ y′ 100
@@ -73,11 +74,11 @@ ring-front a b x y b′ x′ y′ eb ex ey = record {
   kept-y = beyond (λ (q : TrackPoint). q .y) y y′ ey;
 }
 
--- ---- a column of which only the first 2,500 entries may have changed
+-- ---- a column of which only the first mostPoints entries may have changed
 pub record Beyond (l₀ l : List Float) : Type 0 where
-  pub kept : drop 2500 l ≡ drop 2500 l₀
+  pub kept : drop mostPoints l ≡ drop mostPoints l₀
   pub same : length l ≡ length l₀
-  pub long : 2500 ≤ length l
+  pub long : mostPoints ≤ length l
 
 pub record AllBeyond (a₀ b₀ x₀ y₀ a b x y : List Float) : Type 0 where
   pub alpha : Beyond a₀ a
@@ -85,13 +86,13 @@ pub record AllBeyond (a₀ b₀ x₀ y₀ a b x y : List Float) : Type 0 where
   pub east : Beyond x₀ x
   pub north : Beyond y₀ y
 
-same-column : (l : List Float) → 2500 ≤ length l → Beyond l l
+same-column : (l : List Float) → mostPoints ≤ length l → Beyond l l
 same-column l h = record { kept = refl; same = refl; long = h }
 
-pub untouched : (a b x y : List Float) → 2500 ≤ length a → 2500 ≤ length b → 2500 ≤ length x → 2500 ≤ length y → AllBeyond a b x y a b x y
+pub untouched : (a b x y : List Float) → mostPoints ≤ length a → mostPoints ≤ length b → mostPoints ≤ length x → mostPoints ≤ length y → AllBeyond a b x y a b x y
 untouched a b x y la lb lx ly = record { alpha = same-column _ la; beta = same-column _ lb; east = same-column _ lx; north = same-column _ ly }
 
-further : (l₀ l l′ : List Float) → Beyond l₀ l → drop 2500 l′ ≡ drop 2500 l → length l′ ≡ length l → Beyond l₀ l′
+further : (l₀ l l′ : List Float) → Beyond l₀ l → drop mostPoints l′ ≡ drop mostPoints l → length l′ ≡ length l → Beyond l₀ l′
 further l₀ l l′ k e h = record { kept = e ∙ k .kept; same = h ∙ k .same; long = rw h (k .long) }
 
 module _ (ps : List TrackPoint) (a₀ b₀ x₀ y₀ a b x y a′ b′ x′ y′ : List Float) (n : ℕ) (s : AllBeyond a₀ b₀ x₀ y₀ a b x y) (d : InFront ps a b x y a′ b′ x′ y′ n) where
@@ -158,7 +159,7 @@ pub record Trying (attempts seed : ℕ) (a₀ b₀ x₀ y₀ a b x y : List Floa
   pub rest : courseWithin attempts seed ≡ courseFrom (attempts - k) g
   pub kept : AllBeyond a₀ b₀ x₀ y₀ a b x y
 
-pub trying-none : (attempts seed : ℕ) (a b x y : List Float) (g : SplitMix64) → g ≡ seeded seed → 2500 ≤ length a → 2500 ≤ length b → 2500 ≤ length x → 2500 ≤ length y
+pub trying-none : (attempts seed : ℕ) (a b x y : List Float) (g : SplitMix64) → g ≡ seeded seed → mostPoints ≤ length a → mostPoints ≤ length b → mostPoints ≤ length x → mostPoints ≤ length y
     → Trying attempts seed a b x y a b x y g 0
 unfolding courseWithin
 trying-none attempts seed a b x y g e la lb lx ly = record { few = omega arith; rest = ap (courseFrom attempts) (sym e) ∙ ap (λ (m : ℕ). courseFrom m g) (all attempts); kept = untouched a b x y la lb lx ly }

@@ -10,6 +10,7 @@ use lib.Dec.{leb, ltb, eqb}
 use borrow.Author.Tests.{leb-true, lt-ltb}
 use native.Mathlib.Decide.{decLt}
 use lib.Ieee.{Float}
+use Rattle.course.specs.Lengths.{mostPoints, mostNumbers, cellCount, offsetCount}
 use Rattle.course.specs.Rect.{holdsOf, needed}
 use Rattle.course.specs.IndexSteps.{Built, pickList}
 use Rattle.course.specs.Index.{offsetsOf, indexOf}
@@ -56,22 +57,22 @@ front-tiles own t t1 t2 k m e h p q = ap (take k) (fill-tiles own t t1 t2 k m e 
 
 -- after the code: the columns that `finish` was lent, and what it made of them
 pub record Done (a b e n t : List Float) (o l : List ℕ) (k : ℕ) (a′ b′ e′ n′ t1 t2 : List Float) (o′ l′ : List ℕ) (short : Bool) (need : ℕ) : Type 0 where
-  pub few : k ≤ 2500
-  pub room-b : 2500 ≤ length b
-  pub room-e : 2500 ≤ length e
-  pub room-n : 2500 ≤ length n
-  pub alpha : a′ ≡ take 0 a ++ (replicate (2500 - 0) nought ++ drop 2500 a)
-  pub beta : b′ ≡ take k b ++ (replicate (2500 - k) nought ++ drop 2500 b)
-  pub x : e′ ≡ take k e ++ (replicate (2500 - k) nought ++ drop 2500 e)
-  pub y : n′ ≡ take k n ++ (replicate (2500 - k) nought ++ drop 2500 n)
+  pub few : k ≤ mostPoints
+  pub room-b : mostPoints ≤ length b
+  pub room-e : mostPoints ≤ length e
+  pub room-n : mostPoints ≤ length n
+  pub alpha : a′ ≡ take 0 a ++ (replicate (mostPoints - 0) nought ++ drop mostPoints a)
+  pub beta : b′ ≡ take k b ++ (replicate (mostPoints - k) nought ++ drop mostPoints b)
+  pub x : e′ ≡ take k e ++ (replicate (mostPoints - k) nought ++ drop mostPoints e)
+  pub y : n′ ≡ take k n ++ (replicate (mostPoints - k) nought ++ drop mostPoints n)
   pub made : t1 ≡ tilesTo (pointsOf b e n k) k ++ drop (k * 8) t
-  pub tiles : t2 ≡ take (k * 8) t1 ++ (replicate (20000 - k * 8) nought ++ drop 20000 t1)
+  pub tiles : t2 ≡ take (k * 8) t1 ++ (replicate (mostNumbers - k * 8) nought ++ drop mostNumbers t1)
   pub index : Built (take (k * 8) t2) k o l o′ l′ short need
 
 module _ (a b e n t : List Float) (o l : List ℕ) (k : ℕ) (a′ b′ e′ n′ t1 t2 : List Float) (o′ l′ : List ℕ) (short : Bool) (need : ℕ) (d : Done a b e n t o l k a′ b′ e′ n′ t1 t2 o′ l′ short need) where
   own-tiles : take (k * 8) t2 ≡ tilesOf (pointsOf b e n k)
   own-tiles =
-      front-tiles _ t t1 t2 (k * 8) 20000 (tiles-long (pointsOf b e n k) k) (omega (arith, d .few)) (d .made) (d .tiles)
+      front-tiles _ t t1 t2 (k * 8) mostNumbers (tiles-long (pointsOf b e n k) k) (omega (arith, d .few)) (d .made) (d .tiles)
       ∙ ap (tilesTo (pointsOf b e n k)) (sym (points-long b e n k))
 
   built : Built (tilesOf (pointsOf b e n k)) (length (pointsOf b e n k)) o l o′ l′ short need
@@ -85,39 +86,39 @@ module _ (a b e n t : List Float) (o l : List ℕ) (k : ℕ) (a′ b′ e′ n�
   unfolding cellsOf
   short-is = built .too-short
 
-  list-long : length (indexOf (holdsOf (tilesOf (pointsOf b e n k))) (length (pointsOf b e n k)) 4489) ≡ needed (tilesOf (pointsOf b e n k)) (length (pointsOf b e n k))
-  list-long = index-length _ _ 4489 ∙ sym (needed-start _ (length (pointsOf b e n k)))
+  list-long : length (indexOf (holdsOf (tilesOf (pointsOf b e n k))) (length (pointsOf b e n k)) cellCount) ≡ needed (tilesOf (pointsOf b e n k)) (length (pointsOf b e n k))
+  list-long = index-length _ _ cellCount ∙ sym (needed-start _ (length (pointsOf b e n k)))
 
-  t2-is : t2 ≡ filled 20000 (tilesOf (pointsOf b e n k)) t
+  t2-is : t2 ≡ filled mostNumbers (tilesOf (pointsOf b e n k)) t
   t2-is =
-      fill-tiles _ t t1 t2 (k * 8) 20000 (tiles-long (pointsOf b e n k) k) (omega (arith, d .few)) (d .made) (d .tiles)
-      ∙ ap (λ (j : ℕ). filled 20000 (tilesTo (pointsOf b e n k) j) t) (sym (points-long b e n k))
+      fill-tiles _ t t1 t2 (k * 8) mostNumbers (tiles-long (pointsOf b e n k) k) (omega (arith, d .few)) (d .made) (d .tiles)
+      ∙ ap (λ (j : ℕ). filled mostNumbers (tilesTo (pointsOf b e n k) j) t) (sym (points-long b e n k))
 
   -- the columns without the index
-  b-is : b′ ≡ filled 2500 (betas (pointsOf b e n k)) b
-  b-is = fill-column _ b b′ k 2500 (betas-taken b e n k (omega (arith, d .few, d .room-b))) (omega (arith, d .few, d .room-b)) (d .beta)
+  b-is : b′ ≡ filled mostPoints (betas (pointsOf b e n k)) b
+  b-is = fill-column _ b b′ k mostPoints (betas-taken b e n k (omega (arith, d .few, d .room-b))) (omega (arith, d .few, d .room-b)) (d .beta)
 
-  e-is : e′ ≡ filled 2500 (xs (pointsOf b e n k)) e
-  e-is = fill-column _ e e′ k 2500 (xs-taken b e n k (omega (arith, d .few, d .room-e))) (omega (arith, d .few, d .room-e)) (d .x)
+  e-is : e′ ≡ filled mostPoints (xs (pointsOf b e n k)) e
+  e-is = fill-column _ e e′ k mostPoints (xs-taken b e n k (omega (arith, d .few, d .room-e))) (omega (arith, d .few, d .room-e)) (d .x)
 
-  n-is : n′ ≡ filled 2500 (ys (pointsOf b e n k)) n
-  n-is = fill-column _ n n′ k 2500 (ys-taken b e n k (omega (arith, d .few, d .room-n))) (omega (arith, d .few, d .room-n)) (d .y)
+  n-is : n′ ≡ filled mostPoints (ys (pointsOf b e n k)) n
+  n-is = fill-column _ n n′ k mostPoints (ys-taken b e n k (omega (arith, d .few, d .room-n))) (omega (arith, d .few, d .room-n)) (d .y)
 
-  a-is : a′ ≡ filled 2500 [] a
+  a-is : a′ ≡ filled mostPoints [] a
   unfolding filled
   a-is = d .alpha
 
-  o-is : (s : Bool) → short ≡ s → o′ ≡ cond s o (fromPoints (pointsOf b e n k) .offsets ++ drop 4490 o)
+  o-is : (s : Bool) → short ≡ s → o′ ≡ cond s o (fromPoints (pointsOf b e n k) .offsets ++ drop offsetCount o)
   unfolding fromPoints
-  o-is true h = built .offsets ∙ ap (λ (z : Bool). pickList z o (offsetsOf (holdsOf (tilesOf (pointsOf b e n k))) (length (pointsOf b e n k)) 4489 ++ drop 4490 o)) (sym (built .too-short) ∙ h)
-  o-is false h = built .offsets ∙ ap (λ (z : Bool). pickList z o (offsetsOf (holdsOf (tilesOf (pointsOf b e n k))) (length (pointsOf b e n k)) 4489 ++ drop 4490 o)) (sym (built .too-short) ∙ h)
+  o-is true h = built .offsets ∙ ap (λ (z : Bool). pickList z o (offsetsOf (holdsOf (tilesOf (pointsOf b e n k))) (length (pointsOf b e n k)) cellCount ++ drop offsetCount o)) (sym (built .too-short) ∙ h)
+  o-is false h = built .offsets ∙ ap (λ (z : Bool). pickList z o (offsetsOf (holdsOf (tilesOf (pointsOf b e n k))) (length (pointsOf b e n k)) cellCount ++ drop offsetCount o)) (sym (built .too-short) ∙ h)
 
   l-is : (s : Bool) → short ≡ s → l′ ≡ cond s l (fromPoints (pointsOf b e n k) .list ++ drop (length (fromPoints (pointsOf b e n k) .list)) l)
   unfolding fromPoints
-  l-is true h = built .entries ∙ ap (λ (z : Bool). pickList z l (indexOf (holdsOf (tilesOf (pointsOf b e n k))) (length (pointsOf b e n k)) 4489 ++ drop (needed (tilesOf (pointsOf b e n k)) (length (pointsOf b e n k))) l)) (sym (built .too-short) ∙ h)
+  l-is true h = built .entries ∙ ap (λ (z : Bool). pickList z l (indexOf (holdsOf (tilesOf (pointsOf b e n k))) (length (pointsOf b e n k)) cellCount ++ drop (needed (tilesOf (pointsOf b e n k)) (length (pointsOf b e n k))) l)) (sym (built .too-short) ∙ h)
   l-is false h =
-      built .entries ∙ ap (λ (z : Bool). pickList z l (indexOf (holdsOf (tilesOf (pointsOf b e n k))) (length (pointsOf b e n k)) 4489 ++ drop (needed (tilesOf (pointsOf b e n k)) (length (pointsOf b e n k))) l)) (sym (built .too-short) ∙ h)
-      ∙ ap (λ (j : ℕ). indexOf (holdsOf (tilesOf (pointsOf b e n k))) (length (pointsOf b e n k)) 4489 ++ drop j l) (sym list-long)
+      built .entries ∙ ap (λ (z : Bool). pickList z l (indexOf (holdsOf (tilesOf (pointsOf b e n k))) (length (pointsOf b e n k)) cellCount ++ drop (needed (tilesOf (pointsOf b e n k)) (length (pointsOf b e n k))) l)) (sym (built .too-short) ∙ h)
+      ∙ ap (λ (j : ℕ). indexOf (holdsOf (tilesOf (pointsOf b e n k))) (length (pointsOf b e n k)) cellCount ++ drop j l) (sym list-long)
 
   pub done : (fallback : Bool) (r : Laid) → r ≡ answered short fallback (pointsOf b e n k) → outcome r (lent a′ b′ e′ n′ t2 o′ l′) ≡ layInto fallback (pointsOf b e n k) (lent a b e n t o l)
   unfolding layInto written fromPoints
@@ -134,14 +135,14 @@ module _ (a b e n t : List Float) (o l : List ℕ) (k : ℕ) (a′ b′ e′ n�
       same-made (sym (points-long b e n k)) need-is (f ∙ sym (point-read b e n k 0 z))
       ∙ sym (ap (λ (s : Bool). answered s fallback (pointsOf b e n k)) h)
 
-  pub need-small : need ≤ 4489 * 2500
+  pub need-small : need ≤ cellCount * mostPoints
   need-small = omega (arith, need-is-needed, needed-small (tilesOf (pointsOf b e n k)) (length (pointsOf b e n k)), points-long b e n k, d .few)
     where
       need-is-needed : need ≡ needed (tilesOf (pointsOf b e n k)) (length (pointsOf b e n k))
       need-is-needed = built .length-needed
 
--- ---- what stood in the first 2,500 entries does not matter
-pub lay-past : (fallback : Bool) (ps : List TrackPoint) (a b e n a′ b′ e′ n′ t : List Float) (o l : List ℕ) → drop 2500 a′ ≡ drop 2500 a → drop 2500 b′ ≡ drop 2500 b → drop 2500 e′ ≡ drop 2500 e → drop 2500 n′ ≡ drop 2500 n
+-- ---- what stood in the first mostPoints entries does not matter
+pub lay-past : (fallback : Bool) (ps : List TrackPoint) (a b e n a′ b′ e′ n′ t : List Float) (o l : List ℕ) → drop mostPoints a′ ≡ drop mostPoints a → drop mostPoints b′ ≡ drop mostPoints b → drop mostPoints e′ ≡ drop mostPoints e → drop mostPoints n′ ≡ drop mostPoints n
     → layInto fallback ps (lent a′ b′ e′ n′ t o l) ≡ layInto fallback ps (lent a b e n t o l)
 unfolding layInto written filled
 lay-past fallback ps a b e n a′ b′ e′ n′ t o l pa pb pe pn = simp (pa, pb, pe, pn)
@@ -161,17 +162,17 @@ right false q h = absurd (off-on h)
 pub room : (a b e n t : List Float) (o : List ℕ) → roomyOf a b e n t o ≡ true → Roomy a b e n t o
 unfolding roomyOf
 room a b e n t o h =
-    let h1 = right (leb 2500 (length a)) _ h in
-    let h2 = right (leb 2500 (length b)) _ h1 in
-    let h3 = right (leb 2500 (length e)) _ h2 in
-    let h4 = right (leb 2500 (length n)) _ h3 in
+    let h1 = right (leb mostPoints (length a)) _ h in
+    let h2 = right (leb mostPoints (length b)) _ h1 in
+    let h3 = right (leb mostPoints (length e)) _ h2 in
+    let h4 = right (leb mostPoints (length n)) _ h3 in
     record {
-      alpha = leb-true 2500 (length a) (left _ _ h);
-      beta = leb-true 2500 (length b) (left _ _ h1);
-      x = leb-true 2500 (length e) (left _ _ h2);
-      y = leb-true 2500 (length n) (left _ _ h3);
-      tiles = leb-true 20000 (length t) (left _ _ h4);
-      offsets = leb-true 4490 (length o) (right (leb 20000 (length t)) _ h4);
+      alpha = leb-true mostPoints (length a) (left _ _ h);
+      beta = leb-true mostPoints (length b) (left _ _ h1);
+      x = leb-true mostPoints (length e) (left _ _ h2);
+      y = leb-true mostPoints (length n) (left _ _ h3);
+      tiles = leb-true mostNumbers (length t) (left _ _ h4);
+      offsets = leb-true offsetCount (length o) (right (leb mostNumbers (length t)) _ h4);
     }
 
 pub record Given (b e n : List Float) (k : ℕ) : Type 0 where
@@ -211,7 +212,7 @@ at-most m k h = elim (decLt m k) [ yes l ↦ absurd (off-on (sym h ∙ lt-ltb m 
 
 pub record Fit (b e n : List Float) (k : ℕ) (a′ b′ e′ n′ t′ : List Float) (o′ : List ℕ) : Type 0 where
   pub some : 0 < k
-  pub few : k ≤ 2500
+  pub few : k ≤ mostPoints
   pub room : Roomy a′ b′ e′ n′ t′ o′
   pub given : Given b e n k
 
@@ -225,8 +226,8 @@ no-cause b e n k room wide r h w z = sym (h ∙ ap (λ (x : Bool). givenCause x 
 pub fit : (b e n : List Float) (k : ℕ) (a′ b′ e′ n′ t′ : List Float) (o′ : List ℕ) → givenCause (roomyOf a′ b′ e′ n′ t′ o′) b e n k ≡ 0 → Fit b e n k a′ b′ e′ n′ t′ o′
 unfolding givenCause
 fit b e n k a′ b′ e′ n′ t′ o′ h =
-    let p = passed (eqb k 0) (ltb 2500 k) (roomyOf a′ b′ e′ n′ t′ o′) (givenOf b e n k) (allGood (pointsOf b e n k)) h in
-    record { some = positive k (p .some); few = at-most 2500 k (p .few); room = room a′ b′ e′ n′ t′ o′ (p .room); given = given-long b e n k (p .given) }
+    let p = passed (eqb k 0) (ltb mostPoints k) (roomyOf a′ b′ e′ n′ t′ o′) (givenOf b e n k) (allGood (pointsOf b e n k)) h in
+    record { some = positive k (p .some); few = at-most mostPoints k (p .few); room = room a′ b′ e′ n′ t′ o′ (p .room); given = given-long b e n k (p .given) }
 
 -- no cause of given points is 3, the one that has a value
 none-needs : (p q r s t : Bool) → 0 < first-cause p q r s t → Refused (first-cause p q r s t) ≡ laidAnswer (first-cause p q r s t) noValues
@@ -240,7 +241,7 @@ none-needs false false true true true z = absurd (omega (arith, z))
 
 refused-by : (b e n : List Float) (k : ℕ) (room : Bool) → 0 < givenCause room b e n k → Refused (givenCause room b e n k) ≡ laidAnswer (givenCause room b e n k) noValues
 unfolding givenCause
-refused-by b e n k room z = none-needs (eqb k 0) (ltb 2500 k) room (givenOf b e n k) (allGood (pointsOf b e n k)) z
+refused-by b e n k room z = none-needs (eqb k 0) (ltb mostPoints k) room (givenOf b e n k) (allGood (pointsOf b e n k)) z
 
 turned-away : (k : ℕ) (ps : List TrackPoint) (l : Lent) → 0 < k → pointsAt k ps l ≡ outcome (laidAnswer k noValues) l
 unfolding pointsAt
@@ -271,8 +272,8 @@ accepted b e n k a′ b′ e′ n′ t′ o′ l′ b1 e1 n1 w h pb pe pn is =
     ∙ ap (λ (ps : List TrackPoint). layInto false ps (lent a′ b′ e′ n′ t′ o′ l′)) (fronts (g .beta) (g .x) (g .y))
     ∙ ap (λ (j : ℕ). pointsAt j (pointsOf b e n k) (lent a′ b′ e′ n′ t′ o′ l′)) (sym h)
   where
-    past : (s l c : List Float) → k ≤ length s → k ≤ 2500 → c ≡ take k s ++ drop k l → drop 2500 c ≡ drop 2500 l
-    past s l c m few p = ap (drop 2500) p ∙ drop-past (take k s) l k 2500 (length-take-le k s m) few
+    past : (s l c : List Float) → k ≤ length s → k ≤ mostPoints → c ≡ take k s ++ drop k l → drop mostPoints c ≡ drop mostPoints l
+    past s l c m few p = ap (drop mostPoints) p ∙ drop-past (take k s) l k mostPoints (length-take-le k s m) few
 
     fronts : k ≤ length b → k ≤ length e → k ≤ length n → pointsOf b1 e1 n1 k ≡ pointsOf b e n k
     fronts mb me mn =

@@ -7,6 +7,7 @@ use mathlib.Core.List.{List, [], _∷_, _++_, map, map-append, append-assoc, app
 use borrow.Author.Tests.{lt-ltb, le-ltb}
 use lib.ListN.{length, drop, set, length-map}
 use lib.Ieee.{Float}
+use Rattle.course.specs.Lengths.{mostPoints}
 use Rattle.course.specs.Arithmetic.{natural}
 use Rattle.course.specs.Numeric.{within}
 use Rattle.course.specs.Finder.{destOf}
@@ -117,17 +118,17 @@ near-next cs w p v l e = subst (λ (m : ℕ). v .dest < m) l (subst (In-step (le
 pub record Walking (cs : List Checkpoint) (a₀ b₀ x₀ y₀ a b x y : List Float) (w : Walk) (k : ℕ) : Type 0 where
   pub done : List TrackStep
   pub held : Held done a b x y a₀ b₀ x₀ y₀ k
-  pub rest : walkOf cs ≡ follow done (walkFrom (2500 - k) cs w)
+  pub rest : walkOf cs ≡ follow done (walkFrom (mostPoints - k) cs w)
   pub slow : w .laps ≤ 4
   pub twelve : length cs ≡ 12
   pub near : w .dest < 12
-  pub few : k ≤ 2500
-  pub long-a : 2500 ≤ length a₀
-  pub long-b : 2500 ≤ length b₀
-  pub long-x : 2500 ≤ length x₀
-  pub long-y : 2500 ≤ length y₀
+  pub few : k ≤ mostPoints
+  pub long-a : mostPoints ≤ length a₀
+  pub long-b : mostPoints ≤ length b₀
+  pub long-x : mostPoints ≤ length x₀
+  pub long-y : mostPoints ≤ length y₀
 
-trod : (cs : List Checkpoint) (a₀ b₀ x₀ y₀ a b x y : List Float) (k : ℕ) (ok : Bool) (ps : List TrackStep) → k ≤ 2500 → Held ps a b x y a₀ b₀ x₀ y₀ k
+trod : (cs : List Checkpoint) (a₀ b₀ x₀ y₀ a b x y : List Float) (k : ℕ) (ok : Bool) (ps : List TrackStep) → k ≤ mostPoints → Held ps a b x y a₀ b₀ x₀ y₀ k
     → walkOf cs ≡ record { ok = ok; steps = ps } → Trod cs a₀ b₀ x₀ y₀ a b x y k ok
 trod cs a₀ b₀ x₀ y₀ a b x y k ok ps l h e =
     let q : ps ≡ walkOf cs .steps = sym (ap (λ (r : Trail). r .steps) e) in
@@ -142,12 +143,12 @@ trod cs a₀ b₀ x₀ y₀ a b x y k ok ps l h e =
     }
 
 module _ (cs : List Checkpoint) (a₀ b₀ x₀ y₀ : List Float) where
-  pub begun : (w : Walk) → w ≡ walkStart → length cs ≡ 12 → 2500 ≤ length a₀ → 2500 ≤ length b₀ → 2500 ≤ length x₀ → 2500 ≤ length y₀ → Walking cs a₀ b₀ x₀ y₀ a₀ b₀ x₀ y₀ w 0
+  pub begun : (w : Walk) → w ≡ walkStart → length cs ≡ 12 → mostPoints ≤ length a₀ → mostPoints ≤ length b₀ → mostPoints ≤ length x₀ → mostPoints ≤ length y₀ → Walking cs a₀ b₀ x₀ y₀ a₀ b₀ x₀ y₀ w 0
   unfolding walkOf walkStart
   begun w e n la lb lx ly = record {
     done = [];
     held = record { alpha = grown-none a₀; beta = grown-none b₀; x = grown-none x₀; y = grown-none y₀ };
-    rest = ap (λ (v : Walk). walkFrom 2500 cs v) (sym e) ∙ sym (puts-none (walkFrom 2500 cs w));
+    rest = ap (λ (v : Walk). walkFrom mostPoints cs v) (sym e) ∙ sym (puts-none (walkFrom mostPoints cs w));
     slow = rw e (omega arith);
     twelve = n;
     near = rw e (omega arith);
@@ -159,39 +160,39 @@ module _ (cs : List Checkpoint) (a₀ b₀ x₀ y₀ : List Float) where
   }
 
   module _ (a b x y : List Float) (w : Walk) (k : ℕ) (s : Walking cs a₀ b₀ x₀ y₀ a b x y w k) where
-    pub walked-full : 2500 ≤ k → Trod cs a₀ b₀ x₀ y₀ a b x y k true
+    pub walked-full : mostPoints ≤ k → Trod cs a₀ b₀ x₀ y₀ a b x y k true
     unfolding follow
     walked-full h =
-        let z : 2500 - k ≡ 0 = omega arith in
+        let z : mostPoints - k ≡ 0 = omega arith in
         trod cs a₀ b₀ x₀ y₀ a b x y k true (s .done) (s .few) (s .held)
-        (s .rest ∙ ap (follow (s .done)) (over cs w (2500 - k) z) ∙ ap (λ (l : List TrackStep). record { ok = true; steps = l }) (append-nil (s .done)))
+        (s .rest ∙ ap (follow (s .done)) (over cs w (mostPoints - k) z) ∙ ap (λ (l : List TrackStep). record { ok = true; steps = l }) (append-nil (s .done)))
 
-    pub walked-refused : k < 2500 → stepOf cs w ≡ Refused → Trod cs a₀ b₀ x₀ y₀ a b x y k false
+    pub walked-refused : k < mostPoints → stepOf cs w ≡ Refused → Trod cs a₀ b₀ x₀ y₀ a b x y k false
     unfolding follow
     walked-refused h e =
-        let z : 2500 - k ≡ 0 → ⊥ = λ q. omega (arith, q) in
+        let z : mostPoints - k ≡ 0 → ⊥ = λ q. omega (arith, q) in
         trod cs a₀ b₀ x₀ y₀ a b x y k false (s .done) (s .few) (s .held)
-        (s .rest ∙ ap (follow (s .done)) (refused cs w (2500 - k) z e) ∙ ap (λ (l : List TrackStep). record { ok = false; steps = l }) (append-nil (s .done)))
+        (s .rest ∙ ap (follow (s .done)) (refused cs w (mostPoints - k) z e) ∙ ap (λ (l : List TrackStep). record { ok = false; steps = l }) (append-nil (s .done)))
 
-    module _ (p : TrackStep) (v : Walk) (h : k < 2500) (e : stepOf cs w ≡ On p v) where
+    module _ (p : TrackStep) (v : Walk) (h : k < mostPoints) (e : stepOf cs w ≡ On p v) where
       next-held : Held (s .done ++ (p ∷ [])) (set a k (p .alpha)) (set b k (p .beta)) (set x k (p .x)) (set y k (p .y)) a₀ b₀ x₀ y₀ (k + 1)
       next-held = held-more a₀ b₀ x₀ y₀ k (s .done) p a b x y (omega arith) (omega arith) (omega arith) (omega arith) (s .held)
 
       pub walked-end : 4 < v .laps → Trod cs a₀ b₀ x₀ y₀ (set a k (p .alpha)) (set b k (p .beta)) (set x k (p .x)) (set y k (p .y)) (k + 1) true
       unfolding follow
       walked-end l =
-          let z : 2500 - k ≡ 0 → ⊥ = λ q. omega (arith, q) in
+          let z : mostPoints - k ≡ 0 → ⊥ = λ q. omega (arith, q) in
           trod cs a₀ b₀ x₀ y₀ _ _ _ _ (k + 1) true (s .done ++ (p ∷ [])) (omega arith) next-held
-          (s .rest ∙ ap (follow (s .done)) (ends cs w (2500 - k) p v z e l))
+          (s .rest ∙ ap (follow (s .done)) (ends cs w (mostPoints - k) p v z e l))
 
       pub walked-on : v .laps ≤ 4 → Walking cs a₀ b₀ x₀ y₀ (set a k (p .alpha)) (set b k (p .beta)) (set x k (p .x)) (set y k (p .y)) v (k + 1)
       walked-on l =
-          let z : 2500 - k ≡ 0 → ⊥ = λ q. omega (arith, q) in
-          let m : 2500 - k - 1 ≡ 2500 - (k + 1) = omega arith in
+          let z : mostPoints - k ≡ 0 → ⊥ = λ q. omega (arith, q) in
+          let m : mostPoints - k - 1 ≡ mostPoints - (k + 1) = omega arith in
           record {
             done = s .done ++ (p ∷ []);
             held = next-held;
-            rest = s .rest ∙ ap (follow (s .done)) (goes-on cs w (2500 - k) p v z e l) ∙ puts-more (s .done) p (walkFrom (2500 - k - 1) cs v)
+            rest = s .rest ∙ ap (follow (s .done)) (goes-on cs w (mostPoints - k) p v z e l) ∙ puts-more (s .done) p (walkFrom (mostPoints - k - 1) cs v)
                 ∙ ap (λ (n : ℕ). follow (s .done ++ (p ∷ [])) (walkFrom n cs v)) m;
             slow = l;
             twelve = s .twelve;
