@@ -7,6 +7,7 @@ use mathlib.Core.List.{List, [], _∷_, _++_, map}
 use lib.ListN.{length, take, drop, length-map, length-drop}
 use lib.Seq.{take-at, drop-append-le, take-append-le}
 use lib.Ieee.{Float}
+use Rattle.course.specs.Lengths.{mostPoints}
 use Rattle.course.specs.Step.{stepOf}
 use Rattle.course.specs.Track.{stepBetas, stepXs, stepYs, trackOf}
 use Rattle.course.specs.Walk.{Trail, follow, onward, walkFrom, walkStart, walkOf}
@@ -53,9 +54,9 @@ unfolding pointOf
 ys-of ps = sym (map-through (λ (p : TrackPoint). p .y) pointOf (λ (p : TrackStep). p .y) (λ a. refl) ps)
 
 -- ---- one column after the walk and the move
-module _ (f : TrackStep → Float) (ps : List TrackStep) (c c₀ : List Float) (w : ℕ) (is : c ≡ map f ps ++ drop w c₀) (long : w ≡ length ps) (few : w ≤ 2500) where
-  walked-kept : drop 2500 c ≡ drop 2500 c₀
-  walked-kept = ap (drop 2500) is ∙ drop-past (map f ps) c₀ w 2500 (length-map ps f ∙ sym long) few
+module _ (f : TrackStep → Float) (ps : List TrackStep) (c c₀ : List Float) (w : ℕ) (is : c ≡ map f ps ++ drop w c₀) (long : w ≡ length ps) (few : w ≤ mostPoints) where
+  walked-kept : drop mostPoints c ≡ drop mostPoints c₀
+  walked-kept = ap (drop mostPoints) is ∙ drop-past (map f ps) c₀ w mostPoints (length-map ps f ∙ sym long) few
 
   walked-front : Before (map f ps) c
   walked-front = record { rest = drop w c₀; is = is }
@@ -77,8 +78,8 @@ module _ (f : TrackStep → Float) (ps : List TrackStep) (c c₀ : List Float) (
     moved-front : take n c′ ≡ map f (trackOf ps)
     moved-front = ap (take n) moved ∙ take-at (take n (drop from c)) (drop n c) n part-long ∙ part-is
 
-    moved-kept : drop 2500 c′ ≡ drop 2500 c₀
-    moved-kept = ap (drop 2500) moved ∙ drop-past (take n (drop from c)) c n 2500 part-long (omega arith) ∙ walked-kept
+    moved-kept : drop mostPoints c′ ≡ drop mostPoints c₀
+    moved-kept = ap (drop mostPoints) moved ∙ drop-past (take n (drop from c)) c n mostPoints part-long (omega arith) ∙ walked-kept
 
 -- ---- the attempt
 module _ (cs : List Checkpoint) (a b x y a₁ b₁ x₁ y₁ : List Float) (w : ℕ) (ok : Bool) (d : Trod cs a b x y a₁ b₁ x₁ y₁ w ok) where

@@ -9,6 +9,7 @@ use borrow.Author.Tests.{lt-ltb, le-ltb}
 use native.Mathlib.Numerals.{add-one}
 use native.Mathlib.Omega.{arith}
 use lib.Ieee.{Float}
+use Rattle.course.specs.Lengths.{cellCount, offsetCount}
 use Rattle.course.specs.declared.index.Rect.{Rect}
 use Rattle.course.specs.Index.{start, offsetsOf, indexOf}
 use Rattle.course.specs.Rect.{rectOf, holds, holdsOf, areaOf, needed}
@@ -36,17 +37,17 @@ module _ (tiles : List Float) where
   unfolding needed
   needed-more i = rw add-one
 
-  pub needed-small : (i : ℕ) → needed tiles i ≤ 4489 * i
+  pub needed-small : (i : ℕ) → needed tiles i ≤ cellCount * i
   unfolding needed
   needed-small zero = omega arith
   needed-small (suc i) = omega (arith, needed-small i, area-small (rectOf tiles i) (rect-small tiles i))
 
-  pub needed-start : (i : ℕ) → needed tiles i ≡ start (holdsOf tiles) i 4489
+  pub needed-start : (i : ℕ) → needed tiles i ≡ start (holdsOf tiles) i cellCount
   unfolding needed
-  needed-start zero = sym (start-no-tile (holdsOf tiles) 4489)
+  needed-start zero = sym (start-no-tile (holdsOf tiles) cellCount)
   needed-start (suc i) =
       rw (← add-one i)
-      (omega (arith, needed-start i, start-tile (holdsOf tiles) i 4489, held-area (rectOf tiles i) (rect-small tiles i)))
+      (omega (arith, needed-start i, start-tile (holdsOf tiles) i cellCount, held-area (rectOf tiles i) (rect-small tiles i)))
 
   module _ (n : ℕ) (o l : List ℕ) (need : ℕ) (is : need ≡ needed tiles n) where
     pub built-short : length l < needed tiles n → Built tiles n o l o l true need
@@ -54,15 +55,15 @@ module _ (tiles : List Float) where
         let t : ltb (length l) (needed tiles n) ≡ true = lt-ltb (length l) (needed tiles n) a in
         record { length-needed = is; too-short = sym t; offsets = simp t; entries = simp t }
 
-    pub built-laid : needed tiles n ≤ length l → (o′ l′ : List ℕ) → o′ ≡ offsetsOf (holdsOf tiles) n 4489 → l′ ≡ indexOf (holdsOf tiles) n 4489 → Built tiles n o l (o′ ++ drop 4490 o) (l′ ++ drop need l) false need
+    pub built-laid : needed tiles n ≤ length l → (o′ l′ : List ℕ) → o′ ≡ offsetsOf (holdsOf tiles) n cellCount → l′ ≡ indexOf (holdsOf tiles) n cellCount → Built tiles n o l (o′ ++ drop offsetCount o) (l′ ++ drop need l) false need
     built-laid a o′ l′ p q =
         let t : ltb (length l) (needed tiles n) ≡ false = le-ltb (length l) (needed tiles n) a in
         record {
           length-needed = is;
           too-short = sym t;
-          offsets = ap (λ (z : List ℕ). z ++ drop 4490 o) p ∙ sym (ap (λ (b : Bool). pickList b o (offsetsOf (holdsOf tiles) n 4489 ++ drop 4490 o)) t);
+          offsets = ap (λ (z : List ℕ). z ++ drop offsetCount o) p ∙ sym (ap (λ (b : Bool). pickList b o (offsetsOf (holdsOf tiles) n cellCount ++ drop offsetCount o)) t);
           entries =
               ap (λ (z : List ℕ). z ++ drop need l) q
-              ∙ ap (λ (z : ℕ). indexOf (holdsOf tiles) n 4489 ++ drop z l) is
-              ∙ sym (ap (λ (b : Bool). pickList b l (indexOf (holdsOf tiles) n 4489 ++ drop (needed tiles n) l)) t);
+              ∙ ap (λ (z : ℕ). indexOf (holdsOf tiles) n cellCount ++ drop z l) is
+              ∙ sym (ap (λ (b : Bool). pickList b l (indexOf (holdsOf tiles) n cellCount ++ drop (needed tiles n) l)) t);
         }

@@ -9,6 +9,7 @@ use lib.Dec.{eqb, ltb}
 use lib.ListN.{length, take, drop, length-map, length-append, length-take}
 use Rattle.rng.specs.declared.SplitMix64.{SplitMix64}
 use Rattle.rng.specs.SplitMix.{after, seeded}
+use Rattle.course.specs.Lengths.{mostPoints}
 use Rattle.course.specs.Constants.{maxAttempts}
 use Rattle.course.specs.Checkpoints.{checkpointsOf}
 use Rattle.course.specs.Step.{stepOf}
@@ -59,14 +60,14 @@ later-few : (ps : List TrackStep) → laterPass ps ≤ length ps - 1
 unfolding laterPass
 later-few ps = pass-le (stepAlphas ps) (length ps - 1)
 
-track-few : (ps : List TrackStep) → length ps ≤ 2500 → length (trackOf ps) ≤ 2497
+track-few : (ps : List TrackStep) → length ps ≤ mostPoints → length (trackOf ps) ≤ 2497
 track-few ps h = by (earlierPass ps) refl
   where
     by : (a : ℕ) → earlierPass ps ≡ a → length (trackOf ps) ≤ 2497
     by zero e = rw (none-a ps e) (omega arith)
     by (suc a) e = omega (arith, e, track-short ps, later-few ps)
 
-accepted-few : (r : Trail) → length (r .steps) ≤ 2500 → length (accepted r) ≤ 2497
+accepted-few : (r : Trail) → length (r .steps) ≤ mostPoints → length (accepted r) ≤ 2497
 unfolding accepted
 accepted-few r h = one (r .ok) (track-few (r .steps) h)
   where
@@ -76,7 +77,7 @@ accepted-few r h = one (r .ok) (track-few (r .steps) h)
 
 pub attempt-few : (cs : List Checkpoint) → length (attemptOn cs) ≤ 2497
 unfolding attemptOn walkOf
-attempt-few cs = accepted-few (walkFrom 2500 cs walkStart) (walk-few 2500 cs walkStart)
+attempt-few cs = accepted-few (walkFrom mostPoints cs walkStart) (walk-few mostPoints cs walkStart)
 
 -- ---- a course has 1 to 2,497 points
 pub record Sized (c : CoursePoints) : Type 0 where

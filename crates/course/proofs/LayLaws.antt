@@ -54,7 +54,7 @@ module _ (c : CoursePoints) (a b x y t : List Float) (o l : List ℕ) (a′ b′
       ∙ ap₂ (λ (f : Bool) (ps : List TrackPoint). layInto f ps (lent a b x y t o l)) f points-there
       ∙ laid-roomy c (lent a b x y t o l) h
 
-pub finish-size : (c : CoursePoints) (a b x y a′ b′ x′ y′ : List Float) (n : ℕ) → InFront (c .points) a b x y a′ b′ x′ y′ n → Sized c → (0 < n) × (n ≤ 2500)
+pub finish-size : (c : CoursePoints) (a b x y a′ b′ x′ y′ : List Float) (n : ℕ) → InFront (c .points) a b x y a′ b′ x′ y′ n → Sized c → (0 < n) × (n ≤ mostPoints)
 finish-size c a b x y a′ b′ x′ y′ n d s = (rw (d .count) (s .some), omega (arith, d .count, s .few))
 
 pub finish-room : (a b x y t : List Float) (o : List ℕ) (a′ b′ x′ y′ : List Float) → roomyOf a b x y t o ≡ true
@@ -136,11 +136,11 @@ unfolding layInto written fromPoints
 into-agree c l l′ s =
     let few : length (c .points) ≤ 2497 = s .few in
     record {
-      alpha = same-filled 2500 [] (l .alpha) (l′ .alpha) (omega arith);
-      beta = same-filled 2500 (betas (c .points)) (l .beta) (l′ .beta) (rw (length-map (c .points) (λ (p : TrackPoint). p .beta)) (omega arith));
-      x = same-filled 2500 (xs (c .points)) (l .x) (l′ .x) (rw (length-map (c .points) (λ (p : TrackPoint). p .x)) (omega arith));
-      y = same-filled 2500 (ys (c .points)) (l .y) (l′ .y) (rw (length-map (c .points) (λ (p : TrackPoint). p .y)) (omega arith));
-      tiles = same-filled 20000 (tilesOf (c .points)) (l .tiles) (l′ .tiles) (rw (tiles-long (c .points) (length (c .points))) (omega arith));
+      alpha = same-filled mostPoints [] (l .alpha) (l′ .alpha) (omega arith);
+      beta = same-filled mostPoints (betas (c .points)) (l .beta) (l′ .beta) (rw (length-map (c .points) (λ (p : TrackPoint). p .beta)) (omega arith));
+      x = same-filled mostPoints (xs (c .points)) (l .x) (l′ .x) (rw (length-map (c .points) (λ (p : TrackPoint). p .x)) (omega arith));
+      y = same-filled mostPoints (ys (c .points)) (l .y) (l′ .y) (rw (length-map (c .points) (λ (p : TrackPoint). p .y)) (omega arith));
+      tiles = same-filled mostNumbers (tilesOf (c .points)) (l .tiles) (l′ .tiles) (rw (tiles-long (c .points) (length (c .points))) (omega arith));
     }
 
 pub same-course : (attempts seed : ℕ) (l l′ : Lent) → roomy l ≡ true → roomy l′ ≡ true → Agree (layCall attempts seed l .lent) (layCall attempts seed l′ .lent)

@@ -12,6 +12,7 @@ use lib.Seq.{getD-at}
 use lib.Ieee.{Float}
 use lib.Dec.{ltb}
 use borrow.Author.Tests.{le-ltb}
+use Rattle.course.specs.Lengths.{cellCount, offsetCount}
 use Rattle.course.specs.Index.{addIf, listed, partOk, lookup, offsetsOf, indexOf}
 use Rattle.course.specs.Rect.{holdsOf, needed}
 use Rattle.course.specs.IndexSteps.{Built, pickList}
@@ -54,14 +55,14 @@ module _ (h : ℕ → ℕ → Bool) (c : ℕ) where
       go false ih m = ih m
 
 -- the columns that the builder wrote are an index of the tiles: the lookup of each cell is what it lists
-pub built-lookup : (tiles : List Float) (n : ℕ) (o l o′ l′ : List ℕ) (short : Bool) (need : ℕ) → Built tiles n o l o′ l′ short need → needed tiles n ≤ length l → (c : ℕ) → c < 4489 → lookup o′ l′ c ≡ listed (holdsOf tiles) n c
+pub built-lookup : (tiles : List Float) (n : ℕ) (o l o′ l′ : List ℕ) (short : Bool) (need : ℕ) → Built tiles n o l o′ l′ short need → needed tiles n ≤ length l → (c : ℕ) → c < cellCount → lookup o′ l′ c ≡ listed (holdsOf tiles) n c
 built-lookup tiles n o l o′ l′ short need b a c m =
     let t : ltb (length l) (needed tiles n) ≡ false = le-ltb (length l) (needed tiles n) a in
-    let p : o′ ≡ offsetsOf (holdsOf tiles) n 4489 ++ drop 4490 o = b .offsets ∙ ap (λ (z : Bool). pickList z o (offsetsOf (holdsOf tiles) n 4489 ++ drop 4490 o)) t in
-    let q : l′ ≡ indexOf (holdsOf tiles) n 4489 ++ drop (needed tiles n) l = b .entries ∙ ap (λ (z : Bool). pickList z l (indexOf (holdsOf tiles) n 4489 ++ drop (needed tiles n) l)) t in
+    let p : o′ ≡ offsetsOf (holdsOf tiles) n cellCount ++ drop offsetCount o = b .offsets ∙ ap (λ (z : Bool). pickList z o (offsetsOf (holdsOf tiles) n cellCount ++ drop offsetCount o)) t in
+    let q : l′ ≡ indexOf (holdsOf tiles) n cellCount ++ drop (needed tiles n) l = b .entries ∙ ap (λ (z : Bool). pickList z l (indexOf (holdsOf tiles) n cellCount ++ drop (needed tiles n) l)) t in
     ap (λ (z : List ℕ). lookup z l′ c) p
-    ∙ ap (λ (z : List ℕ). lookup (offsetsOf (holdsOf tiles) n 4489 ++ drop 4490 o) z c) q
-    ∙ lookup-laid (holdsOf tiles) n 4489 c (drop 4490 o) (drop (needed tiles n) l) m
+    ∙ ap (λ (z : List ℕ). lookup (offsetsOf (holdsOf tiles) n cellCount ++ drop offsetCount o) z c) q
+    ∙ lookup-laid (holdsOf tiles) n cellCount c (drop offsetCount o) (drop (needed tiles n) l) m
 
 -- the last offset is the list's length
 pub last-offset : (h : ℕ → ℕ → Bool) (n cells : ℕ) (past : List ℕ) → getD (offsetsOf h n cells ++ past) cells 0 ≡ length (indexOf h n cells)

@@ -12,6 +12,7 @@ use lib.Seq.{getD-set-same, getD-set-other, drop-set-lt, drop-drop}
 use lib.Dec.{T}
 use lib.Ieee.{Float, nan, isNan, nanBits, binary64, ofBits, toBits}
 use lib.Ieee.Bits.{toBits-ofBits, nanBits-is}
+use Rattle.course.specs.Lengths.{mostPoints, cellCount}
 use Rattle.course.specs.declared.index.Rect.{Rect}
 use Rattle.course.specs.Arithmetic.{nought}
 use Rattle.course.specs.Index.{addIf, listed, start, indexOf, table, offsetsOf}
@@ -93,7 +94,7 @@ module _ (tiles : List Float) (n : ℕ) where
           apart : (k : ℕ) → k < i → k ≡ i → ⊥
           apart k m e = omega arith
 
-  pub rects-in : (rects rects′ : List Float) → n ≤ 2500 → n ≤ length rects → RectsPacked tiles n n rects rects′ → RectsIn rects′ n
+  pub rects-in : (rects rects′ : List Float) → n ≤ mostPoints → n ≤ length rects → RectsPacked tiles n n rects rects′ → RectsIn rects′ n
   rects-in rects rects′ few room t = record {
     few = few;
     each = λ i l. record { room = omega (arith, t .same, l, room); number = t .each i l .number };
@@ -136,8 +137,8 @@ module _ (h g : ℕ → ℕ → Bool) where
     offsets-same cells = table-same (cells + 1)
 
 -- the cells summed are the length of the rectangles' index
-pub needed-packed : (tiles : List Float) (n : ℕ) (rects rects′ : List Float) → RectsPacked tiles n n rects rects′ → needed tiles n ≡ start (heldIn rects′) n 4489
-needed-packed tiles n rects rects′ t = needed-start tiles n ∙ sym (start-same (heldIn rects′) (holdsOf tiles) n (held-same tiles n rects rects′ t) 4489)
+pub needed-packed : (tiles : List Float) (n : ℕ) (rects rects′ : List Float) → RectsPacked tiles n n rects rects′ → needed tiles n ≡ start (heldIn rects′) n cellCount
+needed-packed tiles n rects rects′ t = needed-start tiles n ∙ sym (start-same (heldIn rects′) (holdsOf tiles) n (held-same tiles n rects rects′ t) cellCount)
 
 -- ---- the scratch is cleared
 pub scratch-cleared : (a a1 a2 : List Float) (n m : ℕ) → n ≤ m → drop n a1 ≡ drop n a → a2 ≡ take 0 a1 ++ (replicate (m - 0) nought ++ drop m a1) → a2 ≡ take 0 a ++ (replicate (m - 0) nought ++ drop m a)

@@ -1,5 +1,6 @@
 -- `course::cell::cell_at` meets its contract. Assumes nothing.
 use Rattle.course.proofs.Cells.{cell-high}
+use Rattle.course.specs.Constants.{gridDim}
 use Rattle.course.specs.Cell.{cellAt}
 use native.Mathlib.Omega.{arith}
 use Prim.Native.Nat.{ℕ, _+_, _*_}
@@ -25,7 +26,7 @@ add-result c = omega (arith, c .before .cell-of .ensures, c .cell-of2 .ensures, 
 
 returns : tie.Need-returns
 unfolding cellAt
-returns c = ap₂ (λ (r s : ℕ). r * 67 + s) (c .before .cell-of .ensures) (c .cell-of2 .ensures)
+returns c = ap₂ (λ (r s : ℕ). r * gridDim + s) (c .before .cell-of .ensures) (c .cell-of2 .ensures)
 
 pub cell-at-spec : {M : Type 1} → statement M
 cell-at-spec =

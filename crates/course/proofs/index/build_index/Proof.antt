@@ -7,6 +7,7 @@ use Rattle.course.proofs.PackedRects.{rects-in, needed-packed, held-sam
 use borrow.Author.Needs.{needs}
 use Rattle.course.proofs.index.build_index.Statement.{statement}
 use Rattle.course.proofs.index.build_index.Tie as tie
+use Rattle.course.specs.Lengths.{cellCount, offsetCount}
 
 total-requires : tie.Need-total-requires
 total-requires c κs = search needs
@@ -26,7 +27,7 @@ slice-relend-prefix-lay-index c = search needs
 slice-aggregate-lay-index : tie.Need-slice-aggregate-lay-index
 slice-aggregate-lay-index c =
     let s = c .before .before .before .before .before .before .before .before .before .before .before in
-    sym (length-take-le 4490 (s .args .offsets .now) (s .pre .1 .1))
+    sym (length-take-le offsetCount (s .args .offsets .now) (s .pre .1 .1))
 
 slice-relend-prefix-lay-index-2 : tie.Need-slice-relend-prefix-lay-index-2
 slice-relend-prefix-lay-index-2 c = search needs
@@ -40,7 +41,7 @@ lay-index-requires c κs =
     let s = c .before .before .before .before .before .before .before .before .before .before .before .before in (
       rects-in (s .args .tiles .now) (s .args .n) _ _ (s .pre .0 .0) (s .pre .1 .0) (t .ensures .1),
       (
-        length-take-le 4490 (s .args .offsets .now) (s .pre .1 .1),
+        length-take-le offsetCount (s .args .offsets .now) (s .pre .1 .1),
         length-take-le (t .result) (s .args .list .now) (omega arith) ∙ t .ensures .0 ∙ needed-packed (s .args .tiles .now) (s .args .n) _ _ (t .ensures .1),
       ),
     )
@@ -60,7 +61,7 @@ returns-2 c =
     let t = c .before .before .before .before .before .before .before .before .before .before .before .total in
     let s = c .before .before .before .before .before .before .before .before .before .before .before .before .before .before .before .before .before in
     let k = held-same (s .args .tiles .now) (s .args .n) _ _ (t .ensures .1) in (
-      built-laid (s .args .tiles .now) (s .args .n) (s .args .offsets .now) (s .args .list .now) (t .result) (t .ensures .0) (omega (arith, c .before .before .before .before .before .before .before .before .if1 .left)) _ _ (u .0 ∙ offsets-same _ _ (s .args .n) k 4489) (u .1 ∙ index-same _ _ (s .args .n) k 4489),
+      built-laid (s .args .tiles .now) (s .args .n) (s .args .offsets .now) (s .args .list .now) (t .result) (t .ensures .0) (omega (arith, c .before .before .before .before .before .before .before .before .if1 .left)) _ _ (u .0 ∙ offsets-same _ _ (s .args .n) k cellCount) (u .1 ∙ index-same _ _ (s .args .n) k cellCount),
       t .ensures .1 .past,
     )
 

@@ -8,6 +8,7 @@ use native.Mathlib.Omega.{arith}
 use borrow.Author.Needs.{needs}
 use Rattle.course.proofs.points.finish.Statement.{statement}
 use Rattle.course.proofs.points.finish.Tie as tie
+use Rattle.course.specs.Lengths.{mostPoints}
 
 point-at-requires : tie.Need-point-at-requires
 point-at-requires c κs = search needs
@@ -90,7 +91,7 @@ finished c =
       room-b = s .pre .1 .beta;
       room-e = s .pre .1 .x;
       room-n = s .pre .1 .y;
-      alpha = scratch-cleared (s .args .alpha .now) (b .last .1 .1 .0) _ (s .args .n) 2500 (s .pre .0 .1) (b .ensures .1) (c .before .before .before .clear-from5 .ensures);
+      alpha = scratch-cleared (s .args .alpha .now) (b .last .1 .1 .0) _ (s .args .n) mostPoints (s .pre .0 .1) (b .ensures .1) (c .before .before .before .clear-from5 .ensures);
       beta = c .before .before .before .before .before .before .before .before .before .before .before .before .before .before .before .before .before .before .before .before .before .before .before .before .before .before .before .before .before .before .clear-from .ensures;
       x = c .before .before .before .before .before .before .before .before .before .before .before .before .before .before .before .before .before .before .before .before .before .before .before .before .before .before .clear-from2 .ensures;
       y = c .before .before .before .before .before .before .before .before .before .before .before .before .before .before .before .before .before .before .before .before .before .before .clear-from3 .ensures;

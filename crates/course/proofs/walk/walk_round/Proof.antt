@@ -3,6 +3,7 @@ use borrow.Author.Needs.{needs}
 use mathlib.Core.Path.{_≡_, refl, sym, _∙_}
 use Prim.Native.Nat.{_-_}
 use native.Mathlib.Omega.{arith}
+use Rattle.course.specs.Lengths.{mostPoints}
 use Rattle.course.specs.Trig.{turnsOf}
 use Rattle.course.specs.Steps.{turnsAt}
 use Rattle.course.proofs.WalkSteps.{Walking, begun, walked-full, walked-refused, walked-end, walked-on}
@@ -19,7 +20,7 @@ abbrev Inv-loop : tie.InvT-loop
 Inv-loop alpha₀ beta₀ x₀ y₀ cs w₀ t₀ k₀ alpha beta x y w t k = Walking cs alpha₀ beta₀ x₀ y₀ alpha beta x y w k × (t ≡ turnsAt (turnsOf (w .beta)))
 
 abbrev μ-loop : tie.MeasureT-loop
-μ-loop alpha₀ beta₀ x₀ y₀ cs w₀ t₀ k₀ alpha beta x y w t k = 2500 - k
+μ-loop alpha₀ beta₀ x₀ y₀ cs w₀ t₀ k₀ alpha beta x y w t k = mostPoints - k
 
 start-requires : tie.Need-start-requires Inv-loop μ-loop
 start-requires c κs = search needs
