@@ -1,5 +1,5 @@
 -- An attempt's columns: the walk, then its track moved to the front. Assumes nothing.
-use Prim.Native.Nat.{ℕ, _+_, _-_, _<_, _≤_}
+use Prim.Native.Nat.{ℕ, suc, _+_, _-_, _<_, _≤_}
 use native.Mathlib.Omega.{arith}
 use mathlib.Core.Path.{_≡_, refl, sym, ap, _∙_, subst}
 use mathlib.Core.Bool.{Bool, true, false}
@@ -32,9 +32,13 @@ unfolding onward follow
 some-onward Refused k e = let z : _≡_ {A = ℕ} 0 1 = cc in omega arith
 some-onward (On p w) k e = omega arith
 
+some-from : (m : ℕ) (cs : List Checkpoint) (w : Walk) → walkFrom (suc m) cs w .ok ≡ true → 0 < length (walkFrom (suc m) cs w .steps)
+unfolding walkFrom
+some-from m cs w e = some-onward (stepOf cs w) (λ (v : Walk). walkFrom m cs v) e
+
 walk-some : (cs : List Checkpoint) → walkOf cs .ok ≡ true → 0 < length (walkOf cs .steps)
-unfolding walkOf walkFrom
-walk-some cs e = some-onward (stepOf cs walkStart) (λ (v : Walk). walkFrom 2499 cs v) e
+unfolding walkOf
+walk-some cs e = some-from (mostPoints - 1) cs walkStart e
 
 -- the columns of a track's points are those of its steps
 map-through : {A B C : Type 0} (f : B → C) (g : A → B) (h : A → C) → ((a : A) → f (g a) ≡ h a) → (l : List A) → map f (map g l) ≡ map h l
@@ -54,9 +58,9 @@ unfolding pointOf
 ys-of ps = sym (map-through (λ (p : TrackPoint). p .y) pointOf (λ (p : TrackStep). p .y) (λ a. refl) ps)
 
 -- ---- one column after the walk and the move
-module _ (f : TrackStep → Float) (ps : List TrackStep) (c c₀ : List Float) (w : ℕ) (is : c ≡ map f ps ++ drop w c₀) (long : w ≡ length ps) (few : w ≤ mostPoints) where
-  walked-kept : drop mostPoints c ≡ drop mostPoints c₀
-  walked-kept = ap (drop mostPoints) is ∙ drop-past (map f ps) c₀ w mostPoints (length-map ps f ∙ sym long) few
+module _ (m : ℕ) (f : TrackStep → Float) (ps : List TrackStep) (c c₀ : List Float) (w : ℕ) (is : c ≡ map f ps ++ drop w c₀) (long : w ≡ length ps) (few : w ≤ m) where
+  walked-kept : drop m c ≡ drop m c₀
+  walked-kept = ap (drop m) is ∙ drop-past (map f ps) c₀ w m (length-map ps f ∙ sym long) few
 
   walked-front : Before (map f ps) c
   walked-front = record { rest = drop w c₀; is = is }
@@ -78,8 +82,8 @@ module _ (f : TrackStep → Float) (ps : List TrackStep) (c c₀ : List Float) (
     moved-front : take n c′ ≡ map f (trackOf ps)
     moved-front = ap (take n) moved ∙ take-at (take n (drop from c)) (drop n c) n part-long ∙ part-is
 
-    moved-kept : drop mostPoints c′ ≡ drop mostPoints c₀
-    moved-kept = ap (drop mostPoints) moved ∙ drop-past (take n (drop from c)) c n mostPoints part-long (omega arith) ∙ walked-kept
+    moved-kept : drop m c′ ≡ drop m c₀
+    moved-kept = ap (drop m) moved ∙ drop-past (take n (drop from c)) c n m part-long (omega arith) ∙ walked-kept
 
 -- ---- the attempt
 module _ (cs : List Checkpoint) (a b x y a₁ b₁ x₁ y₁ : List Float) (w : ℕ) (ok : Bool) (d : Trod cs a b x y a₁ b₁ x₁ y₁ w ok) where
@@ -88,10 +92,10 @@ module _ (cs : List Checkpoint) (a b x y a₁ b₁ x₁ y₁ : List Float) (w : 
 
   pub front : Front (walkOf cs .steps) a₁ b₁ x₁ y₁
   front = record {
-    alpha = walked-front (λ (p : TrackStep). p .alpha) ps a₁ a w (d .alpha) (d .count) (d .few);
-    beta = walked-front (λ (p : TrackStep). p .beta) ps b₁ b w (d .beta) (d .count) (d .few);
-    x = walked-front (λ (p : TrackStep). p .x) ps x₁ x w (d .x) (d .count) (d .few);
-    y = walked-front (λ (p : TrackStep). p .y) ps y₁ y w (d .y) (d .count) (d .few);
+    alpha = walked-front mostPoints (λ (p : TrackStep). p .alpha) ps a₁ a w (d .alpha) (d .count) (d .few);
+    beta = walked-front mostPoints (λ (p : TrackStep). p .beta) ps b₁ b w (d .beta) (d .count) (d .few);
+    x = walked-front mostPoints (λ (p : TrackStep). p .x) ps x₁ x w (d .x) (d .count) (d .few);
+    y = walked-front mostPoints (λ (p : TrackStep). p .y) ps y₁ y w (d .y) (d .count) (d .few);
   }
 
   pub some : ok ≡ true → 0 < w
@@ -113,10 +117,10 @@ module _ (cs : List Checkpoint) (a b x y a₁ b₁ x₁ y₁ : List Float) (w : 
         beta = sym (ap betas n);
         x = sym (ap xs n);
         y = sym (ap ys n);
-        kept-a = walked-kept (λ (p : TrackStep). p .alpha) ps a₁ a w (d .alpha) (d .count) (d .few);
-        kept-b = walked-kept (λ (p : TrackStep). p .beta) ps b₁ b w (d .beta) (d .count) (d .few);
-        kept-x = walked-kept (λ (p : TrackStep). p .x) ps x₁ x w (d .x) (d .count) (d .few);
-        kept-y = walked-kept (λ (p : TrackStep). p .y) ps y₁ y w (d .y) (d .count) (d .few);
+        kept-a = walked-kept mostPoints (λ (p : TrackStep). p .alpha) ps a₁ a w (d .alpha) (d .count) (d .few);
+        kept-b = walked-kept mostPoints (λ (p : TrackStep). p .beta) ps b₁ b w (d .beta) (d .count) (d .few);
+        kept-x = walked-kept mostPoints (λ (p : TrackStep). p .x) ps x₁ x w (d .x) (d .count) (d .few);
+        kept-y = walked-kept mostPoints (λ (p : TrackStep). p .y) ps y₁ y w (d .y) (d .count) (d .few);
       }
 
   pub attempt-good : (b₂ x₂ y₂ : List Float) (from n : ℕ) → ok ≡ true → from + n ≤ w → Cut (walkOf cs .steps) from n
@@ -126,13 +130,13 @@ module _ (cs : List Checkpoint) (a b x y a₁ b₁ x₁ y₁ : List Float) (w : 
       let i = accepted-is h in
       record {
         count = cut .size ∙ sym (length-map (trackOf ps) pointOf) ∙ ap length i;
-        beta = moved-front (λ (p : TrackStep). p .beta) ps b₁ b w (d .beta) (d .count) (d .few) b₂ from n mb fits cut ∙ betas-of (trackOf ps) ∙ ap betas i;
-        x = moved-front (λ (p : TrackStep). p .x) ps x₁ x w (d .x) (d .count) (d .few) x₂ from n mx fits cut ∙ xs-of (trackOf ps) ∙ ap xs i;
-        y = moved-front (λ (p : TrackStep). p .y) ps y₁ y w (d .y) (d .count) (d .few) y₂ from n my fits cut ∙ ys-of (trackOf ps) ∙ ap ys i;
-        kept-a = walked-kept (λ (p : TrackStep). p .alpha) ps a₁ a w (d .alpha) (d .count) (d .few);
-        kept-b = moved-kept (λ (p : TrackStep). p .beta) ps b₁ b w (d .beta) (d .count) (d .few) b₂ from n mb fits cut;
-        kept-x = moved-kept (λ (p : TrackStep). p .x) ps x₁ x w (d .x) (d .count) (d .few) x₂ from n mx fits cut;
-        kept-y = moved-kept (λ (p : TrackStep). p .y) ps y₁ y w (d .y) (d .count) (d .few) y₂ from n my fits cut;
+        beta = moved-front mostPoints (λ (p : TrackStep). p .beta) ps b₁ b w (d .beta) (d .count) (d .few) b₂ from n mb fits cut ∙ betas-of (trackOf ps) ∙ ap betas i;
+        x = moved-front mostPoints (λ (p : TrackStep). p .x) ps x₁ x w (d .x) (d .count) (d .few) x₂ from n mx fits cut ∙ xs-of (trackOf ps) ∙ ap xs i;
+        y = moved-front mostPoints (λ (p : TrackStep). p .y) ps y₁ y w (d .y) (d .count) (d .few) y₂ from n my fits cut ∙ ys-of (trackOf ps) ∙ ap ys i;
+        kept-a = walked-kept mostPoints (λ (p : TrackStep). p .alpha) ps a₁ a w (d .alpha) (d .count) (d .few);
+        kept-b = moved-kept mostPoints (λ (p : TrackStep). p .beta) ps b₁ b w (d .beta) (d .count) (d .few) b₂ from n mb fits cut;
+        kept-x = moved-kept mostPoints (λ (p : TrackStep). p .x) ps x₁ x w (d .x) (d .count) (d .few) x₂ from n mx fits cut;
+        kept-y = moved-kept mostPoints (λ (p : TrackStep). p .y) ps y₁ y w (d .y) (d .count) (d .few) y₂ from n my fits cut;
       }
 
 -- the attempt with drawn checkpoints

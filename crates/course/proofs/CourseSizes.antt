@@ -1,4 +1,4 @@
--- How many points a course has: an accepted track 1 to 2,497, the ring 100. Assumes nothing.
+-- How many points a course has: an accepted track 1 to mostTrackPoints, the ring 100. Assumes nothing.
 use Prim.Native.Nat.{ℕ, zero, suc, _-_, _<_, _≤_}
 use native.Mathlib.Omega.{arith}
 use native.Mathlib.Numerals.{add-one}
@@ -29,7 +29,7 @@ unfolding ringOf
 ring-length zero = refl
 ring-length (suc n) = length-append (ringOf n) (ringPoint n ∷ []) ∙ add-one (length (ringOf n)) ∙ ap suc (ring-length n)
 
--- ---- a walk has at most 2,500 steps, and its track at most 2,497
+-- ---- a walk has at most as many steps as it is given, and its track three fewer
 onward-few : (s : Stepped) (k : Walk → Trail) (n : ℕ) → ((w : Walk) → length (k w .steps) ≤ n) → length (onward s k .steps) ≤ suc n
 unfolding onward follow
 onward-few Refused k n h = omega arith
@@ -60,34 +60,38 @@ later-few : (ps : List TrackStep) → laterPass ps ≤ length ps - 1
 unfolding laterPass
 later-few ps = pass-le (stepAlphas ps) (length ps - 1)
 
-track-few : (ps : List TrackStep) → length ps ≤ mostPoints → length (trackOf ps) ≤ 2497
-track-few ps h = by (earlierPass ps) refl
+track-few : (m : ℕ) (ps : List TrackStep) → length ps ≤ m → length (trackOf ps) ≤ m - 3
+track-few m ps h = by (earlierPass ps) refl
   where
-    by : (a : ℕ) → earlierPass ps ≡ a → length (trackOf ps) ≤ 2497
+    by : (a : ℕ) → earlierPass ps ≡ a → length (trackOf ps) ≤ m - 3
     by zero e = rw (none-a ps e) (omega arith)
     by (suc a) e = omega (arith, e, track-short ps, later-few ps)
 
-accepted-few : (r : Trail) → length (r .steps) ≤ mostPoints → length (accepted r) ≤ 2497
+accepted-few : (m : ℕ) (r : Trail) → length (r .steps) ≤ m → length (accepted r) ≤ m - 3
 unfolding accepted
-accepted-few r h = one (r .ok) (track-few (r .steps) h)
+accepted-few m r h = one (r .ok) (track-few m (r .steps) h)
   where
-    one : (b : Bool) → length (trackOf (r .steps)) ≤ 2497 → length (cond b (map pointOf (trackOf (r .steps))) []) ≤ 2497
+    one : (b : Bool) → length (trackOf (r .steps)) ≤ m - 3 → length (cond b (map pointOf (trackOf (r .steps))) []) ≤ m - 3
     one true l = rw (length-map (trackOf (r .steps)) pointOf) l
     one false l = omega arith
 
-pub attempt-few : (cs : List Checkpoint) → length (attemptOn cs) ≤ 2497
-unfolding attemptOn walkOf
-attempt-few cs = accepted-few (walkFrom mostPoints cs walkStart) (walk-few mostPoints cs walkStart)
+-- the most points of an accepted track
+abbrev pub mostTrackPoints : ℕ
+mostTrackPoints = mostPoints - 3
 
--- ---- a course has 1 to 2,497 points
+pub attempt-few : (cs : List Checkpoint) → length (attemptOn cs) ≤ mostTrackPoints
+unfolding attemptOn walkOf
+attempt-few cs = accepted-few mostPoints (walkFrom mostPoints cs walkStart) (walk-few mostPoints cs walkStart)
+
+-- ---- a course has 1 to mostTrackPoints points
 pub record Sized (c : CoursePoints) : Type 0 where
   pub some : 0 < length (c .points)
-  pub few : length (c .points) ≤ 2497
+  pub few : length (c .points) ≤ mostTrackPoints
 
 ring-sized : Sized (record { points = ringOf 100; fallback = true })
 ring-sized = record { some = rw (ring-length 100) (omega arith); few = rw (ring-length 100) (omega arith) }
 
-or-sized : (l : List TrackPoint) (o : CoursePoints) → length l ≤ 2497 → Sized o → Sized (orElse l o)
+or-sized : (l : List TrackPoint) (o : CoursePoints) → length l ≤ mostTrackPoints → Sized o → Sized (orElse l o)
 unfolding orElse
 or-sized [] o h k = k
 or-sized (p ∷ ps) o h k = record { some = omega arith; few = h }

@@ -52,10 +52,10 @@ module _ (b e n : List Float) (k : ℕ) (q : List Float) (w : List ℕ) where
   unfolding quadsTo whitesTo
   curbs-none = record { few = omega arith; count = refl; long = refl; quads = refl; white = refl; same-quads = refl; same-white = refl }
 
-  next : (i m : ℕ) (q1 : List Float) (w1 : List ℕ) (m′ : ℕ) (q2 : List Float) (w2 : List ℕ) → i < mostPoints → mostNumbers ≤ length q → mostPoints ≤ length w → CurbsTo b e n k i m q w q1 w1
+  next : (i m : ℕ) (q1 : List Float) (w1 : List ℕ) (m′ : ℕ) (q2 : List Float) (w2 : List ℕ) → i * 8 + 8 ≤ length q → i < length w → CurbsTo b e n k i m q w q1 w1
       → Curbed (bordered b k i) (curbQuad (pointAt b e n i) (pointAt b e n (beforeOf k i))) (whiteOf i) m q1 w1 m′ q2 w2 → CurbsTo b e n k (suc i) m′ q w q2 w2
   unfolding quadsTo whitesTo eight
-  next i m q1 w1 m′ q2 w2 h hq hw t s =
+  next i m q1 w1 m′ q2 w2 hq hw t s =
       let gq : Grown (quadsTo b e n k i) q1 q (m * 8) = record { is = t .quads; long = t .long; bound = omega (arith, t .few); same = t .same-quads } in
       let gw : Grown (whitesTo b e n k i) w1 w m = record { is = t .white; long = t .count; bound = omega (arith, t .few); same = t .same-white } in
       let rq = quads-step (bordered b k i) (eight (curbQuad (pointAt b e n i) (pointAt b e n (beforeOf k i)))) _ q1 q2 q m m′ gq refl (omega (arith, t .few)) (s .count) (s .quads) in
@@ -70,9 +70,9 @@ module _ (b e n : List Float) (k : ℕ) (q : List Float) (w : List ℕ) where
         same-white = rw′ .same;
       }
 
-  pub curbs-more : (i m : ℕ) (q1 : List Float) (w1 : List ℕ) (m′ : ℕ) (q2 : List Float) (w2 : List ℕ) → i < mostPoints → mostNumbers ≤ length q → mostPoints ≤ length w → CurbsTo b e n k i m q w q1 w1
+  pub curbs-more : (i m : ℕ) (q1 : List Float) (w1 : List ℕ) (m′ : ℕ) (q2 : List Float) (w2 : List ℕ) → i * 8 + 8 ≤ length q → i < length w → CurbsTo b e n k i m q w q1 w1
       → Curbed (bordered b k i) (curbQuad (pointAt b e n i) (pointAt b e n (beforeOf k i))) (whiteOf i) m q1 w1 m′ q2 w2 → CurbsTo b e n k (i + 1) m′ q w q2 w2
-  curbs-more i m q1 w1 m′ q2 w2 h hq hw t s = subst (λ (z : ℕ). CurbsTo b e n k z m′ q w q2 w2) (sym (add-one i)) (next i m q1 w1 m′ q2 w2 h hq hw t s)
+  curbs-more i m q1 w1 m′ q2 w2 hq hw t s = subst (λ (z : ℕ). CurbsTo b e n k z m′ q w q2 w2) (sym (add-one i)) (next i m q1 w1 m′ q2 w2 hq hw t s)
 
 -- a step of the code
 pub curb-kept : (has : Bool) (quad : List (List Float)) (mark m : ℕ) (q : List Float) (w : List ℕ) → has ≡ false → Curbed has quad mark m q w m q w

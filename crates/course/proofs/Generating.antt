@@ -32,11 +32,11 @@ pub record Ringing (b₀ u₀ v₀ b u v : List Float) (i : ℕ) : Type 0 where
   pub beta : Grown (betas (ringOf i)) b b₀ i
   pub x : Grown (xs (ringOf i)) u u₀ i
   pub y : Grown (ys (ringOf i)) v v₀ i
-  pub long-b : mostPoints ≤ length b₀
-  pub long-x : mostPoints ≤ length u₀
-  pub long-y : mostPoints ≤ length v₀
+  pub long-b : 100 ≤ length b₀
+  pub long-x : 100 ≤ length u₀
+  pub long-y : 100 ≤ length v₀
 
-pub ring-none : (b x y : List Float) → mostPoints ≤ length b → mostPoints ≤ length x → mostPoints ≤ length y → Ringing b x y b x y 0
+pub ring-none : (b x y : List Float) → 100 ≤ length b → 100 ≤ length x → 100 ≤ length y → Ringing b x y b x y 0
 unfolding ringOf
 ring-none b x y lb lx ly = record { few = omega arith; beta = grown-none b; x = grown-none x; y = grown-none y; long-b = lb; long-x = lx; long-y = ly }
 
@@ -58,8 +58,8 @@ ring-more b₀ x₀ y₀ b x y i p h e g = record {
 front-of : (f : TrackPoint → Float) (c c′ : List Float) → c′ ≡ map f (ringOf 100) ++ drop 100 c → take 100 c′ ≡ map f (ringOf 100)
 front-of f c c′ e = ap (take 100) e ∙ take-at (map f (ringOf 100)) (drop 100 c) 100 (length-map (ringOf 100) f ∙ ring-length 100)
 
-beyond : (f : TrackPoint → Float) (c c′ : List Float) → c′ ≡ map f (ringOf 100) ++ drop 100 c → drop mostPoints c′ ≡ drop mostPoints c
-beyond f c c′ e = ap (drop mostPoints) e ∙ drop-past (map f (ringOf 100)) c 100 mostPoints (length-map (ringOf 100) f ∙ ring-length 100) (omega arith)
+beyond : (m : ℕ) (f : TrackPoint → Float) (c c′ : List Float) → 100 ≤ m → c′ ≡ map f (ringOf 100) ++ drop 100 c → drop m c′ ≡ drop m c
+beyond m f c c′ h e = ap (drop m) e ∙ drop-past (map f (ringOf 100)) c 100 m (length-map (ringOf 100) f ∙ ring-length 100) h
 
 ring-front : (a b x y b′ x′ y′ : List Float) → b′ ≡ betas (ringOf 100) ++ drop 100 b → x′ ≡ xs (ringOf 100) ++ drop 100 x → y′ ≡ ys (ringOf 100) ++ drop 100 y
     → InFront (ringOf 100) a b x y a b′ x′ y′ 100
@@ -69,31 +69,31 @@ ring-front a b x y b′ x′ y′ eb ex ey = record {
   x = front-of (λ (q : TrackPoint). q .x) x x′ ex;
   y = front-of (λ (q : TrackPoint). q .y) y y′ ey;
   kept-a = refl;
-  kept-b = beyond (λ (q : TrackPoint). q .beta) b b′ eb;
-  kept-x = beyond (λ (q : TrackPoint). q .x) x x′ ex;
-  kept-y = beyond (λ (q : TrackPoint). q .y) y y′ ey;
+  kept-b = beyond mostPoints (λ (q : TrackPoint). q .beta) b b′ (omega arith) eb;
+  kept-x = beyond mostPoints (λ (q : TrackPoint). q .x) x x′ (omega arith) ex;
+  kept-y = beyond mostPoints (λ (q : TrackPoint). q .y) y y′ (omega arith) ey;
 }
 
--- ---- a column of which only the first mostPoints entries may have changed
-pub record Beyond (l₀ l : List Float) : Type 0 where
-  pub kept : drop mostPoints l ≡ drop mostPoints l₀
+-- ---- a column of which only the first m entries may have changed
+pub record Beyond (m : ℕ) (l₀ l : List Float) : Type 0 where
+  pub kept : drop m l ≡ drop m l₀
   pub same : length l ≡ length l₀
-  pub long : mostPoints ≤ length l
+  pub long : m ≤ length l
 
 pub record AllBeyond (a₀ b₀ x₀ y₀ a b x y : List Float) : Type 0 where
-  pub alpha : Beyond a₀ a
-  pub beta : Beyond b₀ b
-  pub east : Beyond x₀ x
-  pub north : Beyond y₀ y
+  pub alpha : Beyond mostPoints a₀ a
+  pub beta : Beyond mostPoints b₀ b
+  pub east : Beyond mostPoints x₀ x
+  pub north : Beyond mostPoints y₀ y
 
-same-column : (l : List Float) → mostPoints ≤ length l → Beyond l l
-same-column l h = record { kept = refl; same = refl; long = h }
+same-column : (m : ℕ) (l : List Float) → m ≤ length l → Beyond m l l
+same-column m l h = record { kept = refl; same = refl; long = h }
 
 pub untouched : (a b x y : List Float) → mostPoints ≤ length a → mostPoints ≤ length b → mostPoints ≤ length x → mostPoints ≤ length y → AllBeyond a b x y a b x y
-untouched a b x y la lb lx ly = record { alpha = same-column _ la; beta = same-column _ lb; east = same-column _ lx; north = same-column _ ly }
+untouched a b x y la lb lx ly = record { alpha = same-column _ _ la; beta = same-column _ _ lb; east = same-column _ _ lx; north = same-column _ _ ly }
 
-further : (l₀ l l′ : List Float) → Beyond l₀ l → drop mostPoints l′ ≡ drop mostPoints l → length l′ ≡ length l → Beyond l₀ l′
-further l₀ l l′ k e h = record { kept = e ∙ k .kept; same = h ∙ k .same; long = rw h (k .long) }
+further : (m : ℕ) (l₀ l l′ : List Float) → Beyond m l₀ l → drop m l′ ≡ drop m l → length l′ ≡ length l → Beyond m l₀ l′
+further m l₀ l l′ k e h = record { kept = e ∙ k .kept; same = h ∙ k .same; long = rw h (k .long) }
 
 module _ (ps : List TrackPoint) (a₀ b₀ x₀ y₀ a b x y a′ b′ x′ y′ : List Float) (n : ℕ) (s : AllBeyond a₀ b₀ x₀ y₀ a b x y) (d : InFront ps a b x y a′ b′ x′ y′ n) where
   -- what stands in front of changed columns, seen from those before
@@ -111,10 +111,10 @@ module _ (ps : List TrackPoint) (a₀ b₀ x₀ y₀ a b x y a′ b′ x′ y′
 
   pub all-further : length a′ ≡ length a → length b′ ≡ length b → length x′ ≡ length x → length y′ ≡ length y → AllBeyond a₀ b₀ x₀ y₀ a′ b′ x′ y′
   all-further ea eb ex ey = record {
-    alpha = further a₀ a a′ (s .alpha) (d .kept-a) ea;
-    beta = further b₀ b b′ (s .beta) (d .kept-b) eb;
-    east = further x₀ x x′ (s .east) (d .kept-x) ex;
-    north = further y₀ y y′ (s .north) (d .kept-y) ey;
+    alpha = further mostPoints a₀ a a′ (s .alpha) (d .kept-a) ea;
+    beta = further mostPoints b₀ b b′ (s .beta) (d .kept-b) eb;
+    east = further mostPoints x₀ x x′ (s .east) (d .kept-x) ex;
+    north = further mostPoints y₀ y y′ (s .north) (d .kept-y) ey;
   }
 
 -- ---- attempt by attempt

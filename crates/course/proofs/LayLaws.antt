@@ -22,7 +22,7 @@ use Rattle.course.specs.declared.tiles.TrackPoint.{TrackPoint}
 use Rattle.course.specs.declared.points.LaidCourse.{LaidCourse}
 use Rattle.course.specs.declared.points.Laid.the-variants.{Refused}
 use Rattle.course.proofs.CourseTiles.{points-are, tiles-long}
-use Rattle.course.proofs.CourseSizes.{Sized, within-sized}
+use Rattle.course.proofs.CourseSizes.{mostTrackPoints, Sized, within-sized}
 use Rattle.course.proofs.LaidColumns.{lay-past, room}
 
 -- the lent columns have their lengths
@@ -134,7 +134,7 @@ same-filled m own c c′ h = filled-stated m own c h ∙ sym (filled-stated m ow
 into-agree : (c : CoursePoints) (l l′ : Lent) → Sized c → Agree (layInto (c .fallback) (c .points) l .lent) (layInto (c .fallback) (c .points) l′ .lent)
 unfolding layInto written fromPoints
 into-agree c l l′ s =
-    let few : length (c .points) ≤ 2497 = s .few in
+    let few : length (c .points) ≤ mostTrackPoints = s .few in
     record {
       alpha = same-filled mostPoints [] (l .alpha) (l′ .alpha) (omega arith);
       beta = same-filled mostPoints (betas (c .points)) (l .beta) (l′ .beta) (rw (length-map (c .points) (λ (p : TrackPoint). p .beta)) (omega arith));

@@ -175,8 +175,8 @@ module _ (ps : List TrackStep) (a b x y : List Float) (f : Front ps a b x y) whe
   pub cut-no-n : (rb ra : ℕ) → rb ≡ laterPass ps → ra ≡ earlierPass ps → rb - 1 - ra ≡ 0 → Cut ps 0 0
   cut-no-n rb ra eb ea z = cut-none ps (none-n ps (sym (ap₂ (λ (m n : ℕ). m - 1 - n) eb ea) ∙ z))
 
-pub end-below : (rb len n : ℕ) → 0 < len → rb ≤ len - 1 → len ≤ mostPoints → mostPoints ≤ n → rb - 1 - 1 < n
-end-below rb len n p h l k = omega arith
+pub end-below : (m rb len n : ℕ) → 0 < len → rb ≤ len - 1 → len ≤ m → m ≤ n → rb - 1 - 1 < n
+end-below m rb len n p h l k = omega arith
 
 pub end-fits : (rb len : ℕ) → rb ≤ len - 1 → len ≤ mostPoints → Fits w64 ((rb - 1 - 1) * 8)
 end-fits rb len h l = omega arith

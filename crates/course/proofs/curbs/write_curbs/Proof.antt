@@ -38,7 +38,7 @@ loop-again c =
     let l = c .before .before .before .before .before .before .before .before .loop in
     let t = c .before .before .before .before .before .before .before .loop-test .taken in
     let i = l .inv in
-    (omega (arith, t), i .1, i .2, i .3, i .4, i .5, i .6, curbs-more _ _ _ _ _ _ (l .i) _ _ _ _ _ _ (omega (arith, t, i .4)) (i .5) (i .6) (i .7) (c .before .before .before .before .put-curb .ensures))
+    (omega (arith, t), i .1, i .2, i .3, i .4, i .5, i .6, curbs-more _ _ _ _ _ _ (l .i) _ _ _ _ _ _ (omega (arith, t, i .4, i .5)) (omega (arith, t, i .4, i .6)) (i .7) (c .before .before .before .before .put-curb .ensures))
 
 same-length : tie.Need-same-length Inv-loop μ-loop
 same-length c = c .before .loop .inv .7 .same-quads

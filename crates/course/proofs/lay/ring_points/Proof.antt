@@ -21,7 +21,7 @@ abbrev μ-loop : tie.MeasureT-loop
 μ-loop beta₀ x₀ y₀ i₀ beta x y i = 100 - i
 
 loop-holds : tie.Need-loop-holds Inv-loop μ-loop
-loop-holds c = let q = c .before .before .before .pre in ring-none _ _ _ (q .0) (q .1 .0) (q .1 .1)
+loop-holds c = let q = c .before .before .before .pre in ring-none _ _ _ (omega (arith, q .0)) (omega (arith, q .1 .0)) (omega (arith, q .1 .1))
 
 ring-point-requires : tie.Need-ring-point-requires Inv-loop μ-loop
 ring-point-requires c κs = search needs

@@ -4,6 +4,7 @@ use lib.ListN.{length}
 use native.Mathlib.Omega.{arith}
 use mathlib.Core.Path.{_≡_, sym, _∙_}
 use Prim.Native.Nat.{ℕ, _-_, _≤_, _<_}
+use Rattle.course.specs.Lengths.{mostPoints}
 use Rattle.course.specs.Track.{earlierPass, laterPass}
 use borrow.Author.Needs.{needs}
 use Rattle.course.proofs.track.cut.Statement.{statement}
@@ -95,13 +96,13 @@ mul-well-glued-4 : tie.Need-mul-well-glued-4
 mul-well-glued-4 c = let A = c .before .before .before .before .before .before .before in let s = A .before .before .before .before .before in end-fits _ (s .args .len) (A .last-pass .ensures .1) (s .pre .0 .1)
 
 shared-slice-read-well-glued-4 : tie.Need-shared-slice-read-well-glued-4
-shared-slice-read-well-glued-4 c = let A = c .before .before .before .before .before .before .before .before in let s = A .before .before .before .before .before in end-below _ (s .args .len) _ (s .pre .0 .0) (A .last-pass .ensures .1) (s .pre .0 .1) (s .pre .1 .1 .0)
+shared-slice-read-well-glued-4 c = let A = c .before .before .before .before .before .before .before .before in let s = A .before .before .before .before .before in end-below mostPoints _ (s .args .len) _ (s .pre .0 .0) (A .last-pass .ensures .1) (s .pre .0 .1) (s .pre .1 .1 .0)
 
 mul-well-glued-5 : tie.Need-mul-well-glued-5
 mul-well-glued-5 c = let A = c .before .before .before .before .before .before .before .before in let s = A .before .before .before .before .before in end-fits _ (s .args .len) (A .last-pass .ensures .1) (s .pre .0 .1)
 
 shared-slice-read-well-glued-5 : tie.Need-shared-slice-read-well-glued-5
-shared-slice-read-well-glued-5 c = let A = c .before .before .before .before .before .before .before .before .before in let s = A .before .before .before .before .before in end-below _ (s .args .len) _ (s .pre .0 .0) (A .last-pass .ensures .1) (s .pre .0 .1) (s .pre .1 .1 .1)
+shared-slice-read-well-glued-5 c = let A = c .before .before .before .before .before .before .before .before .before in let s = A .before .before .before .before .before in end-below mostPoints _ (s .args .len) _ (s .pre .0 .0) (A .last-pass .ensures .1) (s .pre .0 .1) (s .pre .1 .1 .1)
 
 well-glued-requires : tie.Need-well-glued-requires
 well-glued-requires c κs = search needs
