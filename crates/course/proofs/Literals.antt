@@ -36,7 +36,7 @@ thousand = refl
 
 -- GRID_DIM by the Rust's expression, (2.0 * PLAYFIELD / GRID_CELL) as usize + 1
 pub grid-dim : toUnsigned 64 (natural 2 ⊗ playfield ⊘ gridCell) + 1 ≡ gridDim
-unfolding playfield scale gridCell gridDim natural ofInt mul div toUnsigned
+unfolding playfield scale gridCell natural ofInt mul div toUnsigned
 grid-dim = refl
 
 -- ---- lay's

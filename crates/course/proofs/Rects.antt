@@ -50,8 +50,8 @@ module _ (r : Rect) (s : Small r) where
           let p : ℕ = y * gridDim + r .x0 in
           let a : heldBelow (holds r) p ≡ heldBelow (holds r) (y * gridDim) = held-none (holds r) (y * gridDim) (r .x0) (λ c a b. out-column r c (inl (omega arith))) in
           let b : heldBelow (holds r) (p + w) ≡ heldBelow (holds r) p + w = held-each (holds r) p w (λ c a b. holds-in r c (omega arith) (omega arith) (omega arith) (omega arith)) in
-          let d : heldBelow (holds r) ((p + w) + (66 - r .x1)) ≡ heldBelow (holds r) (p + w) = held-none (holds r) (p + w) (66 - r .x1) (λ c a b. out-column r c (inr (omega arith))) in
-          let e : y * gridDim + gridDim ≡ (p + w) + (66 - r .x1) = omega arith in
+          let d : heldBelow (holds r) ((p + w) + (gridDim - 1 - r .x1)) ≡ heldBelow (holds r) (p + w) = held-none (holds r) (p + w) (gridDim - 1 - r .x1) (λ c a b. out-column r c (inr (omega arith))) in
+          let e : y * gridDim + gridDim ≡ (p + w) + (gridDim - 1 - r .x1) = omega arith in
           ap (heldBelow (holds r)) e ∙ d ∙ b ∙ ap (λ (z : ℕ). z + w) a
 
   row-next : (y : ℕ) → heldBelow (holds r) (y * gridDim) ≡ (r .x1 + 1 - r .x0) * (min y (r .y1 + 1) - r .y0) → heldBelow (holds r) (y * gridDim + gridDim) ≡ (r .x1 + 1 - r .x0) * (min (suc y) (r .y1 + 1) - r .y0)

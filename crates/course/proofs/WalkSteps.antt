@@ -114,22 +114,85 @@ step-in cs w = then-moved-in (length cs) w (sightOf w) (destOf cs (w .dest) (sig
 near-next : (cs : List Checkpoint) (w : Walk) (p : TrackStep) (v : Walk) → length cs ≡ 12 → stepOf cs w ≡ On p v → v .dest < 12
 near-next cs w p v l e = subst (λ (m : ℕ). v .dest < m) l (subst (In-step (length cs)) e (step-in cs w))
 
--- ---- the loop
-pub record Walking (cs : List Checkpoint) (a₀ b₀ x₀ y₀ a b x y : List Float) (w : Walk) (k : ℕ) : Type 0 where
+-- ---- the loop: k of at most m steps are done, and the columns have room for m
+pub record Walking (m : ℕ) (cs : List Checkpoint) (a₀ b₀ x₀ y₀ a b x y : List Float) (w : Walk) (k : ℕ) : Type 0 where
   pub done : List TrackStep
   pub held : Held done a b x y a₀ b₀ x₀ y₀ k
-  pub rest : walkOf cs ≡ follow done (walkFrom (mostPoints - k) cs w)
+  pub rest : walkFrom m cs walkStart ≡ follow done (walkFrom (m - k) cs w)
   pub slow : w .laps ≤ 4
   pub twelve : length cs ≡ 12
   pub near : w .dest < 12
-  pub few : k ≤ mostPoints
-  pub long-a : mostPoints ≤ length a₀
-  pub long-b : mostPoints ≤ length b₀
-  pub long-x : mostPoints ≤ length x₀
-  pub long-y : mostPoints ≤ length y₀
+  pub few : k ≤ m
+  pub long-a : m ≤ length a₀
+  pub long-b : m ≤ length b₀
+  pub long-x : m ≤ length x₀
+  pub long-y : m ≤ length y₀
 
+module _ (m : ℕ) (cs : List Checkpoint) (a₀ b₀ x₀ y₀ : List Float) where
+  pub begun : (w : Walk) → w ≡ walkStart → length cs ≡ 12 → m ≤ length a₀ → m ≤ length b₀ → m ≤ length x₀ → m ≤ length y₀ → Walking m cs a₀ b₀ x₀ y₀ a₀ b₀ x₀ y₀ w 0
+  unfolding walkStart
+  begun w e n la lb lx ly =
+      let all : m ≡ m - 0 = omega arith in
+      record {
+        done = [];
+        held = record { alpha = grown-none a₀; beta = grown-none b₀; x = grown-none x₀; y = grown-none y₀ };
+        rest = ap (λ (v : Walk). walkFrom m cs v) (sym e) ∙ ap (λ (n : ℕ). walkFrom n cs w) all ∙ sym (puts-none (walkFrom (m - 0) cs w));
+        slow = rw e (omega arith);
+        twelve = n;
+        near = rw e (omega arith);
+        few = omega arith;
+        long-a = la;
+        long-b = lb;
+        long-x = lx;
+        long-y = ly;
+      }
+
+  module _ (a b x y : List Float) (w : Walk) (k : ℕ) (s : Walking m cs a₀ b₀ x₀ y₀ a b x y w k) where
+    full : m ≤ k → walkFrom m cs walkStart ≡ record { ok = true; steps = s .done }
+    unfolding follow
+    full h =
+        let z : m - k ≡ 0 = omega arith in
+        s .rest ∙ ap (follow (s .done)) (over cs w (m - k) z) ∙ ap (λ (l : List TrackStep). record { ok = true; steps = l }) (append-nil (s .done))
+
+    stopped : k < m → stepOf cs w ≡ Refused → walkFrom m cs walkStart ≡ record { ok = false; steps = s .done }
+    unfolding follow
+    stopped h e =
+        let z : m - k ≡ 0 → ⊥ = λ q. omega (arith, q) in
+        s .rest ∙ ap (follow (s .done)) (refused cs w (m - k) z e) ∙ ap (λ (l : List TrackStep). record { ok = false; steps = l }) (append-nil (s .done))
+
+    module _ (p : TrackStep) (v : Walk) (h : k < m) (e : stepOf cs w ≡ On p v) where
+      next-held : Held (s .done ++ (p ∷ [])) (set a k (p .alpha)) (set b k (p .beta)) (set x k (p .x)) (set y k (p .y)) a₀ b₀ x₀ y₀ (k + 1)
+      next-held = held-more a₀ b₀ x₀ y₀ k (s .done) p a b x y (omega arith) (omega arith) (omega arith) (omega arith) (s .held)
+
+      ended : 4 < v .laps → walkFrom m cs walkStart ≡ record { ok = true; steps = s .done ++ (p ∷ []) }
+      unfolding follow
+      ended l =
+          let z : m - k ≡ 0 → ⊥ = λ q. omega (arith, q) in
+          s .rest ∙ ap (follow (s .done)) (ends cs w (m - k) p v z e l)
+
+      pub walked-on : v .laps ≤ 4 → Walking m cs a₀ b₀ x₀ y₀ (set a k (p .alpha)) (set b k (p .beta)) (set x k (p .x)) (set y k (p .y)) v (k + 1)
+      walked-on l =
+          let z : m - k ≡ 0 → ⊥ = λ q. omega (arith, q) in
+          let n : m - k - 1 ≡ m - (k + 1) = omega arith in
+          record {
+            done = s .done ++ (p ∷ []);
+            held = next-held;
+            rest = s .rest ∙ ap (follow (s .done)) (goes-on cs w (m - k) p v z e l) ∙ puts-more (s .done) p (walkFrom (m - k - 1) cs v)
+                ∙ ap (λ (j : ℕ). follow (s .done ++ (p ∷ [])) (walkFrom j cs v)) n;
+            slow = l;
+            twelve = s .twelve;
+            near = near-next cs w p v (s .twelve) e;
+            few = omega arith;
+            long-a = s .long-a;
+            long-b = s .long-b;
+            long-x = s .long-x;
+            long-y = s .long-y;
+          }
+
+-- ---- the walk of a course has at most mostPoints steps
 trod : (cs : List Checkpoint) (a₀ b₀ x₀ y₀ a b x y : List Float) (k : ℕ) (ok : Bool) (ps : List TrackStep) → k ≤ mostPoints → Held ps a b x y a₀ b₀ x₀ y₀ k
-    → walkOf cs ≡ record { ok = ok; steps = ps } → Trod cs a₀ b₀ x₀ y₀ a b x y k ok
+    → walkFrom mostPoints cs walkStart ≡ record { ok = ok; steps = ps } → Trod cs a₀ b₀ x₀ y₀ a b x y k ok
+unfolding walkOf
 trod cs a₀ b₀ x₀ y₀ a b x y k ok ps l h e =
     let q : ps ≡ walkOf cs .steps = sym (ap (λ (r : Trail). r .steps) e) in
     record {
@@ -142,64 +205,15 @@ trod cs a₀ b₀ x₀ y₀ a b x y k ok ps l h e =
       y = h .y .is ∙ ap (λ (z : List TrackStep). stepYs z ++ drop k y₀) q;
     }
 
-module _ (cs : List Checkpoint) (a₀ b₀ x₀ y₀ : List Float) where
-  pub begun : (w : Walk) → w ≡ walkStart → length cs ≡ 12 → mostPoints ≤ length a₀ → mostPoints ≤ length b₀ → mostPoints ≤ length x₀ → mostPoints ≤ length y₀ → Walking cs a₀ b₀ x₀ y₀ a₀ b₀ x₀ y₀ w 0
-  unfolding walkOf walkStart
-  begun w e n la lb lx ly = record {
-    done = [];
-    held = record { alpha = grown-none a₀; beta = grown-none b₀; x = grown-none x₀; y = grown-none y₀ };
-    rest = ap (λ (v : Walk). walkFrom mostPoints cs v) (sym e) ∙ sym (puts-none (walkFrom mostPoints cs w));
-    slow = rw e (omega arith);
-    twelve = n;
-    near = rw e (omega arith);
-    few = omega arith;
-    long-a = la;
-    long-b = lb;
-    long-x = lx;
-    long-y = ly;
-  }
+module _ (cs : List Checkpoint) (a₀ b₀ x₀ y₀ a b x y : List Float) (w : Walk) (k : ℕ) (s : Walking mostPoints cs a₀ b₀ x₀ y₀ a b x y w k) where
+  pub walked-full : mostPoints ≤ k → Trod cs a₀ b₀ x₀ y₀ a b x y k true
+  walked-full h = trod cs a₀ b₀ x₀ y₀ a b x y k true (s .done) (s .few) (s .held) (full mostPoints cs a₀ b₀ x₀ y₀ a b x y w k s h)
 
-  module _ (a b x y : List Float) (w : Walk) (k : ℕ) (s : Walking cs a₀ b₀ x₀ y₀ a b x y w k) where
-    pub walked-full : mostPoints ≤ k → Trod cs a₀ b₀ x₀ y₀ a b x y k true
-    unfolding follow
-    walked-full h =
-        let z : mostPoints - k ≡ 0 = omega arith in
-        trod cs a₀ b₀ x₀ y₀ a b x y k true (s .done) (s .few) (s .held)
-        (s .rest ∙ ap (follow (s .done)) (over cs w (mostPoints - k) z) ∙ ap (λ (l : List TrackStep). record { ok = true; steps = l }) (append-nil (s .done)))
+  pub walked-refused : k < mostPoints → stepOf cs w ≡ Refused → Trod cs a₀ b₀ x₀ y₀ a b x y k false
+  walked-refused h e = trod cs a₀ b₀ x₀ y₀ a b x y k false (s .done) (s .few) (s .held) (stopped mostPoints cs a₀ b₀ x₀ y₀ a b x y w k s h e)
 
-    pub walked-refused : k < mostPoints → stepOf cs w ≡ Refused → Trod cs a₀ b₀ x₀ y₀ a b x y k false
-    unfolding follow
-    walked-refused h e =
-        let z : mostPoints - k ≡ 0 → ⊥ = λ q. omega (arith, q) in
-        trod cs a₀ b₀ x₀ y₀ a b x y k false (s .done) (s .few) (s .held)
-        (s .rest ∙ ap (follow (s .done)) (refused cs w (mostPoints - k) z e) ∙ ap (λ (l : List TrackStep). record { ok = false; steps = l }) (append-nil (s .done)))
-
-    module _ (p : TrackStep) (v : Walk) (h : k < mostPoints) (e : stepOf cs w ≡ On p v) where
-      next-held : Held (s .done ++ (p ∷ [])) (set a k (p .alpha)) (set b k (p .beta)) (set x k (p .x)) (set y k (p .y)) a₀ b₀ x₀ y₀ (k + 1)
-      next-held = held-more a₀ b₀ x₀ y₀ k (s .done) p a b x y (omega arith) (omega arith) (omega arith) (omega arith) (s .held)
-
-      pub walked-end : 4 < v .laps → Trod cs a₀ b₀ x₀ y₀ (set a k (p .alpha)) (set b k (p .beta)) (set x k (p .x)) (set y k (p .y)) (k + 1) true
-      unfolding follow
-      walked-end l =
-          let z : mostPoints - k ≡ 0 → ⊥ = λ q. omega (arith, q) in
-          trod cs a₀ b₀ x₀ y₀ _ _ _ _ (k + 1) true (s .done ++ (p ∷ [])) (omega arith) next-held
-          (s .rest ∙ ap (follow (s .done)) (ends cs w (mostPoints - k) p v z e l))
-
-      pub walked-on : v .laps ≤ 4 → Walking cs a₀ b₀ x₀ y₀ (set a k (p .alpha)) (set b k (p .beta)) (set x k (p .x)) (set y k (p .y)) v (k + 1)
-      walked-on l =
-          let z : mostPoints - k ≡ 0 → ⊥ = λ q. omega (arith, q) in
-          let m : mostPoints - k - 1 ≡ mostPoints - (k + 1) = omega arith in
-          record {
-            done = s .done ++ (p ∷ []);
-            held = next-held;
-            rest = s .rest ∙ ap (follow (s .done)) (goes-on cs w (mostPoints - k) p v z e l) ∙ puts-more (s .done) p (walkFrom (mostPoints - k - 1) cs v)
-                ∙ ap (λ (n : ℕ). follow (s .done ++ (p ∷ [])) (walkFrom n cs v)) m;
-            slow = l;
-            twelve = s .twelve;
-            near = near-next cs w p v (s .twelve) e;
-            few = omega arith;
-            long-a = s .long-a;
-            long-b = s .long-b;
-            long-x = s .long-x;
-            long-y = s .long-y;
-          }
+  pub walked-end : (p : TrackStep) (v : Walk) → k < mostPoints → stepOf cs w ≡ On p v → 4 < v .laps
+      → Trod cs a₀ b₀ x₀ y₀ (set a k (p .alpha)) (set b k (p .beta)) (set x k (p .x)) (set y k (p .y)) (k + 1) true
+  walked-end p v h e l =
+      trod cs a₀ b₀ x₀ y₀ _ _ _ _ (k + 1) true (s .done ++ (p ∷ [])) (omega arith) (next-held mostPoints cs a₀ b₀ x₀ y₀ a b x y w k s p v h e)
+      (ended mostPoints cs a₀ b₀ x₀ y₀ a b x y w k s p v h e l)

@@ -17,7 +17,7 @@ use Rattle.course.proofs.trig.quarter_turns.Reads as quarter-turns-read
 use Rattle.course.proofs.trig.quarter_turns_from.Reads as quarter-turns-from-reads
 
 abbrev Inv-loop : tie.InvT-loop
-Inv-loop alpha₀ beta₀ x₀ y₀ cs w₀ t₀ k₀ alpha beta x y w t k = Walking cs alpha₀ beta₀ x₀ y₀ alpha beta x y w k × (t ≡ turnsAt (turnsOf (w .beta)))
+Inv-loop alpha₀ beta₀ x₀ y₀ cs w₀ t₀ k₀ alpha beta x y w t k = Walking mostPoints cs alpha₀ beta₀ x₀ y₀ alpha beta x y w k × (t ≡ turnsAt (turnsOf (w .beta)))
 
 abbrev μ-loop : tie.MeasureT-loop
 μ-loop alpha₀ beta₀ x₀ y₀ cs w₀ t₀ k₀ alpha beta x y w t k = mostPoints - k
@@ -32,7 +32,7 @@ loop-holds : tie.Need-loop-holds Inv-loop μ-loop
 loop-holds c =
     let s = c .before .before .before .before .before .before in
     let q = s .pre in
-    (begun _ _ _ _ _ _ (c .before .start .ensures) (s .good .0 .1 .0 .1) (q .0) (q .1 .0) (q .1 .1 .0) (q .1 .1 .1), c .quarter-turns .ensures)
+    (begun _ _ _ _ _ _ _ (c .before .start .ensures) (s .good .0 .1 .0 .1) (q .0) (q .1 .0) (q .1 .1 .0) (q .1 .1 .1), c .quarter-turns .ensures)
 
 mul-here : tie.Need-mul-here Inv-loop μ-loop
 mul-here c = let h = c .before .loop .inv .0 .near in omega arith
@@ -123,7 +123,7 @@ loop-again : tie.Need-loop-again Inv-loop μ-loop
 loop-again c =
     let u = c .before .before .before .before in
     let s = u .before .before in
-    (walked-on _ _ _ _ _ _ _ _ _ _ _ (s .before .before .before .loop .inv .0) _ _ (s .before .before .loop-test .taken) (sym (s .step .ensures) ∙ u .s .given .1) (c .before .if1 .left), c .quarter-turns-from .ensures)
+    (walked-on _ _ _ _ _ _ _ _ _ _ _ _ (s .before .before .before .loop .inv .0) _ _ (s .before .before .loop-test .taken) (sym (s .step .ensures) ∙ u .s .given .1) (c .before .if1 .left), c .quarter-turns-from .ensures)
 
 same-length-9 : tie.Need-same-length-9 Inv-loop μ-loop
 same-length-9 c = search needs
