@@ -12,6 +12,7 @@ use lib.Seq.{getD-set-same, getD-set-other, drop-set-lt, drop-drop}
 use lib.Dec.{T}
 use lib.Ieee.{Float, nan, isNan, nanBits, binary64, ofBits, toBits}
 use lib.Ieee.Bits.{toBits-ofBits, nanBits-is}
+use Rattle.course.specs.Constants.{gridDim}
 use Rattle.course.specs.Lengths.{mostPoints, cellCount}
 use Rattle.course.specs.declared.index.Rect.{Rect}
 use Rattle.course.specs.Arithmetic.{nought}
@@ -23,7 +24,7 @@ use Rattle.course.proofs.CourseRects.{rect-same, rect-small, needed-sta
 
 -- ---- one rectangle
 -- four numbers below 256, side by side
-module _ (a b c d : ℕ) (ha : a ≤ 66) (hb : b ≤ 66) (hc : c ≤ 66) (hd : d ≤ 66) where
+module _ (a b c d : ℕ) (ha : a < 256) (hb : b < 256) (hc : c < 256) (hd : d < 256) where
   group-0 : (a + b * 256 + c * 65536 + d * 16777216) % 256 ≡ a
   group-0 = omega arith
 
@@ -49,24 +50,28 @@ module _ (n : ℕ) (h : n < 9218868437227405312) where
       wide : (k : ℕ) → k < 9218868437227405312 → k < 18446744073709551616
       wide k l = omega arith
 
+-- a side of a rectangle in the grid fits in eight bits
+byte : {k : ℕ} → k ≤ gridDim - 1 → k < 256
+byte h = omega (arith, h)
+
 -- the bits are those of no NaN
 pub packs-bits : (r : Rect) → Small r → T (not (nanBits binary64 (r .x0 + r .x1 * 256 + r .y0 * 65536 + r .y1 * 16777216)))
-packs-bits r s = below-inf _ (group-high (r .x0) (r .x1) (r .y0) (r .y1) (s .left) (s .right) (s .bottom) (s .top))
+packs-bits r s = below-inf _ (group-high (r .x0) (r .x1) (r .y0) (r .y1) (byte (s .left)) (byte (s .right)) (byte (s .bottom)) (byte (s .top)))
 
 pub packs : (r : Rect) → Small r → Packs (ofBits binary64 (r .x0 + r .x1 * 256 + r .y0 * 65536 + r .y1 * 16777216)) r
 unfolding rectIn
 packs r s =
     let n : ℕ = r .x0 + r .x1 * 256 + r .y0 * 65536 + r .y1 * 16777216 in
-    let h : n < 9218868437227405312 = group-high (r .x0) (r .x1) (r .y0) (r .y1) (s .left) (s .right) (s .bottom) (s .top) in
+    let h : n < 9218868437227405312 = group-high (r .x0) (r .x1) (r .y0) (r .y1) (byte (s .left)) (byte (s .right)) (byte (s .bottom)) (byte (s .top)) in
     let e : toBits binary64 (ofBits binary64 n) ≡ n = read-back n h in
     record {
       number = number n h;
       same =
           rect-same
-          (ap (λ (b : ℕ). b % 256) e ∙ group-0 (r .x0) (r .x1) (r .y0) (r .y1) (s .left) (s .right) (s .bottom) (s .top))
-          (ap (λ (b : ℕ). b / 256 % 256) e ∙ group-1 (r .x0) (r .x1) (r .y0) (r .y1) (s .left) (s .right) (s .bottom) (s .top))
-          (ap (λ (b : ℕ). b / 65536 % 256) e ∙ group-2 (r .x0) (r .x1) (r .y0) (r .y1) (s .left) (s .right) (s .bottom) (s .top))
-          (ap (λ (b : ℕ). b / 16777216 % 256) e ∙ group-3 (r .x0) (r .x1) (r .y0) (r .y1) (s .left) (s .right) (s .bottom) (s .top));
+          (ap (λ (b : ℕ). b % 256) e ∙ group-0 (r .x0) (r .x1) (r .y0) (r .y1) (byte (s .left)) (byte (s .right)) (byte (s .bottom)) (byte (s .top)))
+          (ap (λ (b : ℕ). b / 256 % 256) e ∙ group-1 (r .x0) (r .x1) (r .y0) (r .y1) (byte (s .left)) (byte (s .right)) (byte (s .bottom)) (byte (s .top)))
+          (ap (λ (b : ℕ). b / 65536 % 256) e ∙ group-2 (r .x0) (r .x1) (r .y0) (r .y1) (byte (s .left)) (byte (s .right)) (byte (s .bottom)) (byte (s .top)))
+          (ap (λ (b : ℕ). b / 16777216 % 256) e ∙ group-3 (r .x0) (r .x1) (r .y0) (r .y1) (byte (s .left)) (byte (s .right)) (byte (s .bottom)) (byte (s .top)));
     }
 
 -- ---- the column
