@@ -3,12 +3,12 @@ use Prim.Native.Nat.{ℕ, zero, suc, _+_, _*_, _≤_, _<_, max}
 use mathlib.Core.Path.{_≡_, refl, sym, ap, _∙_, subst}
 use mathlib.Core.List.{List}
 use mathlib.Core.Logic.{_⊎_, inl, inr, ⊎-elim}
+use native.Mathlib.Nat.{mul-suc}
 use native.Mathlib.Omega.{arith}
 use native.Mathlib.Numerals.{add-one}
 use native.Mathlib.Decide.{ℕ-discrete}
 use lib.ListN.{length, getD, set, length-set}
 use lib.Seq.{getD-set-same, getD-set-other}
-use Rattle.course.specs.Lengths.{mostPoints}
 use Rattle.course.specs.IndexSteps.{Inside, RunCounted, RunPlaced, sumBelow}
 
 -- two numbers are equal or not
@@ -107,10 +107,10 @@ pub sum-none : (o : List ℕ) → sumBelow o 0 ≡ 0
 unfolding sumBelow
 sum-none o = refl
 
-pub sum-small : (o : List ℕ) (q : ℕ) → ((c : ℕ) → c < q → getD o c 0 ≤ mostPoints) → sumBelow o q ≤ mostPoints * q
+pub sum-small : (m : ℕ) (o : List ℕ) (q : ℕ) → ((c : ℕ) → c < q → getD o c 0 ≤ m) → sumBelow o q ≤ m * q
 unfolding sumBelow
-sum-small o zero f = omega arith
-sum-small o (suc q) f = omega (arith, sum-small o q (λ c l. f c (omega arith)), f q (omega arith))
+sum-small m o zero f = omega arith
+sum-small m o (suc q) f = omega (arith, sum-small m o q (λ c l. f c (omega arith)), f q (omega arith), mul-suc m q)
 
 module _ (o₀ o : List ℕ) (c : ℕ) where
   pub summed-more : SummedTo o₀ o c → c < length o → SummedTo o₀ (set o c (sumBelow o₀ c + getD o c 0)) (c + 1)

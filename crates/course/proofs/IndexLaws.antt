@@ -5,7 +5,7 @@ use mathlib.Core.Bool.{Bool, true, false, _&&_, false≢true}
 use mathlib.Core.List.{List, [], _∷_, _++_, append-assoc, append-nil}
 use mathlib.Core.Logic.{_⊎_, inl, inr, ⊎-elim}
 use native.Mathlib.Decide.{decLt}
-use native.Mathlib.Nat.{eq-or-lt-of-le, not-suc-le-zero, le-of-suc-le-suc, add-zero, add-suc}
+use native.Mathlib.Nat.{eq-or-lt-of-le, not-suc-le-zero, le-of-suc-le-suc, add-zero, add-suc, mul-suc}
 use native.Mathlib.Numerals.{add-one}
 use native.Mathlib.Omega.{arith}
 use lib.ListN.{length, getD, take, drop, length-append, List·getD-append}
@@ -13,7 +13,6 @@ use lib.Seq.{ext-getD, getD-at, getD-take, getD-drop, take-add, take-at, drop-at
 use lib.ListN.{length-take, length-drop}
 use lib.Dec.{leb, ltb}
 use borrow.Author.Tests.{lt-ltb, le-ltb, le-leb, ltb-true, leb-true}
-use Rattle.course.specs.Lengths.{mostPoints}
 use Rattle.course.specs.Index.{addIf, listed, start, indexOf, table, offsetsOf, partOk, lookup}
 use Rattle.course.specs.IndexSteps.{one}
 
@@ -161,10 +160,10 @@ module _ (h : ℕ → ℕ → Bool) (n : ℕ) where
       (λ m. omega (arith, start-apart c d m))
       (eq-or-lt-of-le (le-of-suc-le-suc l))
 
-  pub start-small : n ≤ mostPoints → (c : ℕ) → start h n c ≤ mostPoints * c
+  pub start-small : (m : ℕ) → n ≤ m → (c : ℕ) → start h n c ≤ m * c
   unfolding start
-  start-small b zero = omega arith
-  start-small b (suc c) = omega (arith, start-small b c, listed-small h n c)
+  start-small m b zero = omega arith
+  start-small m b (suc c) = omega (arith, start-small m b c, listed-small h n c, mul-suc m c)
 
   pub index-length : (c : ℕ) → length (indexOf h n c) ≡ start h n c
   unfolding indexOf start

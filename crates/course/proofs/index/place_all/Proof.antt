@@ -6,7 +6,7 @@ use native.Mathlib.Omega.{arith}
 use lib.ListN.{length, getD, set}
 use Rattle.course.specs.Rect.{holds}
 use Rattle.course.specs.IndexSteps.{Small, Placed, heldIn}
-use Rattle.course.specs.Lengths.{cellCount}
+use Rattle.course.specs.Lengths.{mostPoints, cellCount}
 use Rattle.course.proofs.TileSteps.{placed-near, placed-more}
 use Rattle.course.proofs.IndexLaws.{start-small}
 use borrow.Author.Needs.{needs}
@@ -42,7 +42,7 @@ place-rect-requires c κs =
     let h = heldIn (s .args .rects .now) in
     let t = a .loop .inv .1 in
     let e = c .rect-at .ensures in
-    (subst Small (sym e) (s .pre .0 .small (a .loop .i) (omega arith)), (t .size, (omega (arith, t .room, start-small h (s .args .n) (s .pre .0 .few) cellCount), placed-near h (a .loop .i) (c .rect-at .result) (λ d. ap (λ (z : Rect). holds z d) (sym e)) (s .args .n) (omega arith) (a .loop .o) (a .loop .l) t)))
+    (subst Small (sym e) (s .pre .0 .small (a .loop .i) (omega arith)), (t .size, (omega (arith, t .room, start-small h (s .args .n) mostPoints (s .pre .0 .few) cellCount), placed-near h (a .loop .i) (c .rect-at .result) (λ d. ap (λ (z : Rect). holds z d) (sym e)) (s .args .n) (omega arith) (a .loop .o) (a .loop .l) t)))
 
 add-i : tie.Need-add-i Inv-loop μ-loop
 add-i c = search needs

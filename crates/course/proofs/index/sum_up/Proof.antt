@@ -24,7 +24,7 @@ sum-fits c =
     let s = a .before in
     omega (
       arith,
-      sum-small (s .args .o .now) (a .loop .k) (λ d l. s .pre .1 d (omega arith)),
+      sum-small mostPoints (s .args .o .now) (a .loop .k) (λ d l. s .pre .1 d (omega arith)),
       a .loop .inv .0 .same,
       a .loop .inv .0 .left (a .loop .k) (omega arith),
       s .pre .1 (a .loop .k) (omega (arith, a .loop .inv .0 .same)),
