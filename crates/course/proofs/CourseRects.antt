@@ -12,10 +12,10 @@ use lib.Ieee.{Float}
 use Rattle.course.specs.Lengths.{cellCount, offsetCount}
 use Rattle.course.specs.declared.index.Rect.{Rect}
 use Rattle.course.specs.Index.{start, offsetsOf, indexOf}
-use Rattle.course.specs.Rect.{rectOf, holds, holdsOf, areaOf, needed}
+use Rattle.course.specs.Rect.{rectOf, holdsOf, areaOf, needed}
 use Rattle.course.specs.IndexSteps.{Small, Built, pickList}
 use Rattle.course.proofs.Cells.{cell-high}
-use Rattle.course.proofs.IndexLaws.{start-tile, start-no-tile, heldBelow}
+use Rattle.course.proofs.IndexLaws.{start-tile, start-no-tile}
 use Rattle.course.proofs.Rects.{held-area, area-small}
 
 pub rect-small : (tiles : List Float) (i : ℕ) → Small (rectOf tiles i)

@@ -75,7 +75,7 @@ accepted-few m r h = one (r .ok) (track-few m (r .steps) h)
     one true l = rw (length-map (trackOf (r .steps)) pointOf) l
     one false l = omega arith
 
--- the most points of an accepted track
+-- the most points of an accepted track: three fewer than the most steps of a walk
 abbrev pub mostTrackPoints : ℕ
 mostTrackPoints = mostPoints - 3
 

@@ -3,25 +3,24 @@ use Prim.Native.Nat.{ℕ, zero, suc, _+_, _*_, _-_, _<_, _≤_}
 use native.Mathlib.Omega.{arith}
 use native.Mathlib.Numerals.{add-one}
 use mathlib.Core.Path.{_≡_, refl, sym, ap, ap₂, _∙_, subst}
-use mathlib.Core.Bool.{Bool, true, false, cond, _&&_, not}
+use mathlib.Core.Bool.{Bool, true, false, cond}
 use mathlib.Core.List.{List, [], _∷_, _++_, append-nil}
-use lib.ListN.{length, getD, take, drop, set, replicate}
+use lib.ListN.{length, take, drop, set, replicate}
 use lib.Seq.{take-at}
 use lib.Dec.{leb, ltb, eqb}
 use borrow.Author.Tests.{leb-true, lt-ltb, le-ltb}
-use lib.Ieee.{Float, nan}
+use lib.Ieee.{Float}
 use Rattle.course.specs.Lengths.{mostPoints, mostNumbers}
 use Rattle.course.specs.Arithmetic.{nought}
 use Rattle.course.specs.Tiles.{pointAt, pointsOf, beforeOf, eight}
 use Rattle.course.specs.CourseSteps.{puts}
-use Rattle.course.specs.Lent.{filled}
 use Rattle.course.specs.Points.{givenCause, givenOf, allGood}
-use Rattle.course.specs.Curbs.{curbRoom, afterOf, bordered, curbQuad, whiteOf, quadsTo, whitesTo, filledMarks, Edged, edged, curbAnswer, curbCauseOf, curbCountOf, curbCause, curbsAt, curbsCall}
+use Rattle.course.specs.Curbs.{curbRoom, afterOf, bordered, curbQuad, whiteOf, quadsTo, whitesTo, filledMarks, edged, curbAnswer, curbCauseOf, curbCountOf, curbCause, curbsAt, curbsCall}
 use Rattle.course.specs.CourseSteps.{Curbed, CurbsTo}
 use Rattle.course.specs.declared.curbs.CurbAnswer.{CurbAnswer}
 use Rattle.course.specs.declared.curbs.CurbAnswer.the-variants.{Count, Refused}
-use Rattle.course.proofs.ColumnLaws.{Grown, grown-none, grown-more, puts-grown, drop-past}
-use Rattle.course.proofs.LaidColumns.{Given, given-long, Passed, passed, positive, at-most, left, right, fill-tiles}
+use Rattle.course.proofs.ColumnLaws.{Grown, grown-more, puts-grown, drop-past}
+use Rattle.course.proofs.LaidColumns.{Given, given-long, passed, positive, at-most, left, right, fill-tiles}
 
 quads-step : (has : Bool) (vs p c c′ l : List Float) (m m′ : ℕ) → Grown p c l (m * 8) → length vs ≡ 8 → m * 8 + 8 ≤ length l → m′ ≡ m + cond has 1 0 → c′ ≡ cond has (puts vs (m * 8) c) c
     → Grown (p ++ cond has vs []) c′ l (m′ * 8)
