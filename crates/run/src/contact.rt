@@ -43,7 +43,7 @@ fn touch_sets(
         ⌝ }
 {
     let m = tested.len();
-    let mut w: usize = 0;
+    let mut w: usize = 0; // every wheel's set is made anew
     while w < 4 {
         let from = w * m;
         let q = quad::wheel_quad(poses[w]);
