@@ -12,15 +12,13 @@ use Rattle.course.specs.Arithmetic.{_⊕_, _⊖_, _⊗_, natural, decima
 use Rattle.course.specs.Constants.{trackTurnRate}
 use Rattle.course.specs.Numeric.{absOf, minOf, within}
 use Rattle.course.specs.Trig.{sinCosOf}
-use Rattle.course.specs.Finder.{destOf}
+use Rattle.course.specs.Finder.{Destination, Going, NotFound, destOf}
 use Rattle.course.specs.Step.{sightOf, turnOf, projOf, steered, landedOf, thenLanded, movedOf, thenMoved, stepOf}
 use Rattle.course.specs.Walk.{follow, onward, walkFrom, walkStart, walkOf}
 use Rattle.course.specs.Lengths.{mostPoints}
 use Rattle.course.specs.Refusals.{Reached, start, next, ThirdPass, RefusedByPass}
 use Rattle.course.specs.declared.trig.SinCos.{SinCos}
 use Rattle.course.specs.declared.checkpoints.Checkpoint.{Checkpoint}
-use Rattle.course.specs.declared.finder.Dest.{Dest}
-use Rattle.course.specs.declared.finder.Dest.the-variants.{To as Going, Refused as NotFound}
 use Rattle.course.specs.declared.step.Walk.{Walk}
 use Rattle.course.specs.declared.step.Sight.{Sight}
 use Rattle.course.specs.declared.step.TrackStep.{TrackStep}
@@ -76,7 +74,7 @@ turned w s alpha dest c (To b n) f =
     let h = sinCosOf (w .beta) in
     landed w s h alpha dest b (steered b (projOf w h (c .x) (c .y))) (steered-near b (projOf w h (c .x) (c .y)) f)
 
-moved : (w : Walk) (s : Sight) (d : Dest) → T (within (natural 16) (w .beta)) → Aimed d → (d ≡ NotFound) ⊎ Accepted (thenMoved w s d)
+moved : (w : Walk) (s : Sight) (d : Destination) → T (within (natural 16) (w .beta)) → Aimed d → (d ≡ NotFound) ⊎ Accepted (thenMoved w s d)
 unfolding thenMoved movedOf
 moved w s NotFound hb a = inl refl
 moved w s (Going dest alpha c) hb a = inr (turned w s alpha dest c (turnOf (w .beta) alpha) (turn-fine alpha a (w .beta) (near-of-within (natural 16) (w .beta) hb)))

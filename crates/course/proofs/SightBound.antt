@@ -3,19 +3,15 @@ use mathlib.Core.Path.{_≡_, refl, sym, ap, _∙_}
 use mathlib.Core.Logic.{_⊎_, inl, inr}
 use Prim.Native.Nat.{ℕ, suc}
 use mathlib.Core.Bool.{Bool, true, false, cond, false≢true}
-use mathlib.Core.List.{List, [], _∷_, map}
+use mathlib.Core.List.{List, [], _∷_}
 use lib.ListN.{drop}
 use lib.Ieee.{Float, nan, neg, lt, le, round, ofInt, ofBits, add, sub}
 use Rattle.course.specs.Arithmetic.{_⊕_, _⊖_, natural, decimal, nought}
 use Rattle.course.specs.Constants.{tau}
 use Rattle.course.specs.Trig.{atan2Of}
-use Rattle.course.specs.Finder.{scan, searched, angleOf, nextOf, destAt, destOf}
+use Rattle.course.specs.Finder.{Destination, Going, NotFound, scan, searched, destOf}
 use Rattle.course.specs.Step.{sightOf}
 use Rattle.course.specs.declared.checkpoints.Checkpoint.{Checkpoint}
-use Rattle.course.specs.declared.finder.Dest.{Dest}
-use Rattle.course.specs.declared.finder.Dest.the-variants.{To as Going, Refused as NotFound}
-use Rattle.course.specs.declared.finder.Found.{Found}
-use Rattle.course.specs.declared.finder.Found.the-variants.{At, Refused as None}
 use Rattle.course.specs.declared.step.Walk.{Walk}
 use Rattle.course.proofs.Intervals.{In, Near, wider, add-in, sub-in, below-in, not-below-in}
 use Rattle.course.proofs.AngleBound.{atan2-near}
@@ -38,38 +34,26 @@ unfolding sightOf
 sight-seen w = raised (atan2Of (w .y) (w .x)) (atan2-near (w .y) (w .x))
 
 -- ---- the angle that is found with a checkpoint is within ±6.3: a NaN is found with none
-abbrev Met : Found → Type 0
-Met None = Unit
-Met (At i a) = Near (decimal 63 10) a
-
-abbrev pub Aimed : Dest → Type 0
+abbrev pub Aimed : Destination → Type 0
 Aimed NotFound = Unit
 Aimed (Going i a c) = Near (decimal 63 10) a
 
-scan-met : (angles : List Float) (i : ℕ) (a : Float) (none : Found) → (a ≡ nan) ⊎ Near (decimal 63 10) a → Met none → Met (scan angles i a none)
+scan-aimed : (cs : List Checkpoint) (i : ℕ) (a : Float) (none : Destination) → (a ≡ nan) ⊎ Near (decimal 63 10) a → Aimed none → Aimed (scan cs i a none)
 unfolding scan
-scan-met [] i a none h n = n
-scan-met (b ∷ rest) i a none h n = go (le a b) refl h (scan-met rest (suc i) a none h n)
+scan-aimed [] i a none h n = n
+scan-aimed (c ∷ rest) i a none h n = go (le a (c .angle)) refl h (scan-aimed rest (suc i) a none h n)
   where
-    go : (x : Bool) → le a b ≡ x → (a ≡ nan) ⊎ Near (decimal 63 10) a → Met (scan rest (suc i) a none) → Met (cond x (At i a) (scan rest (suc i) a none))
+    go : (x : Bool) → le a (c .angle) ≡ x → (a ≡ nan) ⊎ Near (decimal 63 10) a → Aimed (scan rest (suc i) a none) → Aimed (cond x (Going i a c) (scan rest (suc i) a none))
     go false e k later = later
-    go true e (inl z) later = absurd (false≢true (sym (ap (λ (u : Float). le u b) z ∙ (unfold le in refl)) ∙ e))
+    go true e (inl z) later = absurd (false≢true (sym (ap (λ (u : Float). le u (c .angle)) z ∙ (unfold le in refl)) ∙ e))
     go true e (inr k) later = k
 
-next-met : (cs : List Checkpoint) (i : ℕ) (a : Float) → Seen a → Met (nextOf cs i a)
-unfolding nextOf searched
-next-met cs i a h =
+pub dest-aimed : (cs : List Checkpoint) (i : ℕ) (a : Float) → Seen a → Aimed (destOf cs i a)
+unfolding destOf searched
+dest-aimed cs i a h =
     let first : (a ≡ nan) ⊎ Near (decimal 63 10) a = elim h [ inl e ↦ inl e | inr k ↦ inr (wider k (unfold natural ofInt decimal round neg le in tt)) ] in
     let second : (a ⊖ tau ≡ nan) ⊎ Near (decimal 63 10) (a ⊖ tau) = elim h [
       | inl e ↦ inl (ap (λ (z : Float). z ⊖ tau) e ∙ (unfold sub in refl))
       | inr k ↦ inr (sub-in k tau-in (unfold natural ofInt decimal round neg sub le in tt))
     ] in
-    scan-met (drop i (map angleOf cs)) i a (scan (drop 0 (map angleOf cs)) 0 (a ⊖ tau) None) first (scan-met (drop 0 (map angleOf cs)) 0 (a ⊖ tau) None second tt)
-
-pub dest-aimed : (cs : List Checkpoint) (i : ℕ) (a : Float) → Seen a → Aimed (destOf cs i a)
-unfolding destOf
-dest-aimed cs i a h = go (nextOf cs i a) (next-met cs i a h)
-  where
-    go : (f : Found) → Met f → Aimed (destAt cs f)
-    go None m = tt
-    go (At j b) m = m
+    scan-aimed (drop i cs) i a (scan (drop 0 cs) 0 (a ⊖ tau) NotFound) first (scan-aimed (drop 0 cs) 0 (a ⊖ tau) NotFound second tt)

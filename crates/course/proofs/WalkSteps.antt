@@ -10,15 +10,13 @@ use lib.Ieee.{Float}
 use Rattle.course.specs.Lengths.{mostPoints}
 use Rattle.course.specs.Arithmetic.{natural}
 use Rattle.course.specs.Numeric.{within}
-use Rattle.course.specs.Finder.{destOf}
+use Rattle.course.specs.Finder.{Destination, Going, NotFound, destOf}
 use Rattle.course.specs.Step.{sightOf, turnOf, landedOf, thenLanded, movedOf, thenMoved, stepOf}
 use Rattle.course.specs.Track.{stepAlphas, stepBetas, stepXs, stepYs}
 use Rattle.course.specs.Walk.{Trail, follow, onward, walkFrom, walkStart, walkOf}
 use Rattle.course.specs.LaySteps.{Trod}
 use Rattle.course.specs.declared.checkpoints.Checkpoint.{Checkpoint}
 use Rattle.course.specs.declared.trig.SinCos.{SinCos}
-use Rattle.course.specs.declared.finder.Dest.{Dest}
-use Rattle.course.specs.declared.finder.Dest.the-variants.{To as Going, Refused as NotFound}
 use Rattle.course.specs.declared.step.Sight.{Sight}
 use Rattle.course.specs.declared.step.Turned.{Turned}
 use Rattle.course.specs.declared.step.Turned.the-variants.{To, Refused as TooFar}
@@ -26,7 +24,7 @@ use Rattle.course.specs.declared.step.Stepped.{Stepped}
 use Rattle.course.specs.declared.step.Walk.{Walk}
 use Rattle.course.specs.declared.step.TrackStep.{TrackStep}
 use Rattle.course.specs.declared.step.Stepped.the-variants.{On, Refused}
-use Rattle.course.proofs.FinderSteps.{In-dest, dest-in}
+use Rattle.course.proofs.FinderSteps.{In, dest-in}
 use Rattle.course.proofs.ColumnLaws.{Grown, grown-none, grown-more}
 use Rattle.course.proofs.Turns.{suc-pred}
 
@@ -102,7 +100,7 @@ module _ (m : ℕ) (w : Walk) (s : Sight) where
   then-landed-in alpha dest c TooFar d = tt
   then-landed-in alpha dest c (To b n) d = landed-in _ alpha dest b _ d
 
-  then-moved-in : (t : Dest) → In-dest m t → In-step m (thenMoved w s t)
+  then-moved-in : (t : Destination) → In m t → In-step m (thenMoved w s t)
   unfolding thenMoved movedOf
   then-moved-in NotFound d = tt
   then-moved-in (Going dest alpha c) d = then-landed-in alpha dest c (turnOf (w .beta) alpha) d

@@ -1,20 +1,25 @@
--- Definitions that only private functions of `checkpoints`, `walk`, `track` and `lay` cite. Assumes nothing.
+-- Definitions that only private functions of `checkpoints`, `finder`, `step`, `walk`, `track` and `lay` cite. Assumes nothing.
 use Prim.Native.Nat.{ℕ, _*_, _≤_}
 use mathlib.Core.Path.{_≡_}
 use mathlib.Core.Bool.{Bool}
 use mathlib.Core.List.{List, _++_}
-use lib.ListN.{length, take, drop}
-use lib.Ieee.{Float}
+use lib.ListN.{length, getD, take, drop}
+use lib.Ieee.{Float, nan}
 use Rattle.rng.specs.declared.SplitMix64.{SplitMix64}
 use Rattle.rng.specs.SplitMix.{after}
 use Rattle.course.specs.Constants.{checkpointCount}
 use Rattle.course.specs.Lengths.{mostPoints}
 use Rattle.course.specs.Checkpoints.{checkpointsOf}
+use Rattle.course.specs.Finder.{Destination, Going, NotFound}
 use Rattle.course.specs.Walk.{walkOf}
 use Rattle.course.specs.Track.{stepAlphas, stepBetas, stepXs, stepYs, trackOf}
 use Rattle.course.specs.Tiles.{betas, xs, ys}
 use Rattle.course.specs.declared.checkpoints.Checkpoint.{Checkpoint}
 use Rattle.course.specs.declared.checkpoints.Drawn.{Drawn}
+use Rattle.course.specs.declared.finder.Found.{Found}
+use Rattle.course.specs.declared.finder.Found.the-variants as Found
+use Rattle.course.specs.declared.finder.Dest.{Dest}
+use Rattle.course.specs.declared.finder.Dest.the-variants as Dest
 use Rattle.course.specs.declared.step.TrackStep.{TrackStep}
 use Rattle.course.specs.declared.tiles.TrackPoint.{TrackPoint}
 
@@ -22,6 +27,21 @@ use Rattle.course.specs.declared.tiles.TrackPoint.{TrackPoint}
 unfoldable pub drawnOf : SplitMix64 → Drawn
 drawnOf g = record { checkpoints = checkpointsOf checkpointCount g; rng = after (2 * checkpointCount) g }
 
+-- ---- the code's structs and enums as the definitions' own
+-- what stands past the end of a list of checkpoints
+abbrev pub noCheckpoint : Checkpoint
+noCheckpoint = record { angle = nan; x = nan; y = nan }
+
+-- the place found in a list, with the checkpoint that stands there
+abbrev pub foundAs : List Checkpoint → Found → Destination
+foundAs cs (Found.At i alpha) = Going i alpha (getD cs i noCheckpoint)
+foundAs cs Found.Refused = NotFound
+
+abbrev pub destAs : Dest → Destination
+destAs (Dest.To i alpha c) = Going i alpha c
+destAs Dest.Refused = NotFound
+
+-- ---- columns
 -- the columns after the walk: its steps, and then what stood there before
 pub record Trod (cs : List Checkpoint) (a b u v a′ b′ u′ v′ : List Float) (n : ℕ) (ok : Bool) : Type 0 where
   pub result : ok ≡ walkOf cs .ok

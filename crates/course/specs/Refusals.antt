@@ -1,11 +1,10 @@
 -- What a refused walk came to: words for "no walk is ever refused by the fifth turn or by beta beyond ±16" (`walk-refused-by-pass` in proofs/LimitsNeverMet.antt). Assumes nothing.
 use mathlib.Core.Path.{_≡_}
 use mathlib.Core.List.{List}
-use Rattle.course.specs.Finder.{destOf}
+use Rattle.course.specs.Finder.{NotFound, destOf}
 use Rattle.course.specs.Step.{sightOf, stepOf}
 use Rattle.course.specs.Walk.{walkStart}
 use Rattle.course.specs.declared.checkpoints.Checkpoint.{Checkpoint}
-use Rattle.course.specs.declared.finder.Dest.the-variants.{Refused as NotFound}
 use Rattle.course.specs.declared.step.Walk.{Walk}
 use Rattle.course.specs.declared.step.TrackStep.{TrackStep}
 use Rattle.course.specs.declared.step.Stepped.the-variants.{On}

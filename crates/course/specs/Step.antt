@@ -7,11 +7,9 @@ use Rattle.course.specs.Arithmetic.{_⊕_, _⊖_, _⊗_, natural, decima
 use Rattle.course.specs.Constants.{scale, pi, tau, trackDetailStep, trackTurnRate}
 use Rattle.course.specs.Numeric.{absOf, minOf, within}
 use Rattle.course.specs.Trig.{sinCosOf, atan2Of}
-use Rattle.course.specs.Finder.{destOf}
+use Rattle.course.specs.Finder.{Destination, Going, NotFound, destOf}
 use Rattle.course.specs.declared.trig.SinCos.{SinCos}
 use Rattle.course.specs.declared.checkpoints.Checkpoint.{Checkpoint}
-use Rattle.course.specs.declared.finder.Dest.{Dest}
-use Rattle.course.specs.declared.finder.Dest.the-variants.{To as Going, Refused as NotFound}
 use Rattle.course.specs.declared.step.Walk.{Walk}
 use Rattle.course.specs.declared.step.Sight.{Sight}
 use Rattle.course.specs.declared.step.Turned.{Turned}
@@ -88,7 +86,7 @@ thenLanded w s alpha dest c (To b n) =
 unfoldable pub movedOf : Walk → Sight → Float → ℕ → Checkpoint → Stepped
 movedOf w s alpha dest c = thenLanded w s alpha dest c (turnOf (w .beta) alpha)
 
-unfoldable pub thenMoved : Walk → Sight → Dest → Stepped
+unfoldable pub thenMoved : Walk → Sight → Destination → Stepped
 thenMoved w s NotFound = Refused
 thenMoved w s (Going dest alpha c) = movedOf w s alpha dest c
 

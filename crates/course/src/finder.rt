@@ -3,7 +3,8 @@
 ghost use mathlib.Core.Path.{_≡_};
 ghost use Prim.Native.Nat.{_<_};
 ghost use lib.ListN.{getD};
-ghost use Rattle.course.specs.Finder.{nextOf, noCheckpoint, destOf};
+ghost use Rattle.course.specs.Finder.{destOf};
+ghost use Rattle.course.specs.LaySteps.{noCheckpoint, foundAs, destAs};
 use crate::checkpoints::Checkpoint;
 use crate::constants::TAU;
 
@@ -22,7 +23,7 @@ pub(crate) enum Dest {
 // The first checkpoint from place `from` on whose angle alpha is not above. Past the last the search goes on from the
 // first, with alpha one tau less; a third pass refuses.
 pub(crate) fn find(cs: &[Checkpoint], from: usize, alpha: f64) -> Found
-    ensures { λ r. ⌜ r ≡ nextOf (now (cs .entry)) from alpha ⌝ }
+    ensures { λ r. ⌜ foundAs (now (cs .entry)) r ≡ destOf (now (cs .entry)) from alpha ⌝ }
 {
     let mut found = Found::Refused;
     let mut i = from;
@@ -45,14 +46,14 @@ pub(crate) fn find(cs: &[Checkpoint], from: usize, alpha: f64) -> Found
 
 // The same for a caller that has the checkpoints by value.
 fn find_in(cs: [Checkpoint; 12], from: usize, alpha: f64) -> Found
-    ensures { λ r. ⌜ r ≡ nextOf cs from alpha ⌝ }
+    ensures { λ r. ⌜ foundAs cs r ≡ destOf cs from alpha ⌝ }
 {
     find(&cs, from, alpha)
 }
 
 // The checkpoint that is found, with its place and alpha as it then is.
 pub(crate) fn find_dest(cs: [Checkpoint; 12], from: usize, alpha: f64) -> Dest
-    ensures { λ r. ⌜ r ≡ destOf cs from alpha ⌝ }
+    ensures { λ r. ⌜ destAs r ≡ destOf cs from alpha ⌝ }
 {
     match find_in(cs, from, alpha) {
         Found::At(i, a) => Dest::To(i, a, cs[i]),
@@ -65,7 +66,7 @@ pub(crate) fn find_dest(cs: [Checkpoint; 12], from: usize, alpha: f64) -> Dest
 pub(crate) fn dest_from(cs: [Checkpoint; 12], here: Checkpoint, from: usize, alpha: f64) -> Dest
     requires { ⌜ from < 12 ⌝ }
     requires { ⌜ here ≡ getD cs from noCheckpoint ⌝ }
-    ensures { λ r. ⌜ r ≡ destOf cs from alpha ⌝ }
+    ensures { λ r. ⌜ destAs r ≡ destOf cs from alpha ⌝ }
 {
     if alpha <= here.angle {
         return Dest::To(from, alpha, here);

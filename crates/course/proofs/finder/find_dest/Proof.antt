@@ -4,8 +4,8 @@ use mathlib.Core.Path.{sym, _∙_, subst, ap}
 use Prim.Native.Nat.{ℕ, _<_}
 use lib.ListN.{length}
 use native.Mathlib.Omega.{arith}
-use Rattle.course.specs.Finder.{destAt, destOf}
-use Rattle.course.proofs.FinderSteps.{In, next-in}
+use Rattle.course.specs.LaySteps.{foundAs}
+use Rattle.course.proofs.FinderSteps.{In, dest-in}
 use Rattle.course.proofs.finder.find_dest.Statement.{statement}
 use Rattle.course.proofs.finder.find_dest.Tie as tie
 use Rattle.course.proofs.finder.find_dest.Reads as reads
@@ -23,7 +23,7 @@ in-list : (c : tie.After-known-told) → c .before .i .given .0 .0 < 12
 in-list c =
     let s = c .before .before .before .before in
     subst (λ (m : ℕ). c .before .i .given .0 .0 < m) (s .good .0 .1 .0 .1)
-    (subst (In (length (s .args .t1))) (sym (c .before .before .before .find-in .ensures) ∙ c .before .i .given .1) (next-in (s .args .t1) (s .args .from) (s .args .alpha)))
+    (subst (In (length (s .args .t1))) (sym (c .before .before .before .find-in .ensures) ∙ ap (foundAs (s .args .t1)) (c .before .i .given .1)) (dest-in (s .args .t1) (s .args .from) (s .args .alpha)))
 
 mul-t10 : tie.Need-mul-t10
 mul-t10 c = let h : c .before .i .given .0 .0 < 12 = in-list c in omega arith
@@ -35,12 +35,10 @@ enum-told : tie.Need-enum-told
 enum-told c = search needs
 
 returns : tie.Need-returns
-unfolding destOf
-returns c = ap (destAt (c .before .before .before .before .before .args .t1)) (sym (c .before .before .i .given .1) ∙ c .before .before .before .before .find-in .ensures)
+returns c = ap (foundAs (c .before .before .before .before .before .args .t1)) (sym (c .before .before .i .given .1)) ∙ c .before .before .before .before .find-in .ensures
 
 returns-2 : tie.Need-returns-2
-unfolding destOf
-returns-2 c = ap (destAt (c .before .before .before .args .t1)) (sym (c .enum-told .given .1) ∙ c .before .before .find-in .ensures)
+returns-2 c = ap (foundAs (c .before .before .before .args .t1)) (sym (c .enum-told .given .1)) ∙ c .before .before .find-in .ensures
 
 pub find-dest-spec : {M : Type 1} → statement M
 find-dest-spec =

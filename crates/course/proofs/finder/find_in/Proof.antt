@@ -49,7 +49,8 @@ use denote.Triple.Spec.{Meets, tripleOf}
 use denote.Triple.Table.{entered, cited}
 use denote.Triple.Walked.{says, Stays, stay-none, walkOf, goes-none, Walks, ends-at, walked, walk-meets}
 use denote.Exit.{yes}
-use Rattle.course.specs.Finder.{nextOf}
+use Rattle.course.specs.Finder.{destOf}
+use Rattle.course.specs.LaySteps.{foundAs}
 use Rattle.course.specs.declared.checkpoints.Checkpoint.{Checkpoint}
 use Rattle.course.specs.declared.finder.Found.{Found}
 use Rattle.course.proofs.checkpoints.Checkpoint as T
@@ -146,10 +147,10 @@ module _ {M : Type 1} (𝓤 : URA M) (H : Heap 𝓤) (A : Atoms 𝓤) (W : Given
       qed W (‵ (flft (ν ∷ []) fullShare) ∷ ‵ (Slice l ν γ) ∷ []) ∵ nothing ! $ move ! (1 ∷ 0 ∷ []) $ join ! $ move ! (1 ∷ []) $
       nothing ! $ owned ! f64 (Is f64) (float-makes 𝓤 H A W binary64) x _ (refl, x-fits) $ fjoin ! $ owned ! usize (Is usize) (uint-makes 𝓤 H A W w64) n _ (refl, n-fits) $ fjoin ! $ move ! (1 ∷ 0 ∷ []) $ fjoin ! $ move ! (1 ∷ 0 ∷ []) $ join ! $ frame ! $ done !
 
-  said : (l ν : ℕ) (γ : GName) (r : Found) → ent 𝓤 (ensured 𝓤 H A find.ended (find.clauses 𝓤 H A mem run) (ν ∷ [], tt) (slice l γ, (n, (x, tt))) tt r) (fact 𝓤 (r ≡ nextOf cs n x))
-  said l ν γ r = exE 𝓤 _ (λ ws. snd∗ 𝓤 (sem 𝓤 H A (lasts find.ended (ν ∷ [], tt) (slice l γ, (n, (x, tt))) ws)) (fact 𝓤 (r ≡ nextOf cs n x)))
+  said : (l ν : ℕ) (γ : GName) (r : Found) → ent 𝓤 (ensured 𝓤 H A find.ended (find.clauses 𝓤 H A mem run) (ν ∷ [], tt) (slice l γ, (n, (x, tt))) tt r) (fact 𝓤 (foundAs cs r ≡ destOf cs n x))
+  said l ν γ r = exE 𝓤 _ (λ ws. snd∗ 𝓤 (sem 𝓤 H A (lasts find.ended (ν ∷ [], tt) (slice l γ, (n, (x, tt))) ws)) (fact 𝓤 (foundAs cs r ≡ destOf cs n x)))
 
-  exits : (r : Found) (u : Val) → r ≡ nextOf cs n x → ent 𝓤 (⋆ 𝓤 H A (‵ (S.the-row .own r (u ∷ [])) ∷ ‵ Own ∷ ‵ Rest ∷ [])) (Post u)
+  exits : (r : Found) (u : Val) → foundAs cs r ≡ destOf cs n x → ent 𝓤 (⋆ 𝓤 H A (‵ (S.the-row .own r (u ∷ [])) ∷ ‵ Own ∷ ‵ Rest ∷ [])) (Post u)
   exits r u e =
       qed W (‵ (S.the-row .own r (u ∷ [])) ∷ ‵ Own ∷ ‵ Rest ∷ []) ∵
       suffices ! _ (ends-at 𝓤 H A f.ended stayed (f.clauses 𝓤 H A mem run) W ((tt, tt, tt, (cs, (n, (x, tt))), at), tt) u r (tt, (tt, (tt, tt))) (tt, (tt, (tt, tt)))) $ says ! e $
@@ -175,7 +176,7 @@ module _ {M : Type 1} (𝓤 : URA M) (H : Heap 𝓤) (A : Atoms 𝓤) (W : Given
         move ! (2 ∷ 0 ∷ []) $ use2 W (raw (Find 𝓤 H A mem run .pre (to l₄ ν γ))) (goes l₄ ν γ) $
         calls-at ! fm (Find 𝓤 H A mem run) known (to l₄ ν γ) (and-then ! (load ! (from ! (stop !)) (look ! 4 refl)) (and-then ! (load ! (from ! (stop !)) (look ! 11 refl)) (and-then ! (load ! (from ! (stop !)) (look ! 9 refl)) (no-more !)))) (λ u.
         use1 W (later (some (λ (r : Found). ((‵ (flft (ν ∷ []) fullShare) ⊛ ‵ ftrue) ⊛ ‵ (S.the-row .own r (u ∷ []))) ⊛ raw (ensured 𝓤 H A find.ended (find.clauses 𝓤 H A mem run) (ν ∷ [], tt) (slice l₄ γ, (n, (x, tt))) tt r)))) (id⊢ 𝓤 _) $ await ! tt $ pick ! (λ r.
-        split ! $ move ! (1 ∷ []) $ use1 W (raw (fact 𝓤 (r ≡ nextOf cs n x))) (said l₄ ν γ r) $ heard ! (r ≡ nextOf cs n x) (λ e. split ! $ move ! (1 ∷ []) $
+        split ! $ move ! (1 ∷ []) $ use1 W (raw (fact 𝓤 (foundAs cs r ≡ destOf cs n x))) (said l₄ ν γ r) $ heard ! (foundAs cs r ≡ destOf cs n x) (λ e. split ! $ move ! (1 ∷ []) $
         peeks ! S.the-row (Is S.the-row) (shows 𝓤 H A S.the-row) r (u ∷ []) (λ is.
         -- [the result; the token; the lender's part; what cs owns; what the numbers own; _6; …; _5; …; …; _3; …; _2; …; _1; …; room for _0; …; true]
         land ! (from ! (stop !)) (init ! 16 refl (EL.lawful S.the-type S′.the-laws 𝓤 H A W tt .typed r _ is .0)) $

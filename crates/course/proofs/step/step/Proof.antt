@@ -1,6 +1,7 @@
 -- `course::step::step` meets its contract. Assumes nothing.
 use Rattle.course.specs.Step.{thenMoved, stepOf}
 use Rattle.course.specs.Finder.{destOf}
+use Rattle.course.specs.LaySteps.{destAs}
 use Rattle.course.specs.declared.step.Sight.{Sight}
 use mathlib.Core.Path.{sym, ap, _∙_}
 use borrow.Author.Needs.{needs}
@@ -36,7 +37,7 @@ unfolding thenMoved stepOf
 returns c =
     let f = c .before .before in
     let a = f .before .before .before .args in
-    ap (thenMoved (a .w) (f .before .look .result)) (sym (c .enum-told .given .1) ∙ f .dest-from .ensures)
+    ap (thenMoved (a .w) (f .before .look .result)) (ap destAs (sym (c .enum-told .given .1)) ∙ f .dest-from .ensures)
     ∙ ap (λ (s : Sight). thenMoved (a .w) s (destOf (a .cs) (a .w .dest) (s .alpha))) (f .before .look .ensures)
 
 returns-2 : tie.Need-returns-2
@@ -45,7 +46,7 @@ returns-2 c =
     let f = c .before .before .before .before in
     let a = f .before .before .before .args in
     c .moved .ensures
-    ∙ ap (thenMoved (a .w) (f .before .look .result)) (sym (c .before .before .d .given .1) ∙ f .dest-from .ensures)
+    ∙ ap (thenMoved (a .w) (f .before .look .result)) (ap destAs (sym (c .before .before .d .given .1)) ∙ f .dest-from .ensures)
     ∙ ap (λ (s : Sight). thenMoved (a .w) s (destOf (a .cs) (a .w .dest) (s .alpha))) (f .before .look .ensures)
 
 pub step-spec : {M : Type 1} → statement M
