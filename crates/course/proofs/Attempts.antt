@@ -8,7 +8,7 @@ use lib.ListN.{length, take, drop, length-map, length-drop}
 use lib.Seq.{take-at, drop-append-le, take-append-le}
 use lib.Ieee.{Float}
 use Rattle.course.specs.Lengths.{mostPoints}
-use Rattle.course.specs.Step.{stepOf}
+use Rattle.course.specs.Step.{Walk, TrackStep, Stepped, On, Refused, stepOf}
 use Rattle.course.specs.Track.{stepBetas, stepXs, stepYs, trackOf}
 use Rattle.course.specs.Walk.{Trail, follow, onward, walkFrom, walkStart, walkOf}
 use Rattle.course.specs.Tiles.{betas, xs, ys}
@@ -18,10 +18,6 @@ use Rattle.course.specs.Checkpoints.{checkpointsOf}
 use Rattle.course.specs.declared.checkpoints.Drawn.{Drawn}
 use Rattle.rng.specs.declared.SplitMix64.{SplitMix64}
 use Rattle.course.specs.declared.checkpoints.Checkpoint.{Checkpoint}
-use Rattle.course.specs.declared.step.Walk.{Walk}
-use Rattle.course.specs.declared.step.TrackStep.{TrackStep}
-use Rattle.course.specs.declared.step.Stepped.{Stepped}
-use Rattle.course.specs.declared.step.Stepped.the-variants.{On, Refused}
 use Rattle.course.specs.declared.tiles.TrackPoint.{TrackPoint}
 use Rattle.course.proofs.ColumnLaws.{drop-past}
 use Rattle.course.proofs.TrackParts.{map-take, map-drop}

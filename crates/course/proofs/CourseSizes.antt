@@ -12,15 +12,11 @@ use Rattle.rng.specs.SplitMix.{after, seeded}
 use Rattle.course.specs.Lengths.{mostPoints}
 use Rattle.course.specs.Constants.{maxAttempts}
 use Rattle.course.specs.Checkpoints.{checkpointsOf}
-use Rattle.course.specs.Step.{stepOf}
+use Rattle.course.specs.Step.{Walk, TrackStep, Stepped, On, Refused, stepOf}
 use Rattle.course.specs.Track.{stepAlphas, laterPass, earlierPass, betweenPasses, wellGlued, trackOf}
 use Rattle.course.specs.Walk.{Trail, follow, onward, walkFrom, walkStart, walkOf}
 use Rattle.course.specs.Lay.{pointOf, accepted, attemptOn, ringPoint, ringOf, CoursePoints, orElse, courseOn, courseFrom, courseWithin, courseOf}
 use Rattle.course.specs.declared.checkpoints.Checkpoint.{Checkpoint}
-use Rattle.course.specs.declared.step.Walk.{Walk}
-use Rattle.course.specs.declared.step.TrackStep.{TrackStep}
-use Rattle.course.specs.declared.step.Stepped.{Stepped}
-use Rattle.course.specs.declared.step.Stepped.the-variants.{On, Refused}
 use Rattle.course.specs.declared.tiles.TrackPoint.{TrackPoint}
 use Rattle.course.proofs.TrackParts.{pass-le, none-a}
 

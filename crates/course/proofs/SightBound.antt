@@ -10,9 +10,8 @@ use Rattle.course.specs.Arithmetic.{_⊕_, _⊖_, natural, decimal, noug
 use Rattle.course.specs.Constants.{tau}
 use Rattle.course.specs.Trig.{atan2Of}
 use Rattle.course.specs.Finder.{Destination, Going, NotFound, scan, searched, destOf}
-use Rattle.course.specs.Step.{sightOf}
+use Rattle.course.specs.Step.{Walk, sightOf}
 use Rattle.course.specs.declared.checkpoints.Checkpoint.{Checkpoint}
-use Rattle.course.specs.declared.step.Walk.{Walk}
 use Rattle.course.proofs.Intervals.{In, Near, wider, add-in, sub-in, below-in, not-below-in}
 use Rattle.course.proofs.AngleBound.{atan2-near}
 use Rattle.course.proofs.TurnLimits.{tau-in}

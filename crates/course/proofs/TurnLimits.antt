@@ -7,9 +7,7 @@ use lib.Dec.{T}
 use lib.Ieee.{Float, neg, lt, le, round, ofInt, add, sub, mul}
 use Rattle.course.specs.Arithmetic.{_⊕_, _⊖_, natural, decimal}
 use Rattle.course.specs.Constants.{pi, tau}
-use Rattle.course.specs.Step.{farAbove, farBelow, turnDown, turnUp, thenUp, turnOf}
-use Rattle.course.specs.declared.step.Turned.{Turned}
-use Rattle.course.specs.declared.step.Turned.the-variants.{To, Refused as TooFar}
+use Rattle.course.specs.Step.{Turned, To, TooFar, farAbove, farBelow, turnDown, turnUp, thenUp, turnOf}
 use Rattle.course.proofs.Intervals.{In, Near, finites, finites3, wider, add-in, sub-in, split-in, not-above, not-below, not-beyond, not-short}
 
 -- bounds in tenths, and below 0

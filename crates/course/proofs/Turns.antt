@@ -6,8 +6,7 @@ use mathlib.Core.Bool.{true, false}
 use lib.Ieee as Ieee
 use lib.Ieee.{Float, binary64, ofBits}
 use Rattle.course.specs.Arithmetic.{_⊕_, _⊖_}
-use Rattle.course.specs.Step.{turnDown, turnUp}
-use Rattle.course.specs.declared.step.Turned.the-variants.{To, Refused}
+use Rattle.course.specs.Step.{To, TooFar, turnDown, turnUp}
 use Rattle.course.proofs.Literals.{tau-bits, far-above-bits, far-below-bits}
 
 abbrev pub tauB : Float
@@ -28,7 +27,7 @@ unfolding turnDown
 down-left zero b a h = rw (far-above-bits, h)
 down-left (suc n) b a h = rw (far-above-bits, h)
 
-pub down-stop : (n : ℕ) (b a : Float) → Ieee.lt downB (b ⊖ a) ≡ true → n ≡ 0 → turnDown n b a ≡ Refused
+pub down-stop : (n : ℕ) (b a : Float) → Ieee.lt downB (b ⊖ a) ≡ true → n ≡ 0 → turnDown n b a ≡ TooFar
 unfolding turnDown
 down-stop n b a h z = rw (z, far-above-bits, h)
 
@@ -44,7 +43,7 @@ unfolding turnUp
 up-left zero b a h = rw (far-below-bits, h)
 up-left (suc n) b a h = rw (far-below-bits, h)
 
-pub up-stop : (n : ℕ) (b a : Float) → Ieee.lt (b ⊖ a) upB ≡ true → n ≡ 0 → turnUp n b a ≡ Refused
+pub up-stop : (n : ℕ) (b a : Float) → Ieee.lt (b ⊖ a) upB ≡ true → n ≡ 0 → turnUp n b a ≡ TooFar
 unfolding turnUp
 up-stop n b a h z = rw (z, far-below-bits, h)
 

@@ -8,11 +8,11 @@ use Rattle.course.specs.Arithmetic.{_⊗_, _⊘_, natural}
 use Rattle.course.specs.Constants.{tau, trackRad, checkpointCount, maxAttempts}
 use Rattle.course.specs.Trig.{sineOf, cosineOf}
 use Rattle.course.specs.Checkpoints.{checkpointsOf}
+use Rattle.course.specs.Step.{TrackStep}
 use Rattle.course.specs.Walk.{Trail, walkOf}
 use Rattle.course.specs.Track.{trackOf}
 use Rattle.course.specs.Lent.{Lent, Outcome, outcome, roomyOf, noValues, laidAnswer, layInto}
 use Rattle.course.specs.declared.checkpoints.Checkpoint.{Checkpoint}
-use Rattle.course.specs.declared.step.TrackStep.{TrackStep}
 use Rattle.course.specs.declared.tiles.TrackPoint.{TrackPoint}
 
 -- ---- attempts

@@ -11,16 +11,23 @@ use Rattle.course.specs.Constants.{checkpointCount}
 use Rattle.course.specs.Lengths.{mostPoints}
 use Rattle.course.specs.Checkpoints.{checkpointsOf}
 use Rattle.course.specs.Finder.{Destination, Going, NotFound}
+use Rattle.course.specs.Step.{Walk, TrackStep, Stepped, On, Refused, Sight, Turned, To, TooFar}
 use Rattle.course.specs.Walk.{walkOf}
 use Rattle.course.specs.Track.{stepAlphas, stepBetas, stepXs, stepYs, trackOf}
 use Rattle.course.specs.Tiles.{betas, xs, ys}
 use Rattle.course.specs.declared.checkpoints.Checkpoint.{Checkpoint}
 use Rattle.course.specs.declared.checkpoints.Drawn.{Drawn}
-use Rattle.course.specs.declared.finder.Found.{Found}
-use Rattle.course.specs.declared.finder.Found.the-variants as Found
-use Rattle.course.specs.declared.finder.Dest.{Dest}
-use Rattle.course.specs.declared.finder.Dest.the-variants as Dest
-use Rattle.course.specs.declared.step.TrackStep.{TrackStep}
+use Rattle.course.specs.declared.finder.Found.{Found as CodeFound}
+use Rattle.course.specs.declared.finder.Found.the-variants as CodeFound
+use Rattle.course.specs.declared.finder.Dest.{Dest as CodeDest}
+use Rattle.course.specs.declared.finder.Dest.the-variants as CodeDest
+use Rattle.course.specs.declared.step.Walk.{Walk as CodeWalk}
+use Rattle.course.specs.declared.step.TrackStep.{TrackStep as CodeTrackStep}
+use Rattle.course.specs.declared.step.Stepped.{Stepped as CodeStepped}
+use Rattle.course.specs.declared.step.Stepped.the-variants as CodeStepped
+use Rattle.course.specs.declared.step.Sight.{Sight as CodeSight}
+use Rattle.course.specs.declared.step.Turned.{Turned as CodeTurned}
+use Rattle.course.specs.declared.step.Turned.the-variants as CodeTurned
 use Rattle.course.specs.declared.tiles.TrackPoint.{TrackPoint}
 
 -- an attempt's checkpoints, and the generator after their 24 draws
@@ -33,13 +40,30 @@ abbrev pub noCheckpoint : Checkpoint
 noCheckpoint = record { angle = nan; x = nan; y = nan }
 
 -- the place found in a list, with the checkpoint that stands there
-abbrev pub foundAs : List Checkpoint → Found → Destination
-foundAs cs (Found.At i alpha) = Going i alpha (getD cs i noCheckpoint)
-foundAs cs Found.Refused = NotFound
+abbrev pub foundAs : List Checkpoint → CodeFound → Destination
+foundAs cs (CodeFound.At i alpha) = Going i alpha (getD cs i noCheckpoint)
+foundAs cs CodeFound.Refused = NotFound
 
-abbrev pub destAs : Dest → Destination
-destAs (Dest.To i alpha c) = Going i alpha c
-destAs Dest.Refused = NotFound
+abbrev pub destAs : CodeDest → Destination
+destAs (CodeDest.To i alpha c) = Going i alpha c
+destAs CodeDest.Refused = NotFound
+
+abbrev pub walkAs : CodeWalk → Walk
+walkAs w = record { x = w .x; y = w .y; beta = w .beta; dest = w .dest; laps = w .laps; visited = w .visited }
+
+abbrev pub trackStepAs : CodeTrackStep → TrackStep
+trackStepAs p = record { alpha = p .alpha; beta = p .beta; x = p .x; y = p .y }
+
+abbrev pub steppedAs : CodeStepped → Stepped
+steppedAs (CodeStepped.On p w) = On (trackStepAs p) (walkAs w)
+steppedAs CodeStepped.Refused = Refused
+
+abbrev pub sightAs : CodeSight → Sight
+sightAs s = record { alpha = s .alpha; laps = s .laps; visited = s .visited }
+
+abbrev pub turnedAs : CodeTurned → Turned
+turnedAs (CodeTurned.To beta left) = To beta left
+turnedAs CodeTurned.Refused = TooFar
 
 -- ---- columns
 -- the columns after the walk: its steps, and then what stood there before

@@ -2,12 +2,9 @@
 use mathlib.Core.Path.{_≡_}
 use mathlib.Core.List.{List}
 use Rattle.course.specs.Finder.{NotFound, destOf}
-use Rattle.course.specs.Step.{sightOf, stepOf}
+use Rattle.course.specs.Step.{Walk, TrackStep, On, sightOf, stepOf}
 use Rattle.course.specs.Walk.{walkStart}
 use Rattle.course.specs.declared.checkpoints.Checkpoint.{Checkpoint}
-use Rattle.course.specs.declared.step.Walk.{Walk}
-use Rattle.course.specs.declared.step.TrackStep.{TrackStep}
-use Rattle.course.specs.declared.step.Stepped.the-variants.{On}
 
 -- accepted steps lead from the start to this walk
 pub data Reached (cs : List Checkpoint) : Walk → Type 0 where

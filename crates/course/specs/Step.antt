@@ -10,14 +10,37 @@ use Rattle.course.specs.Trig.{sinCosOf, atan2Of}
 use Rattle.course.specs.Finder.{Destination, Going, NotFound, destOf}
 use Rattle.course.specs.declared.trig.SinCos.{SinCos}
 use Rattle.course.specs.declared.checkpoints.Checkpoint.{Checkpoint}
-use Rattle.course.specs.declared.step.Walk.{Walk}
-use Rattle.course.specs.declared.step.Sight.{Sight}
-use Rattle.course.specs.declared.step.Turned.{Turned}
-use Rattle.course.specs.declared.step.Turned.the-variants.{To, Refused as TooFar}
-use Rattle.course.specs.declared.step.Stepped.{Stepped}
-use Rattle.course.specs.declared.step.Stepped.the-variants.{On, Refused}
+
+-- where the walk stands: its place and heading, the checkpoint it makes for, the laps done, and whether it has been on the other side,
+-- that of negative angles, since the last of them
+pub record Walk : Type 0 where
+  pub x : Float
+  pub y : Float
+  pub beta : Float
+  pub dest : ℕ
+  pub laps : ℕ
+  pub visited : Bool
+
+-- what a step stores
+pub record TrackStep : Type 0 where
+  pub alpha : Float
+  pub beta : Float
+  pub x : Float
+  pub y : Float
+
+-- what a step stores and the walk after it; or a limit was met
+pub data Stepped : Type 0 where
+  On : TrackStep → Walk → Stepped
+  Refused : Stepped
 
 -- ---- the walk's angle. Below 0 the walk is on the other side, and the angle one tau more; above 0 after that it has done a lap
+
+-- the angle, with laps and side brought up to date
+pub record Sight : Type 0 where
+  pub alpha : Float
+  pub laps : ℕ
+  pub visited : Bool
+
 unfoldable pub walkLap : Walk → Float → Bool
 walkLap w a = w .visited && lt nought a
 
@@ -37,6 +60,12 @@ sightOf w =
 
 -- ---- beta less tau while it is above alpha by more than 1.5 pi, then more tau while it is below by more. Four turns are allowed in
 -- all; the fifth refuses
+
+-- beta after turns, and how many are still allowed; or a fifth was wanted
+pub data Turned : Type 0 where
+  To : Float → ℕ → Turned
+  TooFar : Turned
+
 unfoldable pub farAbove : Float
 farAbove = decimal 15 10 ⊗ pi
 

@@ -9,7 +9,7 @@ use Rattle.course.specs.Arithmetic.{_⊕_, _⊖_, _⊗_, _⊘_, natural,
 use Rattle.course.specs.Constants.{tau, trackDetailStep, checkpointCount}
 use Rattle.course.specs.Trig.{sineOf, cosineOf}
 use Rattle.course.specs.Root.{sqrtOf}
-use Rattle.course.specs.declared.step.TrackStep.{TrackStep}
+use Rattle.course.specs.Step.{TrackStep}
 
 -- the Rust's start_alpha
 unfoldable pub startAlpha : Float

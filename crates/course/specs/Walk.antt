@@ -6,12 +6,8 @@ use lib.Dec.{ltb}
 use Rattle.course.specs.Arithmetic.{nought}
 use Rattle.course.specs.Lengths.{mostPoints}
 use Rattle.course.specs.Checkpoints.{farRad}
-use Rattle.course.specs.Step.{stepOf}
+use Rattle.course.specs.Step.{Walk, TrackStep, Stepped, On, Refused, stepOf}
 use Rattle.course.specs.declared.checkpoints.Checkpoint.{Checkpoint}
-use Rattle.course.specs.declared.step.Walk.{Walk}
-use Rattle.course.specs.declared.step.TrackStep.{TrackStep}
-use Rattle.course.specs.declared.step.Stepped.{Stepped}
-use Rattle.course.specs.declared.step.Stepped.the-variants.{On, Refused}
 
 -- the steps stored, and whether no limit was met
 pub record Trail : Type 0 where

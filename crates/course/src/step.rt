@@ -5,7 +5,7 @@ ghost use lib.ListN.{getD};
 ghost use Rattle.course.specs.Trig.{turnsOf, sinCosOf};
 ghost use Rattle.course.specs.Steps.{turnsAt};
 ghost use Rattle.course.specs.Step.{walkLap, lapsOf, sightOf, turnDown, turnUp, turnOf, steered, projOf, landedOf, movedOf, stepOf};
-ghost use Rattle.course.specs.LaySteps.{noCheckpoint};
+ghost use Rattle.course.specs.LaySteps.{noCheckpoint, walkAs, steppedAs, sightAs, turnedAs};
 use crate::checkpoints::Checkpoint;
 use crate::constants::PI;
 use crate::constants::SCALE;
@@ -63,7 +63,7 @@ pub(crate) enum Turned {
 
 // Whether the angle a completes a lap.
 fn lapped(w: Walk, a: f64) -> bool
-    ensures { λ r. ⌜ r ≡ walkLap w a ⌝ }
+    ensures { λ r. ⌜ r ≡ walkLap (walkAs w) a ⌝ }
 {
     if w.visited {
         return a > 0.0;
@@ -85,7 +85,7 @@ fn counted(laps: u32, lap: bool) -> u32
 // What the walk sees of itself before it looks for a checkpoint.
 fn look(w: Walk) -> Sight
     requires { ⌜ w .laps ≤ 4 ⌝ }
-    ensures { λ r. ⌜ r ≡ sightOf w ⌝ }
+    ensures { λ r. ⌜ sightAs r ≡ sightOf (walkAs w) ⌝ }
 {
     let a = trig::angle_of(w.y, w.x);
     let lap = lapped(w, a);
@@ -113,7 +113,7 @@ fn look(w: Walk) -> Sight
 
 // Beta less tau while it is above alpha by more than 1.5 pi; `left`: the turns allowed.
 fn turn_down(beta: f64, alpha: f64, left: u32) -> Turned
-    ensures { λ r. ⌜ r ≡ turnDown left beta alpha ⌝ }
+    ensures { λ r. ⌜ turnedAs r ≡ turnDown left beta alpha ⌝ }
 {
     let mut b = beta;
     let mut n = left;
@@ -129,7 +129,7 @@ fn turn_down(beta: f64, alpha: f64, left: u32) -> Turned
 
 // Beta more tau while it is below alpha by more than 1.5 pi.
 fn turn_up(beta: f64, alpha: f64, left: u32) -> Turned
-    ensures { λ r. ⌜ r ≡ turnUp left beta alpha ⌝ }
+    ensures { λ r. ⌜ turnedAs r ≡ turnUp left beta alpha ⌝ }
 {
     let mut b = beta;
     let mut n = left;
@@ -145,7 +145,7 @@ fn turn_up(beta: f64, alpha: f64, left: u32) -> Turned
 
 // Both, with four turns in all: the fifth refuses.
 fn turn(beta: f64, alpha: f64) -> Turned
-    ensures { λ r. ⌜ r ≡ turnOf beta alpha ⌝ }
+    ensures { λ r. ⌜ turnedAs r ≡ turnOf beta alpha ⌝ }
 {
     let d = turn_down(beta, alpha, 4);
     match d {
@@ -156,7 +156,7 @@ fn turn(beta: f64, alpha: f64) -> Turned
 
 // The way to the checkpoint at (tx, ty) along the side of the heading h, times SCALE.
 fn proj(w: Walk, h: SinCos, tx: f64, ty: f64) -> f64
-    ensures { λ r. ⌜ r ≡ projOf w h tx ty ⌝ }
+    ensures { λ r. ⌜ r ≡ projOf (walkAs w) h tx ty ⌝ }
 {
     (h.cos * (tx - w.x) + h.sin * (ty - w.y)) * SCALE
 }
@@ -178,7 +178,7 @@ fn steer(beta: f64, proj: f64) -> f64
 
 // The record to store and the walk after the step, or beta has left its bounds; `prev` is beta before it was steered.
 fn landed(w: Walk, s: Sight, h: SinCos, alpha: f64, dest: usize, prev: f64, beta: f64) -> Stepped
-    ensures { λ r. ⌜ r ≡ landedOf w s h alpha dest prev beta ⌝ }
+    ensures { λ r. ⌜ steppedAs r ≡ landedOf (walkAs w) (sightAs s) h alpha dest prev beta ⌝ }
 {
     let x = w.x + -h.sin * TRACK_DETAIL_STEP;
     let y = w.y + h.cos * TRACK_DETAIL_STEP;
@@ -205,7 +205,7 @@ fn landed(w: Walk, s: Sight, h: SinCos, alpha: f64, dest: usize, prev: f64, beta
 // The step once its checkpoint c is found; h is the heading.
 fn moved(w: Walk, h: SinCos, s: Sight, alpha: f64, dest: usize, c: Checkpoint) -> Stepped
     requires { ⌜ h ≡ sinCosOf (w .beta) ⌝ }
-    ensures { λ r. ⌜ r ≡ movedOf w s alpha dest c ⌝ }
+    ensures { λ r. ⌜ steppedAs r ≡ movedOf (walkAs w) (sightAs s) alpha dest c ⌝ }
 {
     let t = turn(w.beta, alpha);
     match t {
@@ -222,7 +222,7 @@ pub(crate) fn step(cs: [Checkpoint; 12], here: Checkpoint, w: Walk, t: Turns) ->
     requires { ⌜ w .dest < 12 ⌝ }
     requires { ⌜ here ≡ getD cs (w .dest) noCheckpoint ⌝ }
     requires { ⌜ t ≡ turnsAt (turnsOf (w .beta)) ⌝ }
-    ensures { λ r. ⌜ r ≡ stepOf cs w ⌝ }
+    ensures { λ r. ⌜ steppedAs r ≡ stepOf cs (walkAs w) ⌝ }
 {
     let h = trig::turned(w.beta, t);
     let s = look(w);

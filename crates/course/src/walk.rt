@@ -4,7 +4,7 @@ ghost use Prim.Native.Nat.{_≤_};
 ghost use lib.ListN.{length};
 ghost use Rattle.course.specs.Lengths.{mostPoints};
 ghost use Rattle.course.specs.Walk.{walkStart};
-ghost use Rattle.course.specs.LaySteps.{Trod};
+ghost use Rattle.course.specs.LaySteps.{walkAs, Trod};
 use crate::checkpoints::Checkpoint;
 use crate::constants::FAR_RAD;
 use crate::constants::MOST_POINTS;
@@ -21,7 +21,7 @@ pub(crate) struct Walked {
 
 // Where every walk starts.
 fn start() -> Walk
-    ensures { λ r. ⌜ r ≡ walkStart ⌝ }
+    ensures { λ r. ⌜ walkAs r ≡ walkStart ⌝ }
 {
     Walk {
         x: FAR_RAD,

@@ -1,6 +1,7 @@
 -- `course::step::moved` meets its contract. Assumes nothing.
 use Rattle.course.specs.declared.trig.SinCos.{SinCos}
 use Rattle.course.specs.Step.{thenLanded, movedOf, projOf, landedOf, steered}
+use Rattle.course.specs.LaySteps.{walkAs, sightAs, turnedAs}
 use mathlib.Core.Path.{sym, ap, _∙_}
 use lib.Ieee.{Float}
 use borrow.Author.Needs.{needs}
@@ -35,7 +36,7 @@ returns : tie.Need-returns
 unfolding thenLanded movedOf
 returns c =
     let a = c .before .before .before .args in
-    ap (thenLanded (a .w) (a .s) (a .alpha) (a .dest) (a .c)) (sym (c .enum-told .given .1) ∙ c .before .before .turn .ensures)
+    ap (thenLanded (walkAs (a .w)) (sightAs (a .s)) (a .alpha) (a .dest) (a .c)) (ap turnedAs (sym (c .enum-told .given .1)) ∙ c .before .before .turn .ensures)
 
 returns-2 : tie.Need-returns-2
 unfolding thenLanded movedOf
@@ -44,9 +45,9 @@ returns-2 c =
     let a = k .before .before .before .args in
     let b : Float = k .t .given .0 .0 in
     c .landed .ensures
-    ∙ ap (λ (z : Float). landedOf (a .w) (a .s) (a .h) (a .alpha) (a .dest) b z) (c .before .steer .ensures ∙ ap (λ (z : Float). steered b z) (c .before .before .proj .ensures))
-    ∙ ap (λ (z : SinCos). landedOf (a .w) (a .s) z (a .alpha) (a .dest) b (steered b (projOf (a .w) z (a .c .x) (a .c .y)))) (k .before .before .before .pre)
-    ∙ ap (thenLanded (a .w) (a .s) (a .alpha) (a .dest) (a .c)) (sym (k .t .given .1) ∙ k .before .before .turn .ensures)
+    ∙ ap (λ (z : Float). landedOf (walkAs (a .w)) (sightAs (a .s)) (a .h) (a .alpha) (a .dest) b z) (c .before .steer .ensures ∙ ap (λ (z : Float). steered b z) (c .before .before .proj .ensures))
+    ∙ ap (λ (z : SinCos). landedOf (walkAs (a .w)) (sightAs (a .s)) z (a .alpha) (a .dest) b (steered b (projOf (walkAs (a .w)) z (a .c .x) (a .c .y)))) (k .before .before .before .pre)
+    ∙ ap (thenLanded (walkAs (a .w)) (sightAs (a .s)) (a .alpha) (a .dest) (a .c)) (ap turnedAs (sym (k .t .given .1)) ∙ k .before .before .turn .ensures)
 
 pub moved-spec : {M : Type 1} → statement M
 moved-spec =

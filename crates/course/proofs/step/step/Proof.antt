@@ -1,8 +1,7 @@
 -- `course::step::step` meets its contract. Assumes nothing.
-use Rattle.course.specs.Step.{thenMoved, stepOf}
+use Rattle.course.specs.Step.{Sight, thenMoved, stepOf}
 use Rattle.course.specs.Finder.{destOf}
-use Rattle.course.specs.LaySteps.{destAs}
-use Rattle.course.specs.declared.step.Sight.{Sight}
+use Rattle.course.specs.LaySteps.{destAs, walkAs, sightAs}
 use mathlib.Core.Path.{sym, ap, _∙_}
 use borrow.Author.Needs.{needs}
 use Rattle.course.proofs.step.step.Statement.{statement}
@@ -37,8 +36,8 @@ unfolding thenMoved stepOf
 returns c =
     let f = c .before .before in
     let a = f .before .before .before .args in
-    ap (thenMoved (a .w) (f .before .look .result)) (ap destAs (sym (c .enum-told .given .1)) ∙ f .dest-from .ensures)
-    ∙ ap (λ (s : Sight). thenMoved (a .w) s (destOf (a .cs) (a .w .dest) (s .alpha))) (f .before .look .ensures)
+    ap (thenMoved (walkAs (a .w)) (sightAs (f .before .look .result))) (ap destAs (sym (c .enum-told .given .1)) ∙ f .dest-from .ensures)
+    ∙ ap (λ (s : Sight). thenMoved (walkAs (a .w)) s (destOf (a .cs) (a .w .dest) (s .alpha))) (f .before .look .ensures)
 
 returns-2 : tie.Need-returns-2
 unfolding thenMoved stepOf
@@ -46,8 +45,8 @@ returns-2 c =
     let f = c .before .before .before .before in
     let a = f .before .before .before .args in
     c .moved .ensures
-    ∙ ap (thenMoved (a .w) (f .before .look .result)) (ap destAs (sym (c .before .before .d .given .1)) ∙ f .dest-from .ensures)
-    ∙ ap (λ (s : Sight). thenMoved (a .w) s (destOf (a .cs) (a .w .dest) (s .alpha))) (f .before .look .ensures)
+    ∙ ap (thenMoved (walkAs (a .w)) (sightAs (f .before .look .result))) (ap destAs (sym (c .before .before .d .given .1)) ∙ f .dest-from .ensures)
+    ∙ ap (λ (s : Sight). thenMoved (walkAs (a .w)) s (destOf (a .cs) (a .w .dest) (s .alpha))) (f .before .look .ensures)
 
 pub step-spec : {M : Type 1} → statement M
 step-spec =

@@ -1,6 +1,7 @@
 -- `course::step::turn` meets its contract. Assumes nothing.
 use mathlib.Core.Path.{sym, ap, _∙_}
 use Rattle.course.specs.Step.{thenUp, turnOf}
+use Rattle.course.specs.LaySteps.{turnedAs}
 use borrow.Author.Needs.{needs}
 use Rattle.course.proofs.step.turn.Statement.{statement}
 use Rattle.course.proofs.step.turn.Tie as tie
@@ -23,11 +24,11 @@ turn-up-requires c κs = search needs
 
 returns : tie.Need-returns
 unfolding thenUp turnOf
-returns c = ap (thenUp _) (sym (c .enum-told .given .1) ∙ c .before .before .turn-down .ensures)
+returns c = ap (thenUp _) (ap turnedAs (sym (c .enum-told .given .1)) ∙ c .before .before .turn-down .ensures)
 
 returns-2 : tie.Need-returns-2
 unfolding thenUp turnOf
-returns-2 c = c .turn-up .ensures ∙ ap (thenUp _) (sym (c .before .before .d .given .1) ∙ c .before .before .before .before .turn-down .ensures)
+returns-2 c = c .turn-up .ensures ∙ ap (thenUp _) (ap turnedAs (sym (c .before .before .d .given .1)) ∙ c .before .before .before .before .turn-down .ensures)
 
 pub turn-spec : {M : Type 1} → statement M
 turn-spec =

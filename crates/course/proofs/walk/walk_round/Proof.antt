@@ -1,11 +1,12 @@
 -- `course::walk::walk_round` meets its contract. Assumes nothing.
 use borrow.Author.Needs.{needs}
-use mathlib.Core.Path.{_≡_, refl, sym, _∙_}
+use mathlib.Core.Path.{_≡_, refl, sym, ap, _∙_}
 use Prim.Native.Nat.{_-_}
 use native.Mathlib.Omega.{arith}
 use Rattle.course.specs.Lengths.{mostPoints}
 use Rattle.course.specs.Trig.{turnsOf}
 use Rattle.course.specs.Steps.{turnsAt}
+use Rattle.course.specs.LaySteps.{walkAs, steppedAs}
 use Rattle.course.proofs.WalkSteps.{Walking, begun, walked-full, walked-refused, walked-end, walked-on}
 use Rattle.course.proofs.walk.walk_round.Statement.{statement}
 use Rattle.course.proofs.walk.walk_round.Tie as tie
@@ -17,7 +18,7 @@ use Rattle.course.proofs.trig.quarter_turns.Reads as quarter-turns-read
 use Rattle.course.proofs.trig.quarter_turns_from.Reads as quarter-turns-from-reads
 
 abbrev Inv-loop : tie.InvT-loop
-Inv-loop alpha₀ beta₀ x₀ y₀ cs w₀ t₀ k₀ alpha beta x y w t k = Walking mostPoints cs alpha₀ beta₀ x₀ y₀ alpha beta x y w k × (t ≡ turnsAt (turnsOf (w .beta)))
+Inv-loop alpha₀ beta₀ x₀ y₀ cs w₀ t₀ k₀ alpha beta x y w t k = Walking mostPoints cs alpha₀ beta₀ x₀ y₀ alpha beta x y (walkAs w) k × (t ≡ turnsAt (turnsOf (w .beta)))
 
 abbrev μ-loop : tie.MeasureT-loop
 μ-loop alpha₀ beta₀ x₀ y₀ cs w₀ t₀ k₀ alpha beta x y w t k = mostPoints - k
@@ -64,7 +65,7 @@ same-length-4 c = search needs
 returns : tie.Need-returns Inv-loop μ-loop
 returns c =
     let s = c .before .before in
-    walked-refused _ _ _ _ _ _ _ _ _ _ _ (s .before .before .before .loop .inv .0) (s .before .before .loop-test .taken) (sym (s .step .ensures) ∙ c .enum-told .given .1)
+    walked-refused _ _ _ _ _ _ _ _ _ _ _ (s .before .before .before .loop .inv .0) (s .before .before .loop-test .taken) (sym (s .step .ensures) ∙ ap steppedAs (c .enum-told .given .1))
 
 mul-alpha : tie.Need-mul-alpha Inv-loop μ-loop
 mul-alpha c = search needs
@@ -109,7 +110,7 @@ returns-2 : tie.Need-returns-2 Inv-loop μ-loop
 returns-2 c =
     let u = c .before .before .before in
     let s = u .before .before in
-    walked-end _ _ _ _ _ _ _ _ _ _ _ (s .before .before .before .loop .inv .0) _ _ (s .before .before .loop-test .taken) (sym (s .step .ensures) ∙ u .s .given .1) (c .if1 .taken)
+    walked-end _ _ _ _ _ _ _ _ _ _ _ (s .before .before .before .loop .inv .0) _ _ (s .before .before .loop-test .taken) (sym (s .step .ensures) ∙ ap steppedAs (u .s .given .1)) (c .if1 .taken)
 
 quarter-turns-from-requires : tie.Need-quarter-turns-from-requires Inv-loop μ-loop
 quarter-turns-from-requires c κs =
@@ -123,7 +124,7 @@ loop-again : tie.Need-loop-again Inv-loop μ-loop
 loop-again c =
     let u = c .before .before .before .before in
     let s = u .before .before in
-    (walked-on _ _ _ _ _ _ _ _ _ _ _ _ (s .before .before .before .loop .inv .0) _ _ (s .before .before .loop-test .taken) (sym (s .step .ensures) ∙ u .s .given .1) (c .before .if1 .left), c .quarter-turns-from .ensures)
+    (walked-on _ _ _ _ _ _ _ _ _ _ _ _ (s .before .before .before .loop .inv .0) _ _ (s .before .before .loop-test .taken) (sym (s .step .ensures) ∙ ap steppedAs (u .s .given .1)) (c .before .if1 .left), c .quarter-turns-from .ensures)
 
 same-length-9 : tie.Need-same-length-9 Inv-loop μ-loop
 same-length-9 c = search needs
