@@ -3,10 +3,10 @@ use mathlib.Core.Path.{_≡_, refl, sym, ap, _∙_, subst}
 use Prim.Native.Nat.{ℕ, zero, suc}
 use lib.IntN.{ℤ}
 use lib.Ieee.{Float, neg, ofInt, binary64}
-use Rattle.course.specs.Trig.{quarterOf, turnsOf, restOf, sinePoly, cosinePoly, cosineOf, sineOf, sinCosOf, pick}
-use Rattle.course.specs.Steps.{turnsAt}
+use Rattle.course.specs.Trig.{SinCos, quarterOf, turnsOf, restOf, sinePoly, cosinePoly, cosineOf, sineOf, sinCosOf, pick}
+use Rattle.course.specs.Steps.{turnsAt, sinCosAs}
 use Rattle.course.specs.declared.trig.Turns.{Turns}
-use Rattle.course.specs.declared.trig.SinCos.{SinCos}
+use Rattle.course.specs.declared.trig.SinCos.{SinCos as CodeSinCos}
 
 pub turns-is : (f : Float) (q : ℕ) (z : ℤ) → f ≡ ofInt binary64 z → q ≡ quarterOf z → record { k = f; quarter = q } ≡ turnsAt z
 unfolding turnsAt
@@ -21,11 +21,11 @@ pub sin-cos-is : (a c s c′ s′ : Float) → c ≡ c′ → s ≡ s′ → rec
 sin-cos-is a c s c′ s′ p q h = (λ i. record { cos = p i; sin = q i }) ∙ h
 
 -- the two results of `sin_cos`
-pub cos-is : (a : Float) (r : SinCos) → r ≡ sinCosOf a → r .cos ≡ cosineOf a
+pub cos-is : (a : Float) (r : CodeSinCos) → sinCosAs r ≡ sinCosOf a → r .cos ≡ cosineOf a
 unfolding sinCosOf
 cos-is a r h = ap (λ (x : SinCos). x .cos) h
 
-pub sin-is : (a : Float) (r : SinCos) → r ≡ sinCosOf a → r .sin ≡ sineOf a
+pub sin-is : (a : Float) (r : CodeSinCos) → sinCosAs r ≡ sinCosOf a → r .sin ≡ sineOf a
 unfolding sinCosOf
 sin-is a r h = ap (λ (x : SinCos). x .sin) h
 

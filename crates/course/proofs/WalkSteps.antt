@@ -10,13 +10,13 @@ use lib.Ieee.{Float}
 use Rattle.course.specs.Lengths.{mostPoints}
 use Rattle.course.specs.Arithmetic.{natural}
 use Rattle.course.specs.Numeric.{within}
+use Rattle.course.specs.Trig.{SinCos}
 use Rattle.course.specs.Finder.{Destination, Going, NotFound, destOf}
 use Rattle.course.specs.Step.{Walk, TrackStep, Stepped, On, Refused, Sight, Turned, To, TooFar, sightOf, turnOf, landedOf, thenLanded, movedOf, thenMoved, stepOf}
 use Rattle.course.specs.Track.{stepAlphas, stepBetas, stepXs, stepYs}
 use Rattle.course.specs.Walk.{Trail, follow, onward, walkFrom, walkStart, walkOf}
 use Rattle.course.specs.LaySteps.{Trod}
 use Rattle.course.specs.declared.checkpoints.Checkpoint.{Checkpoint}
-use Rattle.course.specs.declared.trig.SinCos.{SinCos}
 use Rattle.course.proofs.FinderSteps.{In, dest-in}
 use Rattle.course.proofs.ColumnLaws.{Grown, grown-none, grown-more}
 use Rattle.course.proofs.Turns.{suc-pred}

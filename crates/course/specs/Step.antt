@@ -6,9 +6,8 @@ use lib.Ieee.{Float, lt, neg}
 use Rattle.course.specs.Arithmetic.{_⊕_, _⊖_, _⊗_, natural, decimal, nought}
 use Rattle.course.specs.Constants.{scale, pi, tau, trackDetailStep, trackTurnRate}
 use Rattle.course.specs.Numeric.{absOf, minOf, within}
-use Rattle.course.specs.Trig.{sinCosOf, atan2Of}
+use Rattle.course.specs.Trig.{SinCos, sinCosOf, atan2Of}
 use Rattle.course.specs.Finder.{Destination, Going, NotFound, destOf}
-use Rattle.course.specs.declared.trig.SinCos.{SinCos}
 use Rattle.course.specs.declared.checkpoints.Checkpoint.{Checkpoint}
 
 -- where the walk stands: its place and heading, the checkpoint it makes for, the laps done, and whether it has been on the other side,

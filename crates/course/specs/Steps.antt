@@ -3,7 +3,8 @@ use Prim.Native.Nat.{ℕ, _*_, _≤_}
 use mathlib.Core.Path.{_≡_}
 use lib.IntN.{ℤ, pos}
 use lib.Ieee.{Float, nan, inf, fin, up, down, binary64, ofInt}
-use Rattle.course.specs.Trig.{quarterOf, turnsOf}
+use Rattle.course.specs.Trig.{SinCos, quarterOf, turnsOf}
+use Rattle.course.specs.declared.trig.SinCos.{SinCos as CodeSinCos}
 use Rattle.course.specs.declared.trig.Turns.{Turns}
 use Rattle.course.specs.declared.trig.Whole.{Whole}
 
@@ -25,3 +26,7 @@ turnsAt k = record { k = ofInt binary64 k; quarter = quarterOf k }
 pub record OfAngle (t : Turns) : Type 0 where
   pub angle : Float
   pub is : t ≡ turnsAt (turnsOf angle)
+
+-- the code's cosine and sine as the definitions' own
+abbrev pub sinCosAs : CodeSinCos → SinCos
+sinCosAs t = record { cos = t .cos; sin = t .sin }

@@ -7,7 +7,6 @@ use lib.Ieee.{Float, nan, inf, fin, up, down, binary64, neg, lt, eq, ofInt}
 use Rattle.course.specs.Arithmetic.{_⊕_, _⊖_, _⊗_, _⊘_, natural, decimal}
 use Rattle.course.specs.Constants.{halfPi}
 use Rattle.course.specs.Numeric.{absOf, within}
-use Rattle.course.specs.declared.trig.SinCos.{SinCos}
 
 -- 1 * 2 * .. * n
 unfoldable pub factorial : ℕ → ℕ
@@ -81,6 +80,11 @@ cosineOf a = pick (quarterOf (turnsOf a)) (cosinePoly (restOf a)) (neg (sinePoly
 
 unfoldable pub sineOf : Float → Float
 sineOf a = pick (quarterOf (turnsOf a)) (sinePoly (restOf a)) (cosinePoly (restOf a)) (neg (sinePoly (restOf a))) (neg (cosinePoly (restOf a)))
+
+-- the two together
+pub record SinCos : Type 0 where
+  pub cos : Float
+  pub sin : Float
 
 unfoldable pub sinCosOf : Float → SinCos
 sinCosOf a = record { cos = cosineOf a; sin = sineOf a }

@@ -8,6 +8,7 @@ ghost use lib.ListN.{length, take, drop, set};
 ghost use Rattle.course.specs.Lengths.{mostPoints, mostNumbers};
 ghost use Rattle.course.specs.Tiles.{pointAt, beforeOf};
 ghost use Rattle.course.specs.Trig.{sinCosOf};
+ghost use Rattle.course.specs.Steps.{sinCosAs};
 ghost use Rattle.course.specs.Curbs.{turnAt, steepTurn, oneWay, markAt, afterOf, bordered, sideOf, edgeOf, curbQuad, whiteOf, edged, curbRoom, curbsCall};
 ghost use Rattle.course.specs.CourseSteps.{Curbed, CurbsTo};
 use crate::columns;
@@ -113,7 +114,7 @@ fn side_of(p: TrackPoint, q: TrackPoint) -> f64
 
 // The corner at distance w from p, on side s; t is the cosine and sine at p.
 fn edge_of(p: TrackPoint, t: SinCos, s: f64, w: f64) -> [f64; 2]
-    requires { ⌜ t ≡ sinCosOf (p .beta) ⌝ }
+    requires { ⌜ sinCosAs t ≡ sinCosOf (p .beta) ⌝ }
     ensures { λ r. ⌜ r ≡ edgeOf p s w ⌝ }
 {
     [p.x + s * w * t.cos, p.y + s * w * t.sin]

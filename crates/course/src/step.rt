@@ -3,7 +3,7 @@ ghost use mathlib.Core.Path.{_≡_};
 ghost use Prim.Native.Nat.{_≤_, _<_};
 ghost use lib.ListN.{getD};
 ghost use Rattle.course.specs.Trig.{turnsOf, sinCosOf};
-ghost use Rattle.course.specs.Steps.{turnsAt};
+ghost use Rattle.course.specs.Steps.{turnsAt, sinCosAs};
 ghost use Rattle.course.specs.Step.{walkLap, lapsOf, sightOf, turnDown, turnUp, turnOf, steered, projOf, landedOf, movedOf, stepOf};
 ghost use Rattle.course.specs.LaySteps.{noCheckpoint, walkAs, steppedAs, sightAs, turnedAs};
 use crate::checkpoints::Checkpoint;
@@ -156,7 +156,7 @@ fn turn(beta: f64, alpha: f64) -> Turned
 
 // The way to the checkpoint at (tx, ty) along the side of the heading h, times SCALE.
 fn proj(w: Walk, h: SinCos, tx: f64, ty: f64) -> f64
-    ensures { λ r. ⌜ r ≡ projOf (walkAs w) h tx ty ⌝ }
+    ensures { λ r. ⌜ r ≡ projOf (walkAs w) (sinCosAs h) tx ty ⌝ }
 {
     (h.cos * (tx - w.x) + h.sin * (ty - w.y)) * SCALE
 }
@@ -178,7 +178,7 @@ fn steer(beta: f64, proj: f64) -> f64
 
 // The record to store and the walk after the step, or beta has left its bounds; `prev` is beta before it was steered.
 fn landed(w: Walk, s: Sight, h: SinCos, alpha: f64, dest: usize, prev: f64, beta: f64) -> Stepped
-    ensures { λ r. ⌜ steppedAs r ≡ landedOf (walkAs w) (sightAs s) h alpha dest prev beta ⌝ }
+    ensures { λ r. ⌜ steppedAs r ≡ landedOf (walkAs w) (sightAs s) (sinCosAs h) alpha dest prev beta ⌝ }
 {
     let x = w.x + -h.sin * TRACK_DETAIL_STEP;
     let y = w.y + h.cos * TRACK_DETAIL_STEP;
@@ -204,7 +204,7 @@ fn landed(w: Walk, s: Sight, h: SinCos, alpha: f64, dest: usize, prev: f64, beta
 
 // The step once its checkpoint c is found; h is the heading.
 fn moved(w: Walk, h: SinCos, s: Sight, alpha: f64, dest: usize, c: Checkpoint) -> Stepped
-    requires { ⌜ h ≡ sinCosOf (w .beta) ⌝ }
+    requires { ⌜ sinCosAs h ≡ sinCosOf (w .beta) ⌝ }
     ensures { λ r. ⌜ steppedAs r ≡ movedOf (walkAs w) (sightAs s) alpha dest c ⌝ }
 {
     let t = turn(w.beta, alpha);

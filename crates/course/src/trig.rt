@@ -8,7 +8,7 @@ ghost use lib.IntN.{pos};
 ghost use lib.Ieee.{fin, lt, toUnsigned};
 ghost use Rattle.course.specs.Trig.{sinePoly, cosinePoly, atanPoly, floor, wholeBelow, turnsOf, sinCosOf, arc, arcOf, ratioOf, steepOf, leftward, downward, directionOf, atan2Of};
 ghost use Rattle.course.specs.Angle.{sineCall, cosineCall, atan2Call};
-ghost use Rattle.course.specs.Steps.{Bounded, wholeAt, turnsAt, OfAngle};
+ghost use Rattle.course.specs.Steps.{Bounded, wholeAt, turnsAt, OfAngle, sinCosAs};
 use crate::constants::HALF_PI;
 use crate::numeric;
 
@@ -188,7 +188,7 @@ pub(crate) fn quarter_turns_from(a: f64, t: Turns) -> Turns
 // registers.
 pub(crate) fn turned(a: f64, t: Turns) -> SinCos
     requires { ⌜ t ≡ turnsAt (turnsOf a) ⌝ }
-    ensures { λ r. ⌜ r ≡ sinCosOf a ⌝ }
+    ensures { λ r. ⌜ sinCosAs r ≡ sinCosOf a ⌝ }
 {
     let r = a - t.k * HALF_PI;
     let s = sine_poly(r);
@@ -208,7 +208,7 @@ pub(crate) fn turned(a: f64, t: Turns) -> SinCos
 
 // Cosine and sine of a.
 pub(crate) fn sin_cos(a: f64) -> SinCos
-    ensures { λ r. ⌜ r ≡ sinCosOf a ⌝ }
+    ensures { λ r. ⌜ sinCosAs r ≡ sinCosOf a ⌝ }
 {
     turned(a, quarter_turns(a))
 }

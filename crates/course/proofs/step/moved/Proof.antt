@@ -1,5 +1,6 @@
 -- `course::step::moved` meets its contract. Assumes nothing.
-use Rattle.course.specs.declared.trig.SinCos.{SinCos}
+use Rattle.course.specs.Trig.{SinCos}
+use Rattle.course.specs.Steps.{sinCosAs}
 use Rattle.course.specs.Step.{thenLanded, movedOf, projOf, landedOf, steered}
 use Rattle.course.specs.LaySteps.{walkAs, sightAs, turnedAs}
 use mathlib.Core.Path.{sym, ap, _∙_}
@@ -45,7 +46,7 @@ returns-2 c =
     let a = k .before .before .before .args in
     let b : Float = k .t .given .0 .0 in
     c .landed .ensures
-    ∙ ap (λ (z : Float). landedOf (walkAs (a .w)) (sightAs (a .s)) (a .h) (a .alpha) (a .dest) b z) (c .before .steer .ensures ∙ ap (λ (z : Float). steered b z) (c .before .before .proj .ensures))
+    ∙ ap (λ (z : Float). landedOf (walkAs (a .w)) (sightAs (a .s)) (sinCosAs (a .h)) (a .alpha) (a .dest) b z) (c .before .steer .ensures ∙ ap (λ (z : Float). steered b z) (c .before .before .proj .ensures))
     ∙ ap (λ (z : SinCos). landedOf (walkAs (a .w)) (sightAs (a .s)) z (a .alpha) (a .dest) b (steered b (projOf (walkAs (a .w)) z (a .c .x) (a .c .y)))) (k .before .before .before .pre)
     ∙ ap (thenLanded (walkAs (a .w)) (sightAs (a .s)) (a .alpha) (a .dest) (a .c)) (ap turnedAs (sym (k .t .given .1)) ∙ k .before .before .turn .ensures)
 

@@ -3,8 +3,8 @@ use borrow.Author.Needs.{needs}
 use mathlib.Core.Path.{_≡_, sym, ap, _∙_}
 use lib.Ieee.{ofBits, ofInt}
 use Rattle.course.specs.Arithmetic.{natural}
-use Rattle.course.specs.Trig.{sinCosOf}
 use Rattle.course.specs.Angle.{answer, angleCause, sineCall}
+use Rattle.course.proofs.Turned.{sin-is}
 use Rattle.course.proofs.trig.sine.Statement.{statement}
 use Rattle.course.proofs.trig.sine.Tie as tie
 
@@ -15,8 +15,8 @@ sin-cos-requires : tie.Need-sin-cos-requires
 sin-cos-requires c κs = search needs
 
 returns : tie.Need-returns
-unfolding ofBits ofInt natural answer angleCause sineCall sinCosOf
-returns c = rw (sym (c .before .before .inside .ensures) ∙ c .before .if1 .taken, c .sin-cos .ensures)
+unfolding ofBits ofInt natural answer angleCause sineCall
+returns c = rw (sym (c .before .before .inside .ensures) ∙ c .before .if1 .taken, sin-is _ _ (c .sin-cos .ensures))
 
 returns-2 : tie.Need-returns-2
 unfolding ofBits ofInt natural answer angleCause sineCall
