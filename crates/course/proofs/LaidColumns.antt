@@ -16,6 +16,7 @@ use Rattle.course.specs.IndexSteps.{Built, pickList}
 use Rattle.course.specs.Index.{offsetsOf, indexOf}
 use Rattle.course.proofs.IndexLaws.{index-length}
 use Rattle.course.proofs.CourseRects.{needed-start, needed-small}
+use Rattle.course.proofs.PackedRects.{scratch-cleared}
 use Rattle.course.specs.Arithmetic.{nought}
 use Rattle.course.specs.Course.{fromPoints, cellsOf}
 use Rattle.course.specs.Tiles.{betas, xs, ys, pointAt, pointsOf, tilesTo, tilesOf}
@@ -55,90 +56,110 @@ front-tiles : (own t t1 t2 : List Float) (k m : ℕ) → length own ≡ k → k 
 unfolding filled
 front-tiles own t t1 t2 k m e h p q = ap (take k) (fill-tiles own t t1 t2 k m e h p q) ∙ take-at own _ k e
 
--- after the code: the columns that `finish` was lent, and what it made of them
-pub record Done (a b e n t : List Float) (o l : List ℕ) (k : ℕ) (a′ b′ e′ n′ t1 t2 : List Float) (o′ l′ : List ℕ) (short : Bool) (need : ℕ) : Type 0 where
-  pub few : k ≤ mostPoints
-  pub room-b : mostPoints ≤ length b
-  pub room-e : mostPoints ≤ length e
-  pub room-n : mostPoints ≤ length n
-  pub alpha : a′ ≡ take 0 a ++ (replicate (mostPoints - 0) nought ++ drop mostPoints a)
-  pub beta : b′ ≡ take k b ++ (replicate (mostPoints - k) nought ++ drop mostPoints b)
-  pub x : e′ ≡ take k e ++ (replicate (mostPoints - k) nought ++ drop mostPoints e)
-  pub y : n′ ≡ take k n ++ (replicate (mostPoints - k) nought ++ drop mostPoints n)
-  pub made : t1 ≡ tilesTo (pointsOf b e n k) k ++ drop (k * 8) t
-  pub tiles : t2 ≡ take (k * 8) t1 ++ (replicate (mostNumbers - k * 8) nought ++ drop mostNumbers t1)
-  pub index : Built (take (k * 8) t2) k o l o′ l′ short need
+-- the points that stand in front of lent columns
+abbrev points-in : Lent → ℕ → List TrackPoint
+points-in l k = pointsOf (l .beta) (l .x) (l .y) k
 
-module _ (a b e n t : List Float) (o l : List ℕ) (k : ℕ) (a′ b′ e′ n′ t1 t2 : List Float) (o′ l′ : List ℕ) (short : Bool) (need : ℕ) (d : Done a b e n t o l k a′ b′ e′ n′ t1 t2 o′ l′ short need) where
-  own-tiles : take (k * 8) t2 ≡ tilesOf (pointsOf b e n k)
+-- after the code: the columns that `finish` was lent, and what its calls made of them; the index is built with `alpha` for scratch,
+-- and the tiles stand in their column before its rest is cleared
+pub record Done (l : Lent) (k : ℕ) (l′ : Lent) (scratch written-tiles : List Float) (short : Bool) (need : ℕ) : Type 0 where
+  pub size : (0 < k) × (k ≤ mostPoints)
+  pub room : Roomy (l .alpha) (l .beta) (l .x) (l .y) (l .tiles) (l .offsets)
+  pub kept : drop k scratch ≡ drop k (l .alpha)
+  pub alpha : l′ .alpha ≡ take 0 scratch ++ (replicate (mostPoints - 0) nought ++ drop mostPoints scratch)
+  pub beta : l′ .beta ≡ take k (l .beta) ++ (replicate (mostPoints - k) nought ++ drop mostPoints (l .beta))
+  pub x : l′ .x ≡ take k (l .x) ++ (replicate (mostPoints - k) nought ++ drop mostPoints (l .x))
+  pub y : l′ .y ≡ take k (l .y) ++ (replicate (mostPoints - k) nought ++ drop mostPoints (l .y))
+  pub made : written-tiles ≡ tilesTo (points-in l k) k ++ drop (k * 8) (l .tiles)
+  pub tiles : l′ .tiles ≡ take (k * 8) written-tiles ++ (replicate (mostNumbers - k * 8) nought ++ drop mostNumbers written-tiles)
+  pub index : Built (take (k * 8) (l′ .tiles)) k (l .offsets) (l .list) (l′ .offsets) (l′ .list) short need
+
+module _ {l : Lent} {k : ℕ} {l′ : Lent} {scratch written-tiles : List Float} {short : Bool} {need : ℕ} (d : Done l k l′ scratch written-tiles short need) where
+  few : k ≤ mostPoints
+  few = d .size .1
+
+  tile-numbers : k * 8 ≤ mostNumbers
+  tile-numbers = omega (arith, few)
+
+  own-tiles : take (k * 8) (l′ .tiles) ≡ tilesOf (points-in l k)
   own-tiles =
-      front-tiles _ t t1 t2 (k * 8) mostNumbers (tiles-long (pointsOf b e n k) k) (omega (arith, d .few)) (d .made) (d .tiles)
-      ∙ ap (tilesTo (pointsOf b e n k)) (sym (points-long b e n k))
+      front-tiles _ (l .tiles) written-tiles (l′ .tiles) (k * 8) mostNumbers (tiles-long (points-in l k) k) tile-numbers (d .made) (d .tiles)
+      ∙ ap (tilesTo (points-in l k)) (sym (points-long (l .beta) (l .x) (l .y) k))
 
-  built : Built (tilesOf (pointsOf b e n k)) (length (pointsOf b e n k)) o l o′ l′ short need
-  built = subst (λ (z : List Float). Built z (length (pointsOf b e n k)) o l o′ l′ short need) own-tiles (subst (λ (j : ℕ). Built (take (k * 8) t2) j o l o′ l′ short need) (sym (points-long b e n k)) (d .index))
+  built : Built (tilesOf (points-in l k)) (length (points-in l k)) (l .offsets) (l .list) (l′ .offsets) (l′ .list) short need
+  built =
+      subst (λ (z : List Float). Built z (length (points-in l k)) (l .offsets) (l .list) (l′ .offsets) (l′ .list) short need) own-tiles
+      (subst (λ (j : ℕ). Built (take (k * 8) (l′ .tiles)) j (l .offsets) (l .list) (l′ .offsets) (l′ .list) short need) (sym (points-long (l .beta) (l .x) (l .y) k)) (d .index))
 
-  pub need-is : need ≡ cellsOf (pointsOf b e n k)
+  need-is : need ≡ cellsOf (points-in l k)
   unfolding cellsOf
   need-is = built .length-needed
 
-  short-is : short ≡ ltb (length l) (cellsOf (pointsOf b e n k))
+  short-is : short ≡ ltb (length (l .list)) (cellsOf (points-in l k))
   unfolding cellsOf
   short-is = built .too-short
 
-  list-long : length (indexOf (holdsOf (tilesOf (pointsOf b e n k))) (length (pointsOf b e n k)) cellCount) ≡ needed (tilesOf (pointsOf b e n k)) (length (pointsOf b e n k))
-  list-long = index-length _ _ cellCount ∙ sym (needed-start _ (length (pointsOf b e n k)))
-
-  t2-is : t2 ≡ filled mostNumbers (tilesOf (pointsOf b e n k)) t
-  t2-is =
-      fill-tiles _ t t1 t2 (k * 8) mostNumbers (tiles-long (pointsOf b e n k) k) (omega (arith, d .few)) (d .made) (d .tiles)
-      ∙ ap (λ (j : ℕ). filled mostNumbers (tilesTo (pointsOf b e n k) j) t) (sym (points-long b e n k))
+  list-long : length (indexOf (holdsOf (tilesOf (points-in l k))) (length (points-in l k)) cellCount) ≡ needed (tilesOf (points-in l k)) (length (points-in l k))
+  list-long = index-length _ _ cellCount ∙ sym (needed-start _ (length (points-in l k)))
 
   -- the columns without the index
-  b-is : b′ ≡ filled mostPoints (betas (pointsOf b e n k)) b
-  b-is = fill-column _ b b′ k mostPoints (betas-taken b e n k (omega (arith, d .few, d .room-b))) (omega (arith, d .few, d .room-b)) (d .beta)
-
-  e-is : e′ ≡ filled mostPoints (xs (pointsOf b e n k)) e
-  e-is = fill-column _ e e′ k mostPoints (xs-taken b e n k (omega (arith, d .few, d .room-e))) (omega (arith, d .few, d .room-e)) (d .x)
-
-  n-is : n′ ≡ filled mostPoints (ys (pointsOf b e n k)) n
-  n-is = fill-column _ n n′ k mostPoints (ys-taken b e n k (omega (arith, d .few, d .room-n))) (omega (arith, d .few, d .room-n)) (d .y)
-
-  a-is : a′ ≡ filled mostPoints [] a
+  alpha-is : l′ .alpha ≡ filled mostPoints [] (l .alpha)
   unfolding filled
-  a-is = d .alpha
+  alpha-is = scratch-cleared (l .alpha) scratch (l′ .alpha) k mostPoints few (d .kept) (d .alpha)
 
-  o-is : (s : Bool) → short ≡ s → o′ ≡ cond s o (fromPoints (pointsOf b e n k) .offsets ++ drop offsetCount o)
+  beta-is : l′ .beta ≡ filled mostPoints (betas (points-in l k)) (l .beta)
+  beta-is =
+      let h : k ≤ length (l .beta) = omega (arith, few, d .room .beta) in
+      fill-column _ (l .beta) (l′ .beta) k mostPoints (betas-taken (l .beta) (l .x) (l .y) k h) h (d .beta)
+
+  x-is : l′ .x ≡ filled mostPoints (xs (points-in l k)) (l .x)
+  x-is =
+      let h : k ≤ length (l .x) = omega (arith, few, d .room .x) in
+      fill-column _ (l .x) (l′ .x) k mostPoints (xs-taken (l .beta) (l .x) (l .y) k h) h (d .x)
+
+  y-is : l′ .y ≡ filled mostPoints (ys (points-in l k)) (l .y)
+  y-is =
+      let h : k ≤ length (l .y) = omega (arith, few, d .room .y) in
+      fill-column _ (l .y) (l′ .y) k mostPoints (ys-taken (l .beta) (l .x) (l .y) k h) h (d .y)
+
+  tiles-is : l′ .tiles ≡ filled mostNumbers (tilesOf (points-in l k)) (l .tiles)
+  tiles-is =
+      fill-tiles _ (l .tiles) written-tiles (l′ .tiles) (k * 8) mostNumbers (tiles-long (points-in l k) k) tile-numbers (d .made) (d .tiles)
+      ∙ ap (λ (j : ℕ). filled mostNumbers (tilesTo (points-in l k) j) (l .tiles)) (sym (points-long (l .beta) (l .x) (l .y) k))
+
+  offsets-is : (s : Bool) → short ≡ s → l′ .offsets ≡ cond s (l .offsets) (fromPoints (points-in l k) .offsets ++ drop offsetCount (l .offsets))
   unfolding fromPoints
-  o-is true h = built .offsets ∙ ap (λ (z : Bool). pickList z o (offsetsOf (holdsOf (tilesOf (pointsOf b e n k))) (length (pointsOf b e n k)) cellCount ++ drop offsetCount o)) (sym (built .too-short) ∙ h)
-  o-is false h = built .offsets ∙ ap (λ (z : Bool). pickList z o (offsetsOf (holdsOf (tilesOf (pointsOf b e n k))) (length (pointsOf b e n k)) cellCount ++ drop offsetCount o)) (sym (built .too-short) ∙ h)
+  offsets-is true h = built .offsets ∙ ap (λ (z : Bool). pickList z (l .offsets) (offsetsOf (holdsOf (tilesOf (points-in l k))) (length (points-in l k)) cellCount ++ drop offsetCount (l .offsets))) (sym (built .too-short) ∙ h)
+  offsets-is false h = built .offsets ∙ ap (λ (z : Bool). pickList z (l .offsets) (offsetsOf (holdsOf (tilesOf (points-in l k))) (length (points-in l k)) cellCount ++ drop offsetCount (l .offsets))) (sym (built .too-short) ∙ h)
 
-  l-is : (s : Bool) → short ≡ s → l′ ≡ cond s l (fromPoints (pointsOf b e n k) .list ++ drop (length (fromPoints (pointsOf b e n k) .list)) l)
+  list-is : (s : Bool) → short ≡ s → l′ .list ≡ cond s (l .list) (fromPoints (points-in l k) .list ++ drop (length (fromPoints (points-in l k) .list)) (l .list))
   unfolding fromPoints
-  l-is true h = built .entries ∙ ap (λ (z : Bool). pickList z l (indexOf (holdsOf (tilesOf (pointsOf b e n k))) (length (pointsOf b e n k)) cellCount ++ drop (needed (tilesOf (pointsOf b e n k)) (length (pointsOf b e n k))) l)) (sym (built .too-short) ∙ h)
-  l-is false h =
-      built .entries ∙ ap (λ (z : Bool). pickList z l (indexOf (holdsOf (tilesOf (pointsOf b e n k))) (length (pointsOf b e n k)) cellCount ++ drop (needed (tilesOf (pointsOf b e n k)) (length (pointsOf b e n k))) l)) (sym (built .too-short) ∙ h)
-      ∙ ap (λ (j : ℕ). indexOf (holdsOf (tilesOf (pointsOf b e n k))) (length (pointsOf b e n k)) cellCount ++ drop j l) (sym list-long)
+  list-is true h = built .entries ∙ ap (λ (z : Bool). pickList z (l .list) (indexOf (holdsOf (tilesOf (points-in l k))) (length (points-in l k)) cellCount ++ drop (needed (tilesOf (points-in l k)) (length (points-in l k))) (l .list))) (sym (built .too-short) ∙ h)
+  list-is false h =
+      built .entries ∙ ap (λ (z : Bool). pickList z (l .list) (indexOf (holdsOf (tilesOf (points-in l k))) (length (points-in l k)) cellCount ++ drop (needed (tilesOf (points-in l k)) (length (points-in l k))) (l .list))) (sym (built .too-short) ∙ h)
+      ∙ ap (λ (j : ℕ). indexOf (holdsOf (tilesOf (points-in l k))) (length (points-in l k)) cellCount ++ drop j (l .list)) (sym list-long)
 
-  pub done : (fallback : Bool) (r : Laid) → r ≡ answered short fallback (pointsOf b e n k) → outcome r (lent a′ b′ e′ n′ t2 o′ l′) ≡ layInto fallback (pointsOf b e n k) (lent a b e n t o l)
+  done : (fallback : Bool) (r : Laid) → r ≡ answered short fallback (points-in l k) → outcome r l′ ≡ layInto fallback (points-in l k) l
   unfolding layInto written fromPoints
   done fallback r is =
-      same-outcome (is ∙ ap (λ (s : Bool). answered s fallback (pointsOf b e n k)) short-is) a-is b-is e-is n-is t2-is (o-is _ short-is) (l-is _ short-is)
+      same-outcome (is ∙ ap (λ (s : Bool). answered s fallback (points-in l k)) short-is) alpha-is beta-is x-is y-is tiles-is (offsets-is _ short-is) (list-is _ short-is)
 
-  pub done-short : (fallback : Bool) → short ≡ true → Short need ≡ answered short fallback (pointsOf b e n k)
+  -- what `finish` ends with: cause 3 where the list is too short, else the course
+  pub done-short : (fallback : Bool) → short ≡ true → outcome (Short need) l′ ≡ layInto fallback (points-in l k) l
   unfolding answered laidAnswer laidFigures
-  done-short fallback h = ap Short need-is ∙ sym (ap (λ (s : Bool). answered s fallback (pointsOf b e n k)) h)
+  done-short fallback h = done fallback (Short need) (ap Short need-is ∙ sym (ap (λ (s : Bool). answered s fallback (points-in l k)) h))
 
-  pub done-laid : (fallback : Bool) (first : TrackPoint) → 0 < k → first ≡ pointAt b e n 0 → short ≡ false → Made (figures k fallback need first) ≡ answered short fallback (pointsOf b e n k)
+  pub done-laid : (fallback : Bool) {first : TrackPoint} → first ≡ pointAt (l .beta) (l .x) (l .y) 0 → short ≡ false → outcome (Made (figures k fallback need first)) l′ ≡ layInto fallback (points-in l k) l
   unfolding answered laidAnswer laidFigures
-  done-laid fallback first z f h =
-      same-made (sym (points-long b e n k)) need-is (f ∙ sym (point-read b e n k 0 z))
-      ∙ sym (ap (λ (s : Bool). answered s fallback (pointsOf b e n k)) h)
+  done-laid fallback {first} f h =
+      done fallback (Made (figures k fallback need first))
+      (same-made (sym (points-long (l .beta) (l .x) (l .y) k)) need-is (f ∙ sym (point-read (l .beta) (l .x) (l .y) k 0 (d .size .0)))
+      ∙ sym (ap (λ (s : Bool). answered s fallback (points-in l k)) h))
 
   pub need-small : need ≤ cellCount * mostPoints
-  need-small = omega (arith, need-is-needed, needed-small (tilesOf (pointsOf b e n k)) (length (pointsOf b e n k)), points-long b e n k, d .few)
+  need-small = omega (arith, need-is-needed, needed-small (tilesOf (points-in l k)) (length (points-in l k)), points-long (l .beta) (l .x) (l .y) k, few)
     where
-      need-is-needed : need ≡ needed (tilesOf (pointsOf b e n k)) (length (pointsOf b e n k))
+      need-is-needed : need ≡ needed (tilesOf (points-in l k)) (length (points-in l k))
       need-is-needed = built .length-needed
 
 -- ---- what stood in the first mostPoints entries does not matter
