@@ -97,7 +97,8 @@ clear-from-requires-4 c κs =
 tiles-fit : (c : tie.After-clear-from4) → entry-before (c .before) .args .n * 8 ≤ length (c .clear-from4 .last .0)
 tiles-fit c =
     let s = entry-before (c .before) .pre in
-    omega (arith, c .clear-from4 .kept .0, written-before (c .before) .write-tiles .kept .1 .1 .1 .1 .0, s .1 .tiles, s .0 .1)
+    let w = written-before (c .before) .write-tiles in
+    omega (arith, c .clear-from4 .kept .0, w .kept .1 .1 .1 .1 .0, s .1 .tiles, s .0 .1)
 
 slice-reshare-prefix-build-index : tie.Need-slice-reshare-prefix-build-index
 slice-reshare-prefix-build-index c = tiles-fit (c .before .before)
@@ -125,13 +126,15 @@ columns-lent c =
 
 abbrev columns-left : tie.After-struct-known → Lent
 columns-left c =
-    lent (alpha-cleared c .clear-from5 .last .0) (beta-at c .clear-from .last .0) (x-at c .clear-from2 .last .0) (y-at c .clear-from3 .last .0)
-    (tiles-at c .clear-from4 .last .0) (index-at c .build-index .last .1 .1 .1 .0) (index-at c .build-index .last .1 .1 .1 .1 .0)
+    let i = index-at c .build-index .last in
+    lent (alpha-cleared c .clear-from5 .last .0) (beta-at c .clear-from .last .0) (x-at c .clear-from2 .last .0)
+    (y-at c .clear-from3 .last .0) (tiles-at c .clear-from4 .last .0) (i .1 .1 .1 .0) (i .1 .1 .1 .1 .0)
 
 -- what the code did
 finished : (c : tie.After-struct-known) →
-    Done (columns-lent c) (entry-at c .args .n) (columns-left c) (index-at c .build-index .last .1 .1 .0) (written-at c .write-tiles .last .1 .1 .1 .1 .0)
-    (index-at c .build-index .result .short) (index-at c .build-index .result .need)
+    let i = index-at c .build-index in
+    Done (columns-lent c) (entry-at c .args .n) (columns-left c)
+    (i .last .1 .1 .0) (written-at c .write-tiles .last .1 .1 .1 .1 .0) (i .result .short) (i .result .need)
 finished c =
     record {
       size = entry-at c .pre .0;
@@ -198,7 +201,9 @@ same-length-14 : tie.Need-same-length-14
 same-length-14 c = index-at (c .before) .build-index .kept .1 .1 .1 .1 .0
 
 returns-2 : tie.Need-returns-2
-returns-2 c = done-laid (finished (c .before)) (entry-at (c .before) .args .fallback) (first-at (c .before) .point-at .ensures) (c .if1 .left)
+returns-2 c =
+    let f = first-at (c .before) .point-at in
+    done-laid (finished (c .before)) (entry-at (c .before) .args .fallback) (f .ensures) (c .if1 .left)
 
 pub finish-spec : {M : Type 1} → statement M
 finish-spec =
