@@ -180,9 +180,9 @@ pub right : (p q : Bool) → p && q ≡ true → q ≡ true
 right true q h = h
 right false q h = absurd (off-on h)
 
-pub room : (a b e n t : List Float) (o : List ℕ) → roomyOf a b e n t o ≡ true → Roomy a b e n t o
+pub room : {a b e n t : List Float} {o : List ℕ} → roomyOf a b e n t o ≡ true → Roomy a b e n t o
 unfolding roomyOf
-room a b e n t o h =
+room {a} {b} {e} {n} {t} {o} h =
     let h1 = right (leb mostPoints (length a)) _ h in
     let h2 = right (leb mostPoints (length b)) _ h1 in
     let h3 = right (leb mostPoints (length e)) _ h2 in
@@ -248,7 +248,7 @@ pub fit : (b e n : List Float) (k : ℕ) (a′ b′ e′ n′ t′ : List Float)
 unfolding givenCause
 fit b e n k a′ b′ e′ n′ t′ o′ h =
     let p = passed (eqb k 0) (ltb mostPoints k) (roomyOf a′ b′ e′ n′ t′ o′) (givenOf b e n k) (allGood (pointsOf b e n k)) h in
-    record { some = positive k (p .some); few = at-most mostPoints k (p .few); room = room a′ b′ e′ n′ t′ o′ (p .room); given = given-long b e n k (p .given) }
+    record { some = positive k (p .some); few = at-most mostPoints k (p .few); room = room (p .room); given = given-long b e n k (p .given) }
 
 -- no cause of given points is 3, the one that has a value
 none-needs : (p q r s t : Bool) → 0 < first-cause p q r s t → Refused (first-cause p q r s t) ≡ laidAnswer (first-cause p q r s t) noValues

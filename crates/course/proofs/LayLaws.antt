@@ -41,27 +41,38 @@ laid-roomy c l h = rw h
 in-front : (own c : List Float) (n : ℕ) → take n c ≡ own → c ≡ own ++ drop n c
 in-front own c n e = sym (take-append-drop n c) ∙ ap (λ (z : List Float). z ++ drop n c) e
 
-module _ (c : CoursePoints) (a b x y t : List Float) (o l : List ℕ) (a′ b′ x′ y′ : List Float) (n : ℕ) (d : InFront (c .points) a b x y a′ b′ x′ y′ n) where
+-- when `finish` is called: the columns that lay was lent have their lengths, and the course's points stand in front
+pub record Ready (c : CoursePoints) (l : Lent) (a′ b′ x′ y′ : List Float) (n : ℕ) (fallback : Bool) : Type 0 where
+  pub room : roomy l ≡ true
+  pub front : InFront (c .points) (l .alpha) (l .beta) (l .x) (l .y) a′ b′ x′ y′ n
+  pub ring : fallback ≡ c .fallback
+  pub alpha : length a′ ≡ length (l .alpha)
+  pub beta : length b′ ≡ length (l .beta)
+  pub x : length x′ ≡ length (l .x)
+  pub y : length y′ ≡ length (l .y)
+
+module _ {c : CoursePoints} {l : Lent} {a′ b′ x′ y′ : List Float} {n : ℕ} {fallback : Bool} (r : Ready c l a′ b′ x′ y′ n fallback) where
   points-there : pointsOf b′ x′ y′ n ≡ c .points
   points-there =
+      let d = r .front in
       (λ i. pointsOf (in-front _ b′ n (d .beta) i) (in-front _ x′ n (d .x) i) (in-front _ y′ n (d .y) i) (d .count i))
       ∙ points-are (c .points) (drop n b′) (drop n x′) (drop n y′)
 
-  pub finished : (fallback : Bool) (w : Outcome) → fallback ≡ c .fallback → roomyOf a b x y t o ≡ true
-      → w ≡ layInto fallback (pointsOf b′ x′ y′ n) (lent a′ b′ x′ y′ t o l) → w ≡ layAt (layCause (lent a b x y t o l)) c (lent a b x y t o l)
-  finished fallback w f h is =
-      is ∙ lay-past fallback (pointsOf b′ x′ y′ n) a b x y a′ b′ x′ y′ t o l (d .kept-a) (d .kept-b) (d .kept-x) (d .kept-y)
-      ∙ ap₂ (λ (f : Bool) (ps : List TrackPoint). layInto f ps (lent a b x y t o l)) f points-there
-      ∙ laid-roomy c (lent a b x y t o l) h
+  -- what `finish` requires
+  pub finish-ready : Sized c → ((0 < n) × (n ≤ mostPoints)) × Roomy a′ b′ x′ y′ (l .tiles) (l .offsets)
+  finish-ready s =
+      let m = room (r .room) in (
+        (rw (r .front .count) (s .some), omega (arith, r .front .count, s .few)),
+        record { alpha = rw (r .alpha) (m .alpha); beta = rw (r .beta) (m .beta); x = rw (r .x) (m .x); y = rw (r .y) (m .y); tiles = m .tiles; offsets = m .offsets },
+      )
 
-pub finish-size : (c : CoursePoints) (a b x y a′ b′ x′ y′ : List Float) (n : ℕ) → InFront (c .points) a b x y a′ b′ x′ y′ n → Sized c → (0 < n) × (n ≤ mostPoints)
-finish-size c a b x y a′ b′ x′ y′ n d s = (rw (d .count) (s .some), omega (arith, d .count, s .few))
-
-pub finish-room : (a b x y t : List Float) (o : List ℕ) (a′ b′ x′ y′ : List Float) → roomyOf a b x y t o ≡ true
-    → length a′ ≡ length a → length b′ ≡ length b → length x′ ≡ length x → length y′ ≡ length y → Roomy a′ b′ x′ y′ t o
-finish-room a b x y t o a′ b′ x′ y′ h ea eb ex ey =
-    let r = room a b x y t o h in
-    record { alpha = rw ea (r .alpha); beta = rw eb (r .beta); x = rw ex (r .x); y = rw ey (r .y); tiles = r .tiles; offsets = r .offsets }
+  -- what it leaves and answers is what lay does
+  pub laid : {w : Outcome} → w ≡ layInto fallback (pointsOf b′ x′ y′ n) (lent a′ b′ x′ y′ (l .tiles) (l .offsets) (l .list)) → w ≡ layAt (layCause l) c l
+  laid is =
+      let d = r .front in
+      is ∙ lay-past fallback (pointsOf b′ x′ y′ n) (l .alpha) (l .beta) (l .x) (l .y) a′ b′ x′ y′ (l .tiles) (l .offsets) (l .list) (d .kept-a) (d .kept-b) (d .kept-x) (d .kept-y)
+      ∙ ap₂ (λ (f : Bool) (ps : List TrackPoint). layInto f ps l) (r .ring) points-there
+      ∙ laid-roomy c l (r .room)
 
 -- ---- an answer gives its number back, a course's answer its values, and cause 3 the length needed
 pub number-back : (k : ℕ) (v : LaidCourse) → laidCauseOf (laidAnswer k v) ≡ k
