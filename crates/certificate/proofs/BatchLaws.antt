@@ -38,9 +38,7 @@ use Rattle.certificate.specs.Replay.{callWords, callNumbers, answerWords
 use Rattle.certificate.specs.ReplaySteps.{lentTo, callFrom, callsTo}
 use Rattle.certificate.specs.Batch.{toldFrom, toldsTo, plainStart, plainAnswers, sheetOn, plainSheet, laidCourse, replayOn, roomFor, replayOf}
 use Rattle.run.specs.declared.start.StartAnswer.{StartAnswer}
-use Rattle.run.specs.declared.start.StartAnswer.the-variants.{Refused as NotStarted}
 use Rattle.run.specs.declared.sheet.SheetAnswer.{SheetAnswer}
-use Rattle.run.specs.declared.sheet.SheetAnswer.the-variants.{Refused as NoSheet}
 use Rattle.run.proofs.CallLaws.{or-no}
 use Rattle.certificate.proofs.LentColumns.{laid-whole, count}
 use Rattle.certificate.proofs.Simulation.{Holds, stateOf, fits-state}
@@ -323,35 +321,38 @@ module _ (seed : ℕ) (l : course.Lent) (b : Opening) (n : ℕ) (calls : List �
       (es ∙ ap (λ (x : ℕ). startOf fullWords mostTiles (columnsOf o) (record { n = x; fallback = laidValuesOf (o .answer) .fallback; share = b .share; limit = b .limit; poses = b .poses }))
       (no-count (o .answer) j (ap (λ (x : Outcome). laidCauseOf (x .answer)) eo ∙ lays seed l ∙ q)))
 
-  -- all that it leaves, where the columns of calls and answers are long enough
-  pub replayed : (words : List ℕ) (numbers : List Float) (o : Outcome) (v : LaidCourse) (sa : StartAnswer) (s last : State) (sheet : SheetAnswer) (words′ : List ℕ) (numbers′ : List Float)
-      → roomFor n (length calls) (length given) (length words) (length numbers) ≡ true → o ≡ layCall maxAttempts seed l → length (o .lent .tiles) ≡ length (l .tiles) → length (o .lent .offsets) ≡ length (l .offsets)
-      → v ≡ laidValuesOf (o .answer)
-      → begun sa s ≡ startOf fullWords mostTiles (columnsOf o) (record { n = v .n; fallback = v .fallback; share = b .share; limit = b .limit; poses = b .poses })
-      → last ≡ stateAfter fullWords mostTiles s (callsTo (columnsOf o) calls given n)
-      → words′ ≡ allWords (repliesOf fullWords mostTiles s (callsTo (columnsOf o) calls given n)) ++ drop (answerWords * n) words
-      → numbers′ ≡ allNumbers (repliesOf fullWords mostTiles s (callsTo (columnsOf o) calls given n)) ++ drop (answerNumbers * n) numbers
-      → sheet ≡ sheetIn last
-      → record { laid = o .answer; start = sa; sheet = sheet; lent = o .lent; words = words′; numbers = numbers′ } ≡ replayOf seed l b n calls given words numbers
-  unfolding replayOf replayOn
-  replayed words numbers o v sa s last sheet words′ numbers′ room eo et ef ev es el ew en eh =
-      let p = replay-plain (layNumber seed l) refl o eo et ef sa s
-      (es ∙ (λ i. startOf fullWords mostTiles (columnsOf o) (record { n = ev i .n; fallback = ev i .fallback; share = b .share; limit = b .limit; poses = b .poses }))) in
-      rw room (λ i.
-      record {
-        laid = eo i .answer;
-        start = p .start i;
-        sheet = (eh ∙ ap sheetIn el ∙ p .sheet) i;
-        lent = eo i .lent;
-        words = (ew ∙ ap (λ (x : List Answer). allWords x ++ drop (answerWords * n) words) (p .answers)) i;
-        numbers = (en ∙ ap (λ (x : List Answer). allNumbers x ++ drop (answerNumbers * n) numbers) (p .answers)) i;
-      })
+-- what each call of a replay leaves, where there is room for the calls told and their answers
+pub record ReplayCalls (seed : ℕ) (l : course.Lent) (b : Opening) (n : ℕ) (calls : List ℕ) (given : List Float) (words : List ℕ) (numbers : List Float)
+    (o : Outcome) (v : LaidCourse) (sa : StartAnswer) (s last : State) (sh : SheetAnswer) (words′ : List ℕ) (numbers′ : List Float) : Type 0 where
+  pub room : roomFor n (length calls) (length given) (length words) (length numbers) ≡ true
+  pub laid : o ≡ layCall maxAttempts seed l
+  pub tiles : length (o .lent .tiles) ≡ length (l .tiles)
+  pub offsets : length (o .lent .offsets) ≡ length (l .offsets)
+  pub values : v ≡ laidValuesOf (o .answer)
+  pub start : begun sa s ≡ startOf fullWords mostTiles (columnsOf o) (record { n = v .n; fallback = v .fallback; share = b .share; limit = b .limit; poses = b .poses })
+  pub state : last ≡ stateAfter fullWords mostTiles s (callsTo (columnsOf o) calls given n)
+  pub answered : words′ ≡ allWords (repliesOf fullWords mostTiles s (callsTo (columnsOf o) calls given n)) ++ drop (answerWords * n) words
+  pub numbered : numbers′ ≡ allNumbers (repliesOf fullWords mostTiles s (callsTo (columnsOf o) calls given n)) ++ drop (answerNumbers * n) numbers
+  pub sheet : sh ≡ sheetIn last
 
-  -- a column of calls or answers is short
-  pub short-replay : (words : List ℕ) (numbers : List Float) → roomFor n (length calls) (length given) (length words) (length numbers) ≡ false
-      → record { laid = NotLaid 2; start = NotStarted 2; sheet = NoSheet 4; lent = l; words = words; numbers = numbers } ≡ replayOf seed l b n calls given words numbers
-  unfolding replayOf laidAnswer startAnswer sheetAnswer
-  short-replay words numbers e = rw e
+-- all that the replay leaves
+pub replayed : {seed : ℕ} {l : course.Lent} {b : Opening} {n : ℕ} {calls : List ℕ} {given : List Float} {words : List ℕ} {numbers : List Float}
+    {o : Outcome} {v : LaidCourse} {sa : StartAnswer} {s last : State} {sh : SheetAnswer} {words′ : List ℕ} {numbers′ : List Float}
+    → ReplayCalls seed l b n calls given words numbers o v sa s last sh words′ numbers′
+    → record { laid = o .answer; start = sa; sheet = sh; lent = o .lent; words = words′; numbers = numbers′ } ≡ replayOf seed l b n calls given words numbers
+unfolding replayOf replayOn
+replayed {seed} {l} {b} {n} {calls} {given} {words} {numbers} {o} {v} {sa} {s} h =
+    let p = replay-plain seed l b n calls given (layNumber seed l) refl o (h .laid) (h .tiles) (h .offsets) sa s
+    (h .start ∙ (λ i. startOf fullWords mostTiles (columnsOf o) (record { n = h .values i .n; fallback = h .values i .fallback; share = b .share; limit = b .limit; poses = b .poses }))) in
+    rw (h .room) (λ i.
+    record {
+      laid = h .laid i .answer;
+      start = p .start i;
+      sheet = (h .sheet ∙ ap sheetIn (h .state) ∙ p .sheet) i;
+      lent = h .laid i .lent;
+      words = (h .answered ∙ ap (λ (x : List Answer). allWords x ++ drop (answerWords * n) words) (p .answers)) i;
+      numbers = (h .numbered ∙ ap (λ (x : List Answer). allNumbers x ++ drop (answerNumbers * n) numbers) (p .answers)) i;
+    })
 
 -- room for n calls, column by column
 pub record Room (n c g w v : ℕ) : Type 0 where
@@ -360,9 +361,9 @@ pub record Room (n c g w v : ℕ) : Type 0 where
   pub words : answerWords * n ≤ w
   pub numbers : answerNumbers * n ≤ v
 
-pub room-each : (n calls given words numbers : ℕ) → roomFor n calls given words numbers ≡ true → Room n calls given words numbers
+pub room-each : {n calls given words numbers : ℕ} → roomFor n calls given words numbers ≡ true → Room n calls given words numbers
 unfolding roomFor
-room-each n calls given words numbers e =
+room-each {n} {calls} {given} {words} {numbers} e =
     let p = and-right (leb (callWords * n) calls) (leb (callNumbers * n) given && (leb (answerWords * n) words && leb (answerNumbers * n) numbers)) e in
     let q = and-right (leb (callNumbers * n) given) (leb (answerWords * n) words && leb (answerNumbers * n) numbers) p in
     record {
