@@ -4,7 +4,7 @@ use mathlib.Core.List.{List, [], _∷_, _++_, append-nil, append-assoc}
 use mathlib.Core.Bool.{Bool, true, false, cond}
 use Prim.Native.Nat.{ℕ, zero, suc, _+_, _-_, _*_, _≤_, _<_, min}
 use native.Mathlib.Omega.{arith}
-use native.Mathlib.Nat.{zero-min, min-zero, suc-min-suc}
+use native.Mathlib.Nat.{zero-min, min-zero, suc-min-suc, le-of-eq}
 use native.Mathlib.Numerals.{add-one}
 use lib.Dec.{eqb}
 use lib.ListN.{length, getD, replicate, take, drop, set, length-append, length-drop, drop-of-length-le}
@@ -16,7 +16,7 @@ use Rattle.run.specs.Drive.{Driven, driven, driveOf}
 use Rattle.run.specs.Settle.{Done, done, settleOf}
 use Rattle.certificate.specs.Calls.{Call, driveSaid, settleSaid, replyOf, repliesOf, stateAfter}
 use Rattle.certificate.specs.Calls.Call.{drive, settle}
-use Rattle.certificate.specs.Replay.{answerNumbers, flag, forceNumbers, motionsFrom, numberAt, posesFrom, wordsOf, numbersOf}
+use Rattle.certificate.specs.Replay.{answerWords, answerNumbers, flag, forceNumbers, motionsFrom, numberAt, posesFrom, wordsOf, numbersOf}
 use Rattle.certificate.specs.Replay.{callWords, callNumbers, partAt, allWords, allNumbers}
 use Rattle.certificate.specs.ReplaySteps.{lentTo, callFrom, callsTo}
 use Rattle.certificate.specs.Answers.{Answer}
@@ -210,7 +210,7 @@ calls-long l ws ns (suc k) =
 size : (a k : ℕ) → a + k - a ≡ k
 size a k = omega arith
 
-pub part-long : {A : Type 0} (a k : ℕ) (l : List A) → a + k ≤ length l → length (take (a + k - a) (drop a l)) ≡ k
+part-long : {A : Type 0} (a k : ℕ) (l : List A) → a + k ≤ length l → length (take (a + k - a) (drop a l)) ≡ k
 part-long a k l h = length-take-le (a + k - a) (drop a l) (omega (arith, length-drop a l)) ∙ size a k
 
 -- a part more behind what is written
@@ -240,11 +240,7 @@ pub record Replying (m most : ℕ) (l : Columns) (calls : List ℕ) (given : Lis
   pub words : W ≡ allWords (answersTo m most s₀ l calls given i) ++ drop (4 * i) W₀
   pub numbers : N ≡ allNumbers (answersTo m most s₀ l calls given i) ++ drop (12 * i) N₀
 
-module _ (m most : ℕ) (l : Columns) (calls : List ℕ) (given : List Float) (s₀ : State) (W₀ : List ℕ) (N₀ : List Float) (many : ℕ) where
-  pub no-reply : Replying m most l calls given s₀ W₀ N₀ many s₀ W₀ N₀ 0
-  unfolding callsTo repliesOf stateAfter allWords allNumbers
-  no-reply = record { upto = omega arith; words-long = refl; numbers-long = refl; state = refl; words = refl; numbers = refl }
-
+module _ (m most : ℕ) (l : Columns) (calls : List ℕ) (given : List Float) (s₀ : State) where
   answers-long : (i : ℕ) → length (answersTo m most s₀ l calls given i) ≡ i
   answers-long i = replies-long m most s₀ (callsTo l calls given i) ∙ calls-long l calls given i
 
@@ -258,13 +254,34 @@ module _ (m most : ℕ) (l : Columns) (calls : List ℕ) (given : List Float) (s
   unfolding callsTo
   calls-more i = ap (callsTo l calls given) (add-one i)
 
-  pub one-reply : (s : State) (W : List ℕ) (N : List Float) (i : ℕ) (after : State) (ws : List ℕ) (ns : List Float)
-      → 4 * many ≤ length W₀ → 12 * many ≤ length N₀ → i < many → Replying m most l calls given s₀ W₀ N₀ many s W N i
+pub no-reply : {m most : ℕ} {l : Columns} {calls : List ℕ} {given : List Float} {s₀ : State} {W₀ : List ℕ} {N₀ : List Float} {many : ℕ} → Replying m most l calls given s₀ W₀ N₀ many s₀ W₀ N₀ 0
+unfolding callsTo repliesOf stateAfter allWords allNumbers
+no-reply = record { upto = omega arith; words-long = refl; numbers-long = refl; state = refl; words = refl; numbers = refl }
+
+-- the columns of calls, of their numbers and of the answers have room for so many
+abbrev pub Roomy : ℕ → List ℕ → List Float → List ℕ → List Float → Type 0
+Roomy many calls given W N = (callWords * many ≤ length calls) × ((callNumbers * many ≤ length given) × ((answerWords * many ≤ length W) × (answerNumbers * many ≤ length N)))
+
+module _ {m most : ℕ} {l : Columns} {calls : List ℕ} {given : List Float} {s₀ : State} {W₀ : List ℕ} {N₀ : List Float} {many : ℕ} {s : State} {W : List ℕ} {N : List Float} {i : ℕ}
+    (h : Replying m most l calls given s₀ W₀ N₀ many s W N i) where
+  -- the parts that the next call is lent have the lengths of one
+  pub own-parts : Roomy many calls given W₀ N₀ → i < many
+      → (4 ≤ length (take (4 * i + 4 - 4 * i) (drop (4 * i) calls))) × ((20 ≤ length (take (20 * i + 20 - 20 * i) (drop (20 * i) given)))
+      × ((length (take (4 * i + 4 - 4 * i) (drop (4 * i) W)) ≡ 4) × (length (take (12 * i + 12 - 12 * i) (drop (12 * i) N)) ≡ 12)))
+  own-parts room b = (
+    le-of-eq (sym (part-long (4 * i) 4 calls (omega (arith, room)))),
+    (
+      le-of-eq (sym (part-long (20 * i) 20 given (omega (arith, room)))),
+      (part-long (4 * i) 4 W (omega (arith, room, h .words-long)), part-long (12 * i) 12 N (omega (arith, room, h .numbers-long))),
+    ),
+  )
+
+  pub one-reply : {after : State} {ws : List ℕ} {ns : List Float} → Roomy many calls given W₀ N₀ → i < many
       → Answered m most s (callFrom l (take (4 * i + 4 - 4 * i) (drop (4 * i) calls)) (take (20 * i + 20 - 20 * i) (drop (20 * i) given))) after ws ns
       → Replying m most l calls given s₀ W₀ N₀ many after
       (take (4 * i) W ++ (ws ++ drop (4 * i + 4 - 4 * i) (drop (4 * i) W)))
       (take (12 * i) N ++ (ns ++ drop (12 * i + 12 - 12 * i) (drop (12 * i) N))) (i + 1)
-  one-reply s W N i after ws ns hw hn b h a =
+  one-reply {after} {ws} {ns} room b a =
       let c = callFrom l (partAt callWords calls i) (partAt callNumbers given i) in
       let was = callsTo l calls given i in
       let same : callFrom l (take (4 * i + 4 - 4 * i) (drop (4 * i) calls)) (take (20 * i + 20 - 20 * i) (drop (20 * i) given)) ≡ c =
@@ -273,29 +290,33 @@ module _ (m most : ℕ) (l : Columns) (calls : List ℕ) (given : List Float) (s
       subst (λ (z : State). Answered m most z c after ws ns) (h .state) (subst (λ (z : Call). Answered m most s z after ws ns) same a) in
       let said = replyOf m most (stateAfter m most s₀ was) c .answer in
       let answers : answersTo m most s₀ l calls given (i + 1) ≡ answersTo m most s₀ l calls given i ++ (said ∷ []) =
-      ap (repliesOf m most s₀) (calls-more i) ∙ replies-more m most s₀ was c in
+      ap (repliesOf m most s₀) (calls-more m most l calls given s₀ i) ∙ replies-more m most s₀ was c in
       let w : take (4 * i) W ++ (ws ++ drop (4 * i + 4 - 4 * i) (drop (4 * i) W)) ≡ allWords (answersTo m most s₀ l calls given (i + 1)) ++ drop (4 * (i + 1)) W₀ =
-      part-more (4 * i) 4 (4 * (i + 1)) (allWords (answersTo m most s₀ l calls given i)) ws W W₀ (front-words i) (h .words) (omega arith)
+      part-more (4 * i) 4 (4 * (i + 1)) (allWords (answersTo m most s₀ l calls given i)) ws W W₀ (front-words m most l calls given s₀ i) (h .words) (omega arith)
       ∙ ap (λ (x : List ℕ). x ++ drop (4 * (i + 1)) W₀)
       (ap (λ (x : List ℕ). allWords (answersTo m most s₀ l calls given i) ++ x) (now .1 .0) ∙ sym (words-more (answersTo m most s₀ l calls given i) said) ∙ ap allWords (sym answers)) in
       let n : take (12 * i) N ++ (ns ++ drop (12 * i + 12 - 12 * i) (drop (12 * i) N)) ≡ allNumbers (answersTo m most s₀ l calls given (i + 1)) ++ drop (12 * (i + 1)) N₀ =
-      part-more (12 * i) 12 (12 * (i + 1)) (allNumbers (answersTo m most s₀ l calls given i)) ns N N₀ (front-numbers i) (h .numbers) (omega arith)
+      part-more (12 * i) 12 (12 * (i + 1)) (allNumbers (answersTo m most s₀ l calls given i)) ns N N₀ (front-numbers m most l calls given s₀ i) (h .numbers) (omega arith)
       ∙ ap (λ (x : List Float). x ++ drop (12 * (i + 1)) N₀)
       (ap (λ (x : List Float). allNumbers (answersTo m most s₀ l calls given i) ++ x) (now .1 .1) ∙ sym (numbers-more (answersTo m most s₀ l calls given i) said) ∙ ap allNumbers (sym answers)) in
       record {
         upto = omega arith;
-        words-long = ap length w ∙ column-long (4 * (i + 1)) (allWords (answersTo m most s₀ l calls given (i + 1))) W₀ (front-words (i + 1)) (omega arith);
-        numbers-long = ap length n ∙ column-long (12 * (i + 1)) (allNumbers (answersTo m most s₀ l calls given (i + 1))) N₀ (front-numbers (i + 1)) (omega arith);
-        state = now .0 ∙ sym (after-more m most s₀ was c) ∙ ap (stateAfter m most s₀) (sym (calls-more i));
+        words-long =
+            ap length w
+            ∙ column-long (4 * (i + 1)) (allWords (answersTo m most s₀ l calls given (i + 1))) W₀ (front-words m most l calls given s₀ (i + 1)) (omega (arith, room .1 .1 .0));
+        numbers-long =
+            ap length n
+            ∙ column-long (12 * (i + 1)) (allNumbers (answersTo m most s₀ l calls given (i + 1))) N₀ (front-numbers m most l calls given s₀ (i + 1)) (omega (arith, room .1 .1 .1));
+        state = now .0 ∙ sym (after-more m most s₀ was c) ∙ ap (stateAfter m most s₀) (sym (calls-more m most l calls given s₀ i));
         words = w;
         numbers = n;
       }
 
   -- all calls are answered
-  pub all-replies : (s : State) (W : List ℕ) (N : List Float) (i : ℕ) → many ≤ i → Replying m most l calls given s₀ W₀ N₀ many s W N i
+  pub all-replies : many ≤ i
       → (s ≡ stateAfter m most s₀ (callsTo l calls given many))
       × ((W ≡ allWords (answersTo m most s₀ l calls given many) ++ drop (4 * many) W₀) × (N ≡ allNumbers (answersTo m most s₀ l calls given many) ++ drop (12 * many) N₀))
-  all-replies s W N i b h =
+  all-replies b =
       let e : i ≡ many = omega (arith, h .upto) in (
         h .state ∙ ap (λ (k : ℕ). stateAfter m most s₀ (callsTo l calls given k)) e,
         (

@@ -1,11 +1,9 @@
 -- `certificate::replay::replies` meets its contract. Assumes nothing.
-use native.Mathlib.Nat.{le-of-eq}
 use borrow.Author.Needs.{needs}
 use native.Mathlib.Omega.{arith}
-use Prim.Native.Nat.{_-_, _*_}
-use mathlib.Core.Path.{sym}
+use Prim.Native.Nat.{_-_}
 use Rattle.run.specs.State.{view, columns}
-use Rattle.certificate.proofs.ReplayLaws.{Replying, no-reply, one-reply, all-replies, part-long}
+use Rattle.certificate.proofs.ReplayLaws.{Replying, no-reply, own-parts, one-reply, all-replies}
 use Rattle.run.specs.Widths.{fullWords, mostTiles}
 use Rattle.certificate.proofs.replay.replies.Statement.{statement}
 use Rattle.certificate.proofs.replay.replies.Tie as tie
@@ -20,8 +18,18 @@ Inv-loop tiles offsets list many calls given words₀ numbers₀ state₀ i₀ w
 abbrev μ-loop : tie.MeasureT-loop
 μ-loop tiles offsets list many calls given words₀ numbers₀ state₀ i₀ words numbers state i = many - i
 
+-- The places that the answers name, each from one further down: the call's own start, the turn of a call, and its reply.
+abbrev start-at : tie.At-loop Inv-loop μ-loop → tie.Start Inv-loop μ-loop
+start-at c = c .before .before .before .before .before .before .before .before
+
+abbrev turn-at : tie.After-reply-arg4 Inv-loop μ-loop → tie.In-loop Inv-loop μ-loop
+turn-at c = c .before .before .before .before
+
+abbrev replied-at : tie.After-slice-known4 Inv-loop μ-loop → tie.After-reply Inv-loop μ-loop
+replied-at c = c .before .before .before .before
+
 loop-holds : tie.Need-loop-holds Inv-loop μ-loop
-loop-holds c = no-reply _ _ _ _ _ _ _ _ _
+loop-holds c = no-reply
 
 mul-c : tie.Need-mul-c Inv-loop μ-loop
 mul-c c = search needs
@@ -96,44 +104,19 @@ part-reply-end-4 : tie.Need-part-reply-end-4 Inv-loop μ-loop
 part-reply-end-4 c = search needs
 
 reply-requires : tie.Need-reply-requires Inv-loop μ-loop
-reply-requires c κs =
-    let s = c .before .before .before .before .before .before .before .before .before .before .before .before .before in
-    let l = c .before .before .before .before .before .loop in
-    let b = c .before .before .before .before .loop-test .taken in
-    let n = l .inv in
-    let e = s .pre in (
-      le-of-eq (sym (part-long (4 * l .i) 4 (s .args .calls .now) (omega (arith, e, b)))),
-      (
-        le-of-eq (sym (part-long (20 * l .i) 20 (s .args .given .now) (omega (arith, e, b)))),
-        (part-long (4 * l .i) 4 (l .words) (omega (arith, e, b, n .words-long)), part-long (12 * l .i) 12 (l .numbers) (omega (arith, e, b, n .numbers-long))),
-      ),
-    )
+reply-requires c κs = let t = turn-at c in own-parts (t .before .loop .inv) (start-at (t .before) .pre) (t .loop-test .taken)
 
 add-i : tie.Need-add-i Inv-loop μ-loop
-add-i c =
-    let s = c .before .before .before .before .before .before .before .before .before .before .before .before .before .before .before .before .before .before in
-    let l = c .before .before .before .before .before .before .before .before .before .before .loop in
-    let b = c .before .before .before .before .before .before .before .before .before .loop-test .taken in
-    let n = l .inv in
-    record { fits = omega (arith, s .good, b) }
+add-i c = let t = turn-at (replied-at c .before) in record { fits = omega (arith, start-at (t .before) .good, t .loop-test .taken) }
 
 loop-less : tie.Need-loop-less Inv-loop μ-loop
-loop-less c =
-    let s = c .before .before .before .before .before .before .before .before .before .before .before .before .before .before .before .before .before .before in
-    let l = c .before .before .before .before .before .before .before .before .before .before .loop in
-    let b = c .before .before .before .before .before .before .before .before .before .loop-test .taken in
-    let n = l .inv in
-    omega arith
+loop-less c = omega (arith, turn-at (replied-at c .before) .loop-test .taken)
 
 loop-again : tie.Need-loop-again Inv-loop μ-loop
 loop-again c =
-    let s = c .before .before .before .before .before .before .before .before .before .before .before .before .before .before .before .before .before .before in
-    let l = c .before .before .before .before .before .before .before .before .before .before .loop in
-    let b = c .before .before .before .before .before .before .before .before .before .loop-test .taken in
-    let n = l .inv in
-    let r = c .before .before .before .before .reply in
-    one-reply fullWords mostTiles (columns (s .args .tiles .now) (s .args .offsets .now) (s .args .list .now)) (s .args .calls .now) (s .args .given .now) (view (s .args .run)) (s .args .words .now) (s .args .numbers .now) (s .args .many)
-    (view (l .state)) (l .words) (l .numbers) (l .i) (view (r .result)) _ _ (s .pre .1 .1 .0) (s .pre .1 .1 .1) b n (r .ensures)
+    let r = replied-at c in
+    let t = turn-at (r .before) in
+    one-reply (t .before .loop .inv) (start-at (t .before) .pre) (t .loop-test .taken) (r .reply .ensures)
 
 same-length : tie.Need-same-length Inv-loop μ-loop
 same-length c = c .before .loop .inv .words-long
@@ -142,11 +125,7 @@ same-length-2 : tie.Need-same-length-2 Inv-loop μ-loop
 same-length-2 c = c .before .loop .inv .numbers-long
 
 returns : tie.Need-returns Inv-loop μ-loop
-returns c =
-    let s = c .before .before .before .before .before .before .before .before .before in
-    let l = c .before .loop in
-    all-replies fullWords mostTiles (columns (s .args .tiles .now) (s .args .offsets .now) (s .args .list .now)) (s .args .calls .now) (s .args .given .now) (view (s .args .run)) (s .args .words .now) (s .args .numbers .now) (s .args .many)
-    (view (l .state)) (l .words) (l .numbers) (l .i) (c .loop-test .left) (l .inv)
+returns c = all-replies (c .before .loop .inv) (c .loop-test .left)
 
 pub replies-spec : {M : Type 1} → statement M
 replies-spec =
