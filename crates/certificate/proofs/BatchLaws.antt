@@ -32,7 +32,7 @@ use Rattle.certificate.specs.Calls.{Call, repliesOf, stateAfter}
 use Rattle.certificate.specs.Answers.{Answer}
 use Rattle.certificate.specs.Answers.Answer.{refused}
 use Rattle.certificate.specs.Scorer.{Lengths, Opening, Told, History, touchedCount, lapDone, startNumber, scores, keptOf}
-use Rattle.certificate.specs.Certificate.{Lending, lentBy, lengthsOf, Given, callOf, toldOf, callsOf, toldsOf, startOn, layNumber}
+use Rattle.certificate.specs.Certificate.{Lending, lentBy, lengthsOf, Given, callOf, toldOf, callsOf, toldsOf, settingsFor, settingsOn, startOn, layNumber}
 use Rattle.certificate.specs.Certificate.Lending.{laid, short}
 use Rattle.certificate.specs.Replay.{callWords, callNumbers, answerWords, answerNumbers, allWords, allNumbers, partAt, numberAt, motionsFrom, posesFrom}
 use Rattle.certificate.specs.ReplaySteps.{lentTo, callFrom, callsTo}
@@ -180,7 +180,7 @@ module _ (b : Opening) (k : Lengths) (n : ℕ) (calls : List ℕ) (given : List 
   unfolding startNumber
   none-number = rw (or-yes (shortColumns (k .tiles) (k .offsets)))
 
-  none-cause : (l : Columns) (fb : Bool) → startCause mostTiles l (record { n = 0; fallback = fb; share = b .share; limit = b .limit; poses = b .poses }) ≡ cond (not (settingsOk (b .share) (b .limit))) 1 2
+  none-cause : (l : Columns) (fb : Bool) → startCause mostTiles l (settingsFor 0 fb b) ≡ cond (not (settingsOk (b .share) (b .limit))) 1 2
   unfolding startCause startShort
   none-cause l fb = rw (or-yes (shortOf l))
 
@@ -189,13 +189,13 @@ module _ (b : Opening) (k : Lengths) (n : ℕ) (calls : List ℕ) (given : List 
   never-none false e = omega (arith, e)
 
   no-course : (l : Columns) (fb : Bool) (sa : StartAnswer) (s : State)
-      → begun sa s ≡ startOf fullWords mostTiles l (record { n = 0; fallback = fb; share = b .share; limit = b .limit; poses = b .poses })
+      → begun sa s ≡ startOf fullWords mostTiles l (settingsFor 0 fb b)
       → Plain (startNumber [] mostTiles k b) nothing l sa s
   unfolding startOf
   no-course l fb sa s e = go (startNumber [] mostTiles k b) refl
     where
       a : Settings
-      a = record { n = 0; fallback = fb; share = b .share; limit = b .limit; poses = b .poses }
+      a = settingsFor 0 fb b
 
       go : (j : ℕ) → startNumber [] mostTiles k b ≡ j → Plain j nothing l sa s
       go zero q = absurd (never-none (not (settingsOk (b .share) (b .limit))) (sym none-number ∙ q))
@@ -264,20 +264,20 @@ module _ (b : Opening) (k : Lengths) (n : ℕ) (calls : List ℕ) (given : List 
           }
 
       pub course-plain : (sa : StartAnswer) (s : State)
-          → begun sa s ≡ startOf fullWords mostTiles (columnsOf o) (record { n = laidValuesOf (o .answer) .n; fallback = laidValuesOf (o .answer) .fallback; share = b .share; limit = b .limit; poses = b .poses })
+          → begun sa s ≡ startOf fullWords mostTiles (columnsOf o) (settingsOn o (laidValuesOf (o .answer) .fallback) b)
           → Plain (startNumber c mostTiles k b) (record { points = c; fallback = fallback }) (columnsOf o) sa s
       course-plain sa s e = go (startNumber c mostTiles k b) refl
         where
           on : begun sa s ≡ startOn fullWords mostTiles o by fallback b
           on =
-              e ∙ ap₂ (λ (x : Columns) (f : Bool). startOf fullWords mostTiles x (record { n = laidValuesOf (o .answer) .n; fallback = f; share = b .share; limit = b .limit; poses = b .poses }))
+              e ∙ ap₂ (λ (x : Columns) (f : Bool). startOf fullWords mostTiles x (settingsOn o f b))
               (sym (whole-lent .1)) same-fallback
 
           number : startNumber c mostTiles (lengthsOf (lentBy o by)) b ≡ startNumber c mostTiles k b
           number = ap (λ (x : Lengths). startNumber c mostTiles x b) told-lengths
 
           a : Settings
-          a = record { n = length c; fallback = fallback; share = b .share; limit = b .limit; poses = b .poses }
+          a = settingsFor (length c) fallback b
 
           go : (j : ℕ) → startNumber c mostTiles k b ≡ j → Plain j (record { points = c; fallback = fallback }) (columnsOf o) sa s
           go zero q = accepted-plain sa s (on ∙ start-accepted fullWords mostTiles c room some fits o counted holds by fallback b (number ∙ q))
@@ -306,19 +306,19 @@ module _ (seed : ℕ) (l : course.Lent) (b : Opening) (n : ℕ) (calls : List �
   -- lay, then a start with what it answered, then the calls
   replay-plain : (j : ℕ) → layNumber seed l ≡ j → (o : Outcome) → o ≡ layCall maxAttempts seed l → length (o .lent .tiles) ≡ length (l .tiles) → length (o .lent .offsets) ≡ length (l .offsets)
       → (sa : StartAnswer) (s : State)
-      → begun sa s ≡ startOf fullWords mostTiles (columnsOf o) (record { n = laidValuesOf (o .answer) .n; fallback = laidValuesOf (o .answer) .fallback; share = b .share; limit = b .limit; poses = b .poses })
+      → begun sa s ≡ startOf fullWords mostTiles (columnsOf o) (settingsOn o (laidValuesOf (o .answer) .fallback) b)
       → Plain b lengths n calls given (startNumber (laidCourse j seed .points) mostTiles lengths b) (laidCourse j seed) (columnsOf o) sa s
   unfolding laidCourse layNumber
   replay-plain zero q o eo et ef sa s es =
       let p = no-cause (roomy l) (ltb (length (l .list)) (cellsOf (courseOf seed .points))) q in
       subst (λ (x : Outcome). length (x .lent .tiles) ≡ length (l .tiles) → length (x .lent .offsets) ≡ length (l .offsets)
-      → begun sa s ≡ startOf fullWords mostTiles (columnsOf x) (record { n = laidValuesOf (x .answer) .n; fallback = laidValuesOf (x .answer) .fallback; share = b .share; limit = b .limit; poses = b .poses })
+      → begun sa s ≡ startOf fullWords mostTiles (columnsOf x) (settingsOn x (laidValuesOf (x .answer) .fallback) b)
       → Plain b lengths n calls given (startNumber (courseOf seed .points) mostTiles lengths b) (courseOf seed) (columnsOf x) sa s)
       (sym (eo ∙ lay-course seed l (p .0)))
       (λ t f e. course-plain b lengths n calls given (courseOf seed .points) (course-sized seed .some) (few-points seed) (courseOf seed .fallback) l (p .1) t f sa s e) et ef es
   replay-plain (suc j) q o eo et ef sa s es =
       no-course b lengths n calls given (columnsOf o) (laidValuesOf (o .answer) .fallback) sa s
-      (es ∙ ap (λ (x : ℕ). startOf fullWords mostTiles (columnsOf o) (record { n = x; fallback = laidValuesOf (o .answer) .fallback; share = b .share; limit = b .limit; poses = b .poses }))
+      (es ∙ ap (λ (x : ℕ). startOf fullWords mostTiles (columnsOf o) (settingsFor x (laidValuesOf (o .answer) .fallback) b))
       (no-count (o .answer) j (ap (λ (x : Outcome). laidCauseOf (x .answer)) eo ∙ lays seed l ∙ q)))
 
 -- what each call of a replay leaves, where there is room for the calls told and their answers
@@ -329,7 +329,7 @@ pub record ReplayCalls (seed : ℕ) (l : course.Lent) (b : Opening) (n : ℕ) (c
   pub tiles : length (o .lent .tiles) ≡ length (l .tiles)
   pub offsets : length (o .lent .offsets) ≡ length (l .offsets)
   pub values : v ≡ laidValuesOf (o .answer)
-  pub start : begun sa s ≡ startOf fullWords mostTiles (columnsOf o) (record { n = v .n; fallback = v .fallback; share = b .share; limit = b .limit; poses = b .poses })
+  pub start : begun sa s ≡ startOf fullWords mostTiles (columnsOf o) (settingsFor (v .n) (v .fallback) b)
   pub state : last ≡ stateAfter fullWords mostTiles s (callsTo (columnsOf o) calls given n)
   pub answered : words′ ≡ allWords (repliesOf fullWords mostTiles s (callsTo (columnsOf o) calls given n)) ++ drop (answerWords * n) words
   pub numbered : numbers′ ≡ allNumbers (repliesOf fullWords mostTiles s (callsTo (columnsOf o) calls given n)) ++ drop (answerNumbers * n) numbers
@@ -343,7 +343,7 @@ pub replayed : {seed : ℕ} {l : course.Lent} {b : Opening} {n : ℕ} {calls : L
 unfolding replayOf replayOn
 replayed {seed} {l} {b} {n} {calls} {given} {words} {numbers} {o} {v} {sa} {s} h =
     let p = replay-plain seed l b n calls given (layNumber seed l) refl o (h .laid) (h .tiles) (h .offsets) sa s
-    (h .start ∙ (λ i. startOf fullWords mostTiles (columnsOf o) (record { n = h .values i .n; fallback = h .values i .fallback; share = b .share; limit = b .limit; poses = b .poses }))) in
+    (h .start ∙ (λ i. startOf fullWords mostTiles (columnsOf o) (settingsFor (h .values i .n) (h .values i .fallback) b))) in
     rw (h .room) (λ i.
     record {
       laid = h .laid i .answer;

@@ -32,11 +32,11 @@ use Rattle.certificate.specs.Answers.Answer.{refused}
 use Rattle.certificate.specs.Calls.{Call, Replied, replyOf, repliesOf, stateAfter}
 use Rattle.certificate.specs.Scorer.{Opening, Told, History, opening, drives, settles, lastPoses, touch, touched, touchedCount, lapDone, ended, startNumber, score, scores, keptOf}
 use Rattle.certificate.specs.Scorer.History.{begun}
-use Rattle.certificate.specs.Certificate.{Lending, lentBy, lengthsOf, Given, callOf, toldOf, callsOf, toldsOf, newSum, endedBy, allOccur, settingsOn, keptBy, Graded, startOn, Demand3, layNumber, Certificate}
+use Rattle.certificate.specs.Certificate.{Lending, lentBy, lengthsOf, Given, callOf, toldOf, callsOf, toldsOf, newSum, endedBy, allOccur, settingsFor, settingsOn, keptBy, Graded, startOn, Demand3, layNumber, Certificate}
 use Rattle.certificate.specs.Certificate.Lending.{laid, short}
 use Rattle.run.proofs.CallLaws.{cleared, or-no}
 use Rattle.certificate.proofs.ScoreLaws.{InTurn, kept-turn, opening-kept, sum-is, end-is, ended-over, all-occur}
-use Rattle.certificate.proofs.Simulation.{held, Holds, settingsBy, stateOf, withState, cond-else, cond-skip, started, toldBy, Lent, reply-is}
+use Rattle.certificate.proofs.Simulation.{held, Holds, stateOf, withState, cond-else, cond-skip, started, toldBy, Lent, reply-is}
 use Rattle.run.proofs.SetMembers.{in-set, in-wheel}
 use Rattle.certificate.proofs.LaidTouch.{touched-laid, sound-laid}
 use Rattle.certificate.proofs.LentColumns.{laid-whole, lent-laid, count}
@@ -102,10 +102,7 @@ module _ (m most : ℕ) (c : List TrackPoint) (room : most ≤ 64 * m) (some : 0
   begins b = record { ahead = omega arith; close = omega arith; time = λ l. absurd (omega arith) }
 
   module _ (by : Lending) (fb : Bool) (b : Opening) where
-    abbrev at : ℕ → Settings
-    at n = record { n = n; fallback = fb; share = b .share; limit = b .limit; poses = b .poses }
-
-    start-number : startCause most (lentBy o by) (at (length c)) ≡ startNumber c most (lengthsOf (lentBy o by)) b
+    start-number : startCause most (lentBy o by) (settingsFor (length c) fb b) ≡ startNumber c most (lengthsOf (lentBy o by)) b
     unfolding startCause startNumber startShort shortOf lengthsOf
     start-number =
         cond-else (not (settingsOk (b .share) (b .limit))) 1 _ _ (λ e₁.
@@ -119,11 +116,11 @@ module _ (m most : ℕ) (c : List TrackPoint) (room : most ≤ 64 * m) (some : 0
     cause-at zero l a = refl
     cause-at (suc k) l a = refl
 
-    pub start-same : startOn m most o by fb b ≡ startAt m (startNumber c most (lengthsOf (lentBy o by)) b) (lentBy o by) (at (length c))
+    pub start-same : startOn m most o by fb b ≡ startAt m (startNumber c most (lengthsOf (lentBy o by)) b) (lentBy o by) (settingsFor (length c) fb b)
     unfolding startOf
     start-same =
-        ap (λ (n : ℕ). startAt m (startCause most (lentBy o by) (at n)) (lentBy o by) (at n)) counted
-        ∙ ap (λ (k : ℕ). startAt m k (lentBy o by) (at (length c))) start-number
+        ap (λ (n : ℕ). startAt m (startCause most (lentBy o by) (settingsFor n fb b)) (lentBy o by) (settingsFor n fb b)) counted
+        ∙ ap (λ (k : ℕ). startAt m k (lentBy o by) (settingsFor (length c) fb b)) start-number
 
     lent-long : startNumber c most (lengthsOf (lentBy o by)) b ≡ 0 → shortOf (lentBy o by) ≡ false
     unfolding startNumber lengthsOf shortOf
@@ -137,7 +134,7 @@ module _ (m most : ℕ) (c : List TrackPoint) (room : most ≤ 64 * m) (some : 0
     pub start-accepted : startNumber c most (lengthsOf (lentBy o by)) b ≡ 0 → startOn m most o by fb b ≡ first
     unfolding startAt
     start-accepted e =
-        start-same ∙ ap (λ (k : ℕ). startAt m k (lentBy o by) (at (length c))) e
+        start-same ∙ ap (λ (k : ℕ). startAt m k (lentBy o by) (settingsFor (length c) fb b)) e
         ∙ started m most c room some fits (lentBy o by) b fb (holds by (lent-long e))
 
     own-opening : (b : Opening) → opening (begun b) ≡ b
@@ -145,8 +142,8 @@ module _ (m most : ℕ) (c : List TrackPoint) (room : most ≤ 64 * m) (some : 0
     own-opening b = refl
 
     -- what start was told, by the calls kept after it
-    same-setup : (h : History) → opening h ≡ b → setupOf (settingsBy m most c room some fits fb (opening h)) ≡ setupOf (settingsOn o fb b)
-    same-setup h e = λ i. setupOf (record { n = sym counted i; fallback = fb; share = e i .share; limit = e i .limit; poses = e i .poses })
+    same-setup : (h : History) → opening h ≡ b → setupOf (settingsFor (length c) fb (opening h)) ≡ setupOf (settingsOn o fb b)
+    same-setup h e = λ i. setupOf (settingsFor (sym counted i) fb (e i))
 
     zeros-at : (k : ℕ) (l : Columns) (a : Settings) → (k ≡ 0 → ⊥) → startAt m k l a .state ≡ zeroState m
     unfolding startAt
@@ -175,11 +172,11 @@ module _ (m most : ℕ) (c : List TrackPoint) (room : most ≤ 64 * m) (some : 0
     pub demand3-on : (cs : List Given) → Demand3 m most c o by fb b cs
     demand3-on cs =
         record {
-          starts = ap (λ (s : Begun). startCauseOf (s .answer)) start-same ∙ cause-at (startNumber c most (lengthsOf (lentBy o by)) b) (lentBy o by) (at (length c));
+          starts = ap (λ (s : Begun). startCauseOf (s .answer)) start-same ∙ cause-at (startNumber c most (lengthsOf (lentBy o by)) b) (lentBy o by) (settingsFor (length c) fb b);
           runs = λ e. subst (λ (s : Begun). Graded m most c o s fb b cs) (sym (start-accepted e)) (graded cs);
           stays = λ n.
               ap (λ (s : Begun). repliesOf m most (s .state) (callsOf o cs)) start-same
-              ∙ ap (λ (s : State). repliesOf m most s (callsOf o cs)) (zeros-at (startNumber c most (lengthsOf (lentBy o by)) b) (lentBy o by) (at (length c)) n)
+              ∙ ap (λ (s : State). repliesOf m most s (callsOf o cs)) (zeros-at (startNumber c most (lengthsOf (lentBy o by)) b) (lentBy o by) (settingsFor (length c) fb b) n)
               ∙ zeros-stay m most (callsOf o cs) ∙ ap (λ (k : ℕ). replicate k (refused 4)) (length-map cs (callOf o));
         }
 

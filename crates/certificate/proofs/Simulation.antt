@@ -21,13 +21,13 @@ use Rattle.run.specs.Contact.{wheelSets, Contacted, contacted, contactOf}
 use Rattle.run.specs.Grip.{onRoad, roadsOf}
 use Rattle.run.specs.Lap.{aboveShare, lapOf, offField, endOf}
 use Rattle.run.specs.Pass.{passOf}
-use Rattle.run.specs.Start.{Settings, setupOf, firstProgress, startAnswer, firstContact, startedBy}
+use Rattle.run.specs.Start.{setupOf, firstProgress, startAnswer, firstContact, startedBy}
 use Rattle.run.specs.Drive.{driveAnswer, driveCause, driveAt, drivePartsOf, driveOf}
 use Rattle.run.specs.Settle.{settleAnswer, settleCause, settledProgress, SettledParts, settledParts, settledBy, settleAt, settlePartsOf, settleOf}
 use Rattle.certificate.specs.Calls.{Call, Replied, driveSaid, settleSaid, replyOf}
 use Rattle.certificate.specs.Scorer.{Opening, Told, History, opening, drives, settles, lastPoses, off, Scored, touch, touches, touched, touchedCount, newTiles, meetsLap, lapDone, over, ended, grip, grips, passed, driveNumber, settleNumber, driveScore, settleScore, score}
 use Rattle.certificate.specs.Scorer.History.{begun, thenDrive, thenSettle}
-use Rattle.certificate.specs.Certificate.{lengthsOf, progressBy}
+use Rattle.certificate.specs.Certificate.{lengthsOf, settingsFor, progressBy}
 use Rattle.run.specs.declared.state.Pose.{Pose}
 use Rattle.run.specs.declared.state.Progress.{Progress}
 use Rattle.run.specs.declared.dynamics.Motion.{Motion}
@@ -72,15 +72,11 @@ module _ (m most : ℕ) (c : List TrackPoint) (room : most ≤ 64 * m) (some : 0
     pub same : (ps : List Pose) (w t : ℕ) → touchedBy (l .tiles) (l .offsets) (l .list) (quadOf ps w) t ≡ below (length c) (touch c ps w) t
     pub sound : (ps : List Pose) → soundPoses (l .offsets) (l .list) (length c) ps ≡ true
 
-  -- what start was told
-  abbrev pub settingsBy : Bool → Opening → Settings
-  settingsBy fb b = record { n = length c; fallback = fb; share = b .share; limit = b .limit; poses = b .poses }
-
   -- the state that the accepted calls lead to
   abbrev pub stateOf : Bool → History → State
   stateOf fb h =
       record {
-        setup = setupOf (settingsBy fb (opening h));
+        setup = setupOf (settingsFor (length c) fb (opening h));
         progress = progressBy c h;
         car = passed c h .car;
         credited = creditedBy m (length c) held (touched c h);
@@ -133,10 +129,10 @@ module _ (m most : ℕ) (c : List TrackPoint) (room : most ≤ 64 * m) (some : 0
 
   -- ---- start
   pub started : (l : Columns) (b : Opening) (fb : Bool) → Holds l
-      → startedBy (settingsBy fb b) (firstContact m l (b .poses))
+      → startedBy (settingsFor (length c) fb b) (firstContact m l (b .poses))
       ≡ record { answer = startAnswer 0 (record { count = touchedCount c (begun b); lap = lapDone c (begun b) }); state = stateOf fb (begun b) }
   unfolding startedBy firstProgress lapOf lapDone meetsLap opening settles drives lastPoses ended passed
-  started l b fb w = ap (startedBy (settingsBy fb b)) (first-contact l b w)
+  started l b fb w = ap (startedBy (settingsFor (length c) fb b)) (first-contact l b w)
 
   -- ---- drive
   roads-are : (h : History) → roadsOf m (wheelsBy m (length c) held (touch c (lastPoses h))) ≡ grips c h
@@ -146,12 +142,12 @@ module _ (m most : ℕ) (c : List TrackPoint) (room : most ≤ 64 * m) (some : 0
       at : (w : ℕ) → w < 4 → onRoad m (wheelsBy m (length c) held (touch c (lastPoses h))) w ≡ anyBelow (length c) (touch c (lastPoses h) w)
       at w l = on-road m (length c) held (touch c (lastPoses h)) w l
 
-  pub fits-state : (fb : Bool) (h : History) → unfit most (setupOf (settingsBy fb (opening h))) (progressBy c h) ≡ false
+  pub fits-state : (fb : Bool) (h : History) → unfit most (setupOf (settingsFor (length c) fb (opening h))) (progressBy c h) ≡ false
   unfolding unfit setupOf touchedCount
   fits-state fb h =
       rw (le-ltb (length c) 1 some, le-ltb most (length c) fits, le-ltb (length c) (howMany (length c) (touched c h)) (few (length c) (touched c h)))
 
-  drive-number : (fb : Bool) (h : History) (a : ℕ) (ms : List Motion) → driveCause most (setupOf (settingsBy fb (opening h))) (progressBy c h) a ms ≡ driveNumber c h a ms
+  drive-number : (fb : Bool) (h : History) (a : ℕ) (ms : List Motion) → driveCause most (setupOf (settingsFor (length c) fb (opening h))) (progressBy c h) a ms ≡ driveNumber c h a ms
   unfolding driveCause driveNumber setupOf
   drive-number fb h a ms = rw (fits-state fb h)
 
@@ -161,7 +157,7 @@ module _ (m most : ℕ) (c : List TrackPoint) (room : most ≤ 64 * m) (some : 0
       record {
         answer = driveSaid (d .answer) (d .forces);
         state = record {
-          setup = setupOf (settingsBy fb (opening h));
+          setup = setupOf (settingsFor (length c) fb (opening h));
           progress = d .progress;
           car = d .car;
           credited = creditedBy m (length c) held (touched c h);
@@ -186,7 +182,7 @@ module _ (m most : ℕ) (c : List TrackPoint) (room : most ≤ 64 * m) (some : 0
 
   -- ---- settle
   settle-number : (fb : Bool) (h : History) → InTurn h → (l : Columns) (x y : Float) (ps : List Pose) → (shortOf l ≡ false → Holds l)
-      → settleCause most (setupOf (settingsBy fb (opening h))) (progressBy c h) l x y ps ≡ settleNumber c h (lengthsOf l) x y ps
+      → settleCause most (setupOf (settingsFor (length c) fb (opening h))) (progressBy c h) l x y ps ≡ settleNumber c h (lengthsOf l) x y ps
   unfolding settleCause settleNumber shortOf lengthsOf setupOf
   settle-number fb h v l x y ps w =
       rw (fits-state fb h)
@@ -212,7 +208,7 @@ module _ (m most : ℕ) (c : List TrackPoint) (room : most ≤ 64 * m) (some : 0
   entersZero h ps = anyBelow 4 (λ w. touch c ps w 0 && not (touch c (lastPoses h) w 0))
 
   settled-progress : (fb : Bool) (h : History) → InTurn h → (x y : Float) (ps : List Pose)
-      → settledProgress (setupOf (settingsBy fb (opening h))) (progressBy c h) (newTiles c h ps) (entersZero h ps) (offField x y) ≡ progressBy c (thenSettle h x y ps)
+      → settledProgress (setupOf (settingsFor (length c) fb (opening h))) (progressBy c h) (newTiles c h ps) (entersZero h ps) (offField x y) ≡ progressBy c (thenSettle h x y ps)
   unfolding settledProgress setupOf lapOf opening settles drives lapDone meetsLap
   settled-progress fb h v x y ps =
       (λ i. at (count-is h x y ps i) (lapAt (count-is h x y ps i)) (endOf (count-is h x y ps i) (length c) (lapAt (count-is h x y ps i)) (offField x y)) (sym (le-ltb (settles h + 1) (drives h) (v .close)) i))
@@ -230,15 +226,15 @@ module _ (m most : ℕ) (c : List TrackPoint) (room : most ≤ 64 * m) (some : 0
   settledFrom fb h d =
       record {
         answer = settleSaid (d .answer);
-        state = record { setup = setupOf (settingsBy fb (opening h)); progress = d .progress; car = passed c h .car; credited = d .credited; wheels = d .wheels };
+        state = record { setup = setupOf (settingsFor (length c) fb (opening h)); progress = d .progress; car = passed c h .car; credited = d .credited; wheels = d .wheels };
       }
 
   settle-at : (fb : Bool) (h : History) → InTurn h → (l : Columns) (x y : Float) (ps : List Pose) (k : ℕ) → (k ≡ 0 → Holds l)
-      → settledFrom fb h (settleAt m k (setupOf (settingsBy fb (opening h))) (progressBy c h) (creditedBy m (length c) held (touched c h)) (wheelsBy m (length c) held (touch c (lastPoses h))) l x y ps)
+      → settledFrom fb h (settleAt m k (setupOf (settingsFor (length c) fb (opening h))) (progressBy c h) (creditedBy m (length c) held (touched c h)) (wheelsBy m (length c) held (touch c (lastPoses h))) l x y ps)
       ≡ withState fb (settleScore c k h x y ps)
   unfolding settleAt settleAnswer settleScore settledBy setupOf off lastPoses opening passed
   settle-at fb h v l x y ps zero w =
-      ap (λ (g : Contacted). settledFrom fb h (settledBy (setupOf (settingsBy fb (opening h))) (progressBy c h) (offField x y) g)) (settle-contact h l x y ps (w refl))
+      ap (λ (g : Contacted). settledFrom fb h (settledBy (setupOf (settingsFor (length c) fb (opening h))) (progressBy c h) (offField x y) g)) (settle-contact h l x y ps (w refl))
       ∙ ap (λ (p : Progress). settledFrom fb h (settledParts (settleAnswer zero (values p)) p (creditedBy m (length c) held (touched c (thenSettle h x y ps))) (wheelsBy m (length c) held (touch c ps)))) (settled-progress fb h v x y ps)
     where
       values : Progress → SettleValues
@@ -267,6 +263,6 @@ module _ (m most : ℕ) (c : List TrackPoint) (room : most ≤ 64 * m) (some : 0
       ap (λ (k : ℕ). droveBy fb h (driveAt k (progressBy c h) (passed c h .car) (passOf (passed c h .car) a ms (roadsOf m (wheelsBy m (length c) held (touch c (lastPoses h))))))) (drive-number fb h a ms)
       ∙ drive-at fb h v a ms (roadsOf m (wheelsBy m (length c) held (touch c (lastPoses h)))) (driveNumber c h a ms) (roads-are h)
   reply-is fb h v (Call.settle l x y ps) w =
-      ap (λ (k : ℕ). settledFrom fb h (settleAt m k (setupOf (settingsBy fb (opening h))) (progressBy c h) (creditedBy m (length c) held (touched c h)) (wheelsBy m (length c) held (touch c (lastPoses h))) l x y ps))
+      ap (λ (k : ℕ). settledFrom fb h (settleAt m k (setupOf (settingsFor (length c) fb (opening h))) (progressBy c h) (creditedBy m (length c) held (touched c h)) (wheelsBy m (length c) held (touch c (lastPoses h))) l x y ps))
       (settle-number fb h v l x y ps w)
       ∙ settle-at fb h v l x y ps (settleNumber c h (lengthsOf l) x y ps) (λ e. w (long-enough h l x y ps e))

@@ -95,9 +95,13 @@ allOccur (c ∷ cs) (r ∷ rs) = occurs c r && allOccur cs rs
 
 -- ---- the claim
 
--- what start is told of the course that laying left in o: its n as answered
+-- what start is told on a course of n tiles
+abbrev pub settingsFor : ℕ → Bool → Opening → Settings
+settingsFor n fallback b = record { n = n; fallback = fallback; share = b .share; limit = b .limit; poses = b .poses }
+
+-- the same of the course that laying left in o: its n as answered
 abbrev pub settingsOn : Outcome → Bool → Opening → Settings
-settingsOn o fallback b = record { n = laidValuesOf (o .answer) .n; fallback = fallback; share = b .share; limit = b .limit; poses = b .poses }
+settingsOn o fallback b = settingsFor (laidValuesOf (o .answer) .n) fallback b
 
 abbrev pub startOn : ℕ → ℕ → Outcome → Lending → Bool → Opening → Begun
 startOn m most o by fallback b = startOf m most (lentBy o by) (settingsOn o fallback b)
