@@ -6,10 +6,10 @@ use native.Mathlib.Omega.{arith}
 use lib.ListN.{length, getD, drop, drop-of-length-le}
 use lib.Seq.{drop-cons}
 use lib.Ieee.{Float, nan}
-use Rattle.certificate.specs.Replay.{numberAt}
+use Rattle.certificate.specs.Numbers.{numberAt}
 use Rattle.run.specs.declared.state.WheelCtl.{WheelCtl}
 use Rattle.run.specs.declared.state.Car.{Car}
-use Rattle.abi.specs.Lent.{carLong, wheelFrom, carFrom, carNumbers}
+use Rattle.certificate.specs.Numbers.{wheelFrom, carFrom, carNumbers}
 
 -- n entries from number k on
 unfoldable entries : {A : Type 0} → ℕ → ℕ → A → List A → List A
@@ -23,12 +23,12 @@ entries-all {A} (suc n) k d l e =
     ap (λ (r : List A). getD l k d ∷ r) (entries-all n (suc k) d l (omega (arith, e)))
     ∙ sym (drop-cons l k d (omega (arith, e)))
 
-car-back : (l : List Float) → length l ≡ carLong → carNumbers (carFrom l) ≡ l
+car-back : (l : List Float) → length l ≡ 21 → carNumbers (carFrom l) ≡ l
 unfolding entries carNumbers carFrom wheelFrom
-car-back l e = entries-all carLong 0 nan l (sym e)
+car-back l e = entries-all 21 0 nan l (sym e)
 
 -- a car that is read wheel by wheel
-pub car-read : (l : List Float) (a b c d : WheelCtl) (car : Car) → length l ≡ carLong → a ≡ wheelFrom l 0 → b ≡ wheelFrom l 5 → c ≡ wheelFrom l 10 → d ≡ wheelFrom l 15
+pub car-read : (l : List Float) (a b c d : WheelCtl) (car : Car) → length l ≡ 21 → a ≡ wheelFrom l 0 → b ≡ wheelFrom l 5 → c ≡ wheelFrom l 10 → d ≡ wheelFrom l 15
     → car ≡ record { ctl = a ∷ b ∷ c ∷ d ∷ []; «fuel_spent» = numberAt l 20 } → (car ≡ carFrom l) × (carNumbers car ≡ l)
 unfolding carFrom
 car-read l a b c d car long ea eb ec ed e =

@@ -16,7 +16,7 @@ use Rattle.run.specs.State.{view, Columns}
 use Rattle.run.specs.Start.{Begun, begun, startCauseOf, startValuesOf}
 use Rattle.run.specs.Drive.{driveCauseOf, drivePartsOf}
 use Rattle.run.specs.Settle.{settleCauseOf, settleValuesOf, SettledParts, settledParts, settlePartsOf}
-use Rattle.certificate.specs.Replay.{motionsFrom, forceNumbers}
+use Rattle.certificate.specs.Numbers.{motionsFrom, forceNumbers, carFrom, carNumbers}
 use Rattle.certificate.specs.Batch.{Replay, replay}
 use Rattle.run.specs.declared.state.Run.{Run}
 use Rattle.run.specs.declared.state.Setup.{Setup}
@@ -32,7 +32,7 @@ use Rattle.run.specs.declared.settle.SettleValues.{SettleValues}
 use Rattle.run.specs.declared.sheet.SheetAnswer.{SheetAnswer}
 use Rattle.run.proofs.DriveLaws.{refused-keeps}
 use Rattle.abi.specs.Flat.{flatLaid, flatCurbs, runOf, flatStarted, flatDriven, flatSettled, flatSheet, flatAnswers, flatReplayed, replayColumns, columnsAfter}
-use Rattle.abi.specs.Lent.{carFrom, carNumbers, LentDriven, lentDriven, driveLent, lentSettled, settleLent}
+use Rattle.abi.specs.Lent.{LentDriven, lentDriven, driveLent, lentSettled, settleLent}
 use Rattle.abi.specs.declared.flat.FlatLaid.{FlatLaid}
 use Rattle.abi.specs.declared.flat.FlatCurbs.{FlatCurbs}
 use Rattle.abi.specs.declared.flat.FlatSheet.{FlatSheet}

@@ -13,14 +13,14 @@ use Rattle.run.specs.Settle.{settleAnswer, settleCauseOf, settleValuesOf, settl
 use Rattle.run.specs.Start.{zeroState, startedBy, startAt, startOf}
 use Rattle.certificate.specs.Answers.{Answer}
 use Rattle.certificate.specs.Calls.{Call, Replied, replyOf, repliesOf, stateAfter}
-use Rattle.certificate.specs.Replay.{motionsFrom, forceNumbers, forceFrom}
+use Rattle.certificate.specs.Numbers.{motionsFrom, forceFrom, forcesFrom, forceNumbers, wheelFrom, carFrom, carNumbers}
 use Rattle.run.specs.declared.state.Setup.{Setup}
 use Rattle.run.specs.declared.state.Progress.{Progress}
 use Rattle.run.specs.declared.state.Pose.{Pose}
 use Rattle.run.specs.Start.{Settings, startCause}
 use Rattle.abi.specs.Flat.{flatDriven, flatSettled}
-use Rattle.abi.specs.Lent.{wheelFrom, carFrom, carNumbers, driveLent, settleLent}
-use Rattle.abi.specs.Host.{Kept, keptState, keptFrom, HostCall, valueCall, forcesFrom, driveRead, settleRead, HostReplied, hostReply, hostReplies, keptAfter}
+use Rattle.abi.specs.Lent.{driveLent, settleLent}
+use Rattle.abi.specs.Host.{Kept, keptState, keptFrom, HostCall, valueCall, driveRead, settleRead, HostReplied, hostReply, hostReplies, keptAfter}
 
 -- what is read, and the state that is kept
 abbrev readAs : HostReplied → Replied

@@ -10,12 +10,11 @@ use Rattle.run.specs.State.{State, stateOf, Columns}
 use Rattle.certificate.specs.Answers.{Answer}
 use Rattle.certificate.specs.Answers.Answer.{drove, settled, refused}
 use Rattle.certificate.specs.Calls.{Call}
-use Rattle.certificate.specs.Replay.{motionsFrom, forceFrom}
+use Rattle.certificate.specs.Numbers.{motionsFrom, forcesFrom, carFrom, carNumbers}
 use Rattle.run.specs.declared.state.Setup.{Setup}
 use Rattle.run.specs.declared.state.Progress.{Progress}
 use Rattle.run.specs.declared.state.Pose.{Pose}
-use Rattle.run.specs.declared.dynamics.Force.{Force}
-use Rattle.abi.specs.Lent.{carFrom, carNumbers, driveLent, settleLent}
+use Rattle.abi.specs.Lent.{driveLent, settleLent}
 use Rattle.abi.specs.declared.flat.FlatDriven.{FlatDriven}
 use Rattle.abi.specs.declared.flat.FlatSettled.{FlatSettled}
 
@@ -45,9 +44,6 @@ valueCall (drive a ms fs) = Call.drive a (motionsFrom ms)
 valueCall (settle l x y ps) = Call.settle l x y ps
 
 -- ---- what a host reads: by the cause's number, the forces written, or the values answered
-
-unfoldable pub forcesFrom : List Float → List Force
-forcesFrom l = forceFrom l 0 ∷ forceFrom l 3 ∷ forceFrom l 6 ∷ forceFrom l 9 ∷ []
 
 unfoldable pub driveRead : FlatDriven → List Float → Answer
 driveRead r forces = cond (eqb (r .cause) 0) (drove (forcesFrom forces)) (refused (r .cause))

@@ -1,45 +1,20 @@
 -- Drive and settle for a host that keeps its run where it stands: the car and the sets are lent and changed in place, motions are read and forces written as
 -- numbers. What such a call answers and leaves is said by the call on the parts of a state. For sets of m words that hold `most` tiles. Assumes nothing.
 use mathlib.Core.Bool.{cond}
-use mathlib.Core.List.{List, [], _∷_}
-use Prim.Native.Nat.{ℕ, _+_}
+use mathlib.Core.List.{List}
+use Prim.Native.Nat.{ℕ}
 use lib.Dec.{eqb}
 use lib.Ieee.{Float}
 use Rattle.run.specs.State.{Columns}
-use Rattle.run.specs.Pass.{ctlAt}
 use Rattle.run.specs.Drive.{driveCauseOf, drivePartsOf}
 use Rattle.run.specs.Settle.{settlePartsOf}
-use Rattle.certificate.specs.Replay.{numberAt, motionsFrom, forceNumbers}
-use Rattle.run.specs.declared.state.WheelCtl.{WheelCtl}
+use Rattle.certificate.specs.Numbers.{motionsFrom, forceNumbers, carFrom, carNumbers}
 use Rattle.run.specs.declared.state.Setup.{Setup}
 use Rattle.run.specs.declared.state.Progress.{Progress}
-use Rattle.run.specs.declared.state.Car.{Car}
 use Rattle.run.specs.declared.state.Pose.{Pose}
 use Rattle.abi.specs.Flat.{flatDriven, flatSettled}
 use Rattle.abi.specs.declared.flat.FlatDriven.{FlatDriven}
 use Rattle.abi.specs.declared.flat.FlatSettled.{FlatSettled}
-
--- ---- a car as numbers: five to a wheel, then the fuel spent
-
-abbrev pub carLong : ℕ
-carLong = 21
-
-unfoldable pub wheelFrom : List Float → ℕ → WheelCtl
-wheelFrom l i =
-    record { gas = numberAt l i; brake = numberAt l (i + 1); steer = numberAt l (i + 2); omega = numberAt l (i + 3); phase = numberAt l (i + 4) }
-
-unfoldable pub carFrom : List Float → Car
-carFrom l = record { ctl = wheelFrom l 0 ∷ wheelFrom l 5 ∷ wheelFrom l 10 ∷ wheelFrom l 15 ∷ []; «fuel_spent» = numberAt l 20 }
-
--- and back
-unfoldable pub carNumbers : Car → List Float
-carNumbers car =
-    ctlAt (car .ctl) 0 .gas ∷ ctlAt (car .ctl) 0 .brake ∷ ctlAt (car .ctl) 0 .steer ∷ ctlAt (car .ctl) 0 .omega ∷ ctlAt (car .ctl) 0 .phase
-    ∷ ctlAt (car .ctl) 1 .gas ∷ ctlAt (car .ctl) 1 .brake ∷ ctlAt (car .ctl) 1 .steer ∷ ctlAt (car .ctl) 1 .omega ∷ ctlAt (car .ctl) 1 .phase
-    ∷ ctlAt (car .ctl) 2 .gas ∷ ctlAt (car .ctl) 2 .brake ∷ ctlAt (car .ctl) 2 .steer ∷ ctlAt (car .ctl) 2 .omega ∷ ctlAt (car .ctl) 2 .phase
-    ∷ ctlAt (car .ctl) 3 .gas ∷ ctlAt (car .ctl) 3 .brake ∷ ctlAt (car .ctl) 3 .steer ∷ ctlAt (car .ctl) 3 .omega ∷ ctlAt (car .ctl) 3 .phase
-    ∷ car .«fuel_spent»
-    ∷ []
 
 -- ---- drive
 

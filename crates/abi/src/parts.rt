@@ -2,7 +2,7 @@
 ghost use mathlib.Core.Path.{_≡_};
 ghost use Prim.Native.Nat.{_+_, _≤_};
 ghost use lib.ListN.{length};
-ghost use Rattle.abi.specs.Lent.{carLong, wheelFrom, carFrom, carNumbers};
+ghost use Rattle.certificate.specs.Numbers.{wheelFrom, carFrom, carNumbers};
 use run::state::Car;
 use run::state::WheelCtl;
 
@@ -31,7 +31,7 @@ fn wheel_at(numbers: &[f64], i: usize) -> WheelCtl
 
 // The car that its numbers hold.
 pub(crate) fn car_from(numbers: &[f64]) -> Car
-    requires { ⌜ length (now numbers) ≡ carLong ⌝ }
+    requires { ⌜ length (now numbers) ≡ 21 ⌝ }
     ensures { λ r. ⌜ r ≡ carFrom (now (numbers .entry)) ⌝ }
     ensures { λ r. ⌜ carNumbers r ≡ now (numbers .entry) ⌝ }
 {
@@ -47,7 +47,7 @@ pub(crate) fn car_from(numbers: &[f64]) -> Car
 
 // The car's numbers are written.
 pub(crate) fn put_car(car: Car, numbers: &mut [f64])
-    requires { ⌜ length (now numbers) ≡ carLong ⌝ }
+    requires { ⌜ length (now numbers) ≡ 21 ⌝ }
     ensures { λ _. ⌜ now (numbers .exit) ≡ carNumbers car ⌝ }
 {
     let ctl = car.ctl;

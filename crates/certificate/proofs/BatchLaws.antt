@@ -34,7 +34,8 @@ use Rattle.certificate.specs.Answers.Answer.{refused}
 use Rattle.certificate.specs.Scorer.{Lengths, Opening, Told, History, touchedCount, lapDone, startNumber, scores, keptOf}
 use Rattle.certificate.specs.Certificate.{Lending, lentBy, lengthsOf, Given, callOf, toldOf, callsOf, toldsOf, settingsFor, settingsOn, startOn, layNumber}
 use Rattle.certificate.specs.Certificate.Lending.{laid, short}
-use Rattle.certificate.specs.Replay.{callWords, callNumbers, answerWords, answerNumbers, allWords, allNumbers, partAt, numberAt, motionsFrom, posesFrom}
+use Rattle.certificate.specs.Numbers.{numberAt, motionsFrom, posesFrom}
+use Rattle.certificate.specs.Replay.{callWords, callNumbers, answerWords, answerNumbers, allWords, allNumbers, partAt}
 use Rattle.certificate.specs.ReplaySteps.{lentTo, callFrom, callsTo}
 use Rattle.certificate.specs.Batch.{toldFrom, toldsTo, plainStart, plainAnswers, sheetOn, plainSheet, laidCourse, replayOn, roomFor, replayOf}
 use Rattle.run.specs.declared.start.StartAnswer.{StartAnswer}

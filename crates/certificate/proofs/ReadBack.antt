@@ -9,7 +9,8 @@ use lib.Seq.{take-at, drop-at}
 use lib.Ieee.{Float}
 use Rattle.certificate.specs.Answers.{Answer}
 use Rattle.certificate.specs.Answers.Answer.{drove, settled, refused}
-use Rattle.certificate.specs.Replay.{answerWords, answerNumbers, flag, valuesFrom, forceNumbers, wordsOf, numbersOf, allWords, allNumbers, forceFrom, answerFrom, answersFrom}
+use Rattle.certificate.specs.Numbers.{forceFrom, forcesFrom, forceNumbers}
+use Rattle.certificate.specs.Replay.{answerWords, answerNumbers, flag, valuesFrom, wordsOf, numbersOf, allWords, allNumbers, answerFrom, answersFrom}
 use Rattle.course.specs.Lent.{Lent}
 use Rattle.course.specs.Lay.{CoursePoints}
 use Rattle.course.specs.declared.tiles.TrackPoint.{TrackPoint}
@@ -35,7 +36,7 @@ AllWhole [] = Unit
 AllWhole (a ∷ rest) = Whole a × AllWhole rest
 
 four-back : (fs : List Force) → length fs ≡ 4 → answerFrom (wordsOf (drove fs)) (numbersOf (drove fs)) ≡ drove fs
-unfolding answerFrom wordsOf numbersOf forceNumbers forceFrom
+unfolding answerFrom wordsOf numbersOf forceNumbers forcesFrom forceFrom
 four-back (a ∷ b ∷ c ∷ d ∷ []) e = refl
 four-back [] e = absurd (omega (arith, e))
 four-back (a ∷ []) e = absurd (omega (arith, e))

@@ -16,7 +16,8 @@ use Rattle.run.specs.Drive.{Driven, driven, driveOf}
 use Rattle.run.specs.Settle.{Done, done, settleOf}
 use Rattle.certificate.specs.Calls.{Call, driveSaid, settleSaid, replyOf, repliesOf, stateAfter}
 use Rattle.certificate.specs.Calls.Call.{drive, settle}
-use Rattle.certificate.specs.Replay.{answerWords, answerNumbers, flag, forceNumbers, motionsFrom, numberAt, posesFrom, wordsOf, numbersOf}
+use Rattle.certificate.specs.Numbers.{forceNumbers, motionsFrom, numberAt, posesFrom}
+use Rattle.certificate.specs.Replay.{answerWords, answerNumbers, flag, wordsOf, numbersOf}
 use Rattle.certificate.specs.Replay.{callWords, callNumbers, partAt, allWords, allNumbers}
 use Rattle.certificate.specs.ReplaySteps.{lentTo, callFrom, callsTo}
 use Rattle.certificate.specs.Answers.{Answer}

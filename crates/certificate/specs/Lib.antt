@@ -11,6 +11,8 @@ pub mod Calls
 -- demand 3, clause by clause
 pub mod Certificate
 -- ---- the replay
+-- motions, poses, forces and a car as numbers
+pub mod Numbers
 -- calls and answers in columns of words and numbers
 pub mod Replay
 -- what a replay writes and answers

@@ -1,5 +1,5 @@
 -- `abi::parts::put_car` meets its contract. Assumes nothing.
-use Rattle.abi.specs.Lent.{carNumbers}
+use Rattle.certificate.specs.Numbers.{carNumbers}
 use Rattle.run.specs.Pass.{ctlAt}
 use Rattle.certificate.proofs.ReplayLaws.{written-over}
 use native.Mathlib.Omega.{arith}
