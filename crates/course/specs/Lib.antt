@@ -61,5 +61,5 @@ pub mod RootSteps
 pub mod IndexSteps
 -- of tiles, points and curbs
 pub mod CourseSteps
--- of checkpoints, walk, track and lay
+-- of checkpoints, finder, step, walk, track and lay
 pub mod LaySteps
