@@ -82,22 +82,29 @@ module _ (m : ℕ) (f : TrackStep → Float) (ps : List TrackStep) (c c₀ : Lis
     moved-kept = ap (drop m) moved ∙ drop-past (take n (drop from c)) c n m part-long (omega arith) ∙ walked-kept
 
 -- ---- the attempt
-module _ (cs : List Checkpoint) (a b x y a₁ b₁ x₁ y₁ : List Float) (w : ℕ) (ok : Bool) (d : Trod cs a b x y a₁ b₁ x₁ y₁ w ok) where
-  abbrev ps : List TrackStep
-  ps = walkOf cs .steps
+-- the columns have the length that lay states
+pub record Wide (a b u v : List Float) : Type 0 where
+  pub alpha : mostPoints ≤ length a
+  pub beta : mostPoints ≤ length b
+  pub x : mostPoints ≤ length u
+  pub y : mostPoints ≤ length v
 
+abbrev steps-of : List Checkpoint → List TrackStep
+steps-of cs = walkOf cs .steps
+
+module _ {cs : List Checkpoint} {a b x y a₁ b₁ x₁ y₁ : List Float} {w : ℕ} {ok : Bool} (d : Trod cs a b x y a₁ b₁ x₁ y₁ w ok) where
   pub front : Front (walkOf cs .steps) a₁ b₁ x₁ y₁
   front = record {
-    alpha = walked-front mostPoints (λ (p : TrackStep). p .alpha) ps a₁ a w (d .alpha) (d .count) (d .few);
-    beta = walked-front mostPoints (λ (p : TrackStep). p .beta) ps b₁ b w (d .beta) (d .count) (d .few);
-    x = walked-front mostPoints (λ (p : TrackStep). p .x) ps x₁ x w (d .x) (d .count) (d .few);
-    y = walked-front mostPoints (λ (p : TrackStep). p .y) ps y₁ y w (d .y) (d .count) (d .few);
+    alpha = walked-front mostPoints (λ (p : TrackStep). p .alpha) (steps-of cs) a₁ a w (d .alpha) (d .count) (d .few);
+    beta = walked-front mostPoints (λ (p : TrackStep). p .beta) (steps-of cs) b₁ b w (d .beta) (d .count) (d .few);
+    x = walked-front mostPoints (λ (p : TrackStep). p .x) (steps-of cs) x₁ x w (d .x) (d .count) (d .few);
+    y = walked-front mostPoints (λ (p : TrackStep). p .y) (steps-of cs) y₁ y w (d .y) (d .count) (d .few);
   }
 
   pub some : ok ≡ true → 0 < w
   some h = rw (d .count) (walk-some cs (sym (d .result) ∙ h))
 
-  accepted-is : ok ≡ true → map pointOf (trackOf ps) ≡ attemptOn cs
+  accepted-is : ok ≡ true → map pointOf (trackOf (steps-of cs)) ≡ attemptOn cs
   unfolding attemptOn accepted
   accepted-is h = rw (← d .result, h)
 
@@ -113,30 +120,30 @@ module _ (cs : List Checkpoint) (a b x y a₁ b₁ x₁ y₁ : List Float) (w : 
         beta = sym (ap betas n);
         x = sym (ap xs n);
         y = sym (ap ys n);
-        kept-a = walked-kept mostPoints (λ (p : TrackStep). p .alpha) ps a₁ a w (d .alpha) (d .count) (d .few);
-        kept-b = walked-kept mostPoints (λ (p : TrackStep). p .beta) ps b₁ b w (d .beta) (d .count) (d .few);
-        kept-x = walked-kept mostPoints (λ (p : TrackStep). p .x) ps x₁ x w (d .x) (d .count) (d .few);
-        kept-y = walked-kept mostPoints (λ (p : TrackStep). p .y) ps y₁ y w (d .y) (d .count) (d .few);
+        kept-a = walked-kept mostPoints (λ (p : TrackStep). p .alpha) (steps-of cs) a₁ a w (d .alpha) (d .count) (d .few);
+        kept-b = walked-kept mostPoints (λ (p : TrackStep). p .beta) (steps-of cs) b₁ b w (d .beta) (d .count) (d .few);
+        kept-x = walked-kept mostPoints (λ (p : TrackStep). p .x) (steps-of cs) x₁ x w (d .x) (d .count) (d .few);
+        kept-y = walked-kept mostPoints (λ (p : TrackStep). p .y) (steps-of cs) y₁ y w (d .y) (d .count) (d .few);
       }
 
-  pub attempt-good : (b₂ x₂ y₂ : List Float) (from n : ℕ) → ok ≡ true → from + n ≤ w → Cut (walkOf cs .steps) from n
+  pub attempt-good : {b₂ x₂ y₂ : List Float} {from n : ℕ} → ok ≡ true → from + n ≤ w → Cut (walkOf cs .steps) from n
       → b₂ ≡ take n (drop from b₁) ++ drop n b₁ → x₂ ≡ take n (drop from x₁) ++ drop n x₁ → y₂ ≡ take n (drop from y₁) ++ drop n y₁
       → InFront (attemptOn cs) a b x y a₁ b₂ x₂ y₂ n
-  attempt-good b₂ x₂ y₂ from n h fits cut mb mx my =
+  attempt-good {b₂} {x₂} {y₂} {from} {n} h fits cut mb mx my =
       let i = accepted-is h in
       record {
-        count = cut .size ∙ sym (length-map (trackOf ps) pointOf) ∙ ap length i;
-        beta = moved-front mostPoints (λ (p : TrackStep). p .beta) ps b₁ b w (d .beta) (d .count) (d .few) b₂ from n mb fits cut ∙ betas-of (trackOf ps) ∙ ap betas i;
-        x = moved-front mostPoints (λ (p : TrackStep). p .x) ps x₁ x w (d .x) (d .count) (d .few) x₂ from n mx fits cut ∙ xs-of (trackOf ps) ∙ ap xs i;
-        y = moved-front mostPoints (λ (p : TrackStep). p .y) ps y₁ y w (d .y) (d .count) (d .few) y₂ from n my fits cut ∙ ys-of (trackOf ps) ∙ ap ys i;
-        kept-a = walked-kept mostPoints (λ (p : TrackStep). p .alpha) ps a₁ a w (d .alpha) (d .count) (d .few);
-        kept-b = moved-kept mostPoints (λ (p : TrackStep). p .beta) ps b₁ b w (d .beta) (d .count) (d .few) b₂ from n mb fits cut;
-        kept-x = moved-kept mostPoints (λ (p : TrackStep). p .x) ps x₁ x w (d .x) (d .count) (d .few) x₂ from n mx fits cut;
-        kept-y = moved-kept mostPoints (λ (p : TrackStep). p .y) ps y₁ y w (d .y) (d .count) (d .few) y₂ from n my fits cut;
+        count = cut .size ∙ sym (length-map (trackOf (steps-of cs)) pointOf) ∙ ap length i;
+        beta = moved-front mostPoints (λ (p : TrackStep). p .beta) (steps-of cs) b₁ b w (d .beta) (d .count) (d .few) b₂ from n mb fits cut ∙ betas-of (trackOf (steps-of cs)) ∙ ap betas i;
+        x = moved-front mostPoints (λ (p : TrackStep). p .x) (steps-of cs) x₁ x w (d .x) (d .count) (d .few) x₂ from n mx fits cut ∙ xs-of (trackOf (steps-of cs)) ∙ ap xs i;
+        y = moved-front mostPoints (λ (p : TrackStep). p .y) (steps-of cs) y₁ y w (d .y) (d .count) (d .few) y₂ from n my fits cut ∙ ys-of (trackOf (steps-of cs)) ∙ ap ys i;
+        kept-a = walked-kept mostPoints (λ (p : TrackStep). p .alpha) (steps-of cs) a₁ a w (d .alpha) (d .count) (d .few);
+        kept-b = moved-kept mostPoints (λ (p : TrackStep). p .beta) (steps-of cs) b₁ b w (d .beta) (d .count) (d .few) b₂ from n mb fits cut;
+        kept-x = moved-kept mostPoints (λ (p : TrackStep). p .x) (steps-of cs) x₁ x w (d .x) (d .count) (d .few) x₂ from n mx fits cut;
+        kept-y = moved-kept mostPoints (λ (p : TrackStep). p .y) (steps-of cs) y₁ y w (d .y) (d .count) (d .few) y₂ from n my fits cut;
       }
 
 -- the attempt with drawn checkpoints
-pub drawn-front : (g : SplitMix64) (d : Drawn) (a b x y a′ b′ x′ y′ : List Float) (n : ℕ) → d ≡ drawnOf g → InFront (attemptOn (d .checkpoints)) a b x y a′ b′ x′ y′ n
+pub drawn-front : (g : SplitMix64) {d : Drawn} {a b x y a′ b′ x′ y′ : List Float} {n : ℕ} → d ≡ drawnOf g → InFront (attemptOn (d .checkpoints)) a b x y a′ b′ x′ y′ n
     → InFront (attemptOn (checkpointsOf 12 g)) a b x y a′ b′ x′ y′ n
 unfolding drawnOf
-drawn-front g d a b x y a′ b′ x′ y′ n e h = subst (λ (z : Drawn). InFront (attemptOn (z .checkpoints)) a b x y a′ b′ x′ y′ n) e h
+drawn-front g {a = a} {b} {x} {y} {a′} {b′} {x′} {y′} {n} e h = subst (λ (z : Drawn). InFront (attemptOn (z .checkpoints)) a b x y a′ b′ x′ y′ n) e h

@@ -6,10 +6,13 @@ use Rattle.course.specs.LaySteps.{drawnOf}
 use borrow.Author.Needs.{needs}
 use Rattle.course.proofs.lay.try_generate.Statement.{statement}
 use Rattle.course.proofs.lay.try_generate.Tie as tie
-use Rattle.course.proofs.lay.try_generate.Reads as reads
-use Rattle.course.proofs.lay.try_generate.Lts as lts
-use Rattle.course.proofs.checkpoints.checkpoints.Reads as checkpoints-reads
-use Rattle.course.proofs.lay.attempt.Reads as attempt-reads
+
+-- The attempt has ended, and the checkpoints are drawn, each reached from a later place.
+abbrev tried : tie.After-slice-known8 → tie.After-attempt
+tried c = c .before .before .before .before .before .before .before .before
+
+abbrev drawn : tie.After-attempt → tie.After-checkpoints
+drawn c = c .before .before .before .before .before .before .before
 
 checkpoints-requires : tie.Need-checkpoints-requires
 checkpoints-requires c κs = search needs
@@ -32,8 +35,8 @@ same-length-4 c = search needs
 returns : tie.Need-returns
 unfolding drawnOf
 returns c =
-    let d = c .before .before .before .before .before .before .before .before .before .before .before .before .before .before .before .checkpoints in
-    (drawn-front _ (d .result) _ _ _ _ _ _ _ _ _ (d .ensures) (c .before .before .before .before .before .before .before .before .attempt .ensures), ap (λ (z : Drawn). z .rng) (d .ensures))
+    let d = drawn (tried c) .checkpoints in
+    (drawn-front _ (d .ensures) (tried c .attempt .ensures), ap (λ (z : Drawn). z .rng) (d .ensures))
 
 pub try-generate-spec : {M : Type 1} → statement M
 try-generate-spec =
