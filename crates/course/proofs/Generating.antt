@@ -89,13 +89,13 @@ pub record AllBeyond (a₀ b₀ x₀ y₀ a b x y : List Float) : Type 0 where
 same-column : (m : ℕ) (l : List Float) → m ≤ length l → Beyond m l l
 same-column m l h = record { kept = refl; same = refl; long = h }
 
-pub untouched : (a b x y : List Float) → mostPoints ≤ length a → mostPoints ≤ length b → mostPoints ≤ length x → mostPoints ≤ length y → AllBeyond a b x y a b x y
-untouched a b x y la lb lx ly = record { alpha = same-column _ _ la; beta = same-column _ _ lb; east = same-column _ _ lx; north = same-column _ _ ly }
+pub untouched : {a b x y : List Float} → mostPoints ≤ length a → mostPoints ≤ length b → mostPoints ≤ length x → mostPoints ≤ length y → AllBeyond a b x y a b x y
+untouched la lb lx ly = record { alpha = same-column _ _ la; beta = same-column _ _ lb; east = same-column _ _ lx; north = same-column _ _ ly }
 
 further : (m : ℕ) (l₀ l l′ : List Float) → Beyond m l₀ l → drop m l′ ≡ drop m l → length l′ ≡ length l → Beyond m l₀ l′
 further m l₀ l l′ k e h = record { kept = e ∙ k .kept; same = h ∙ k .same; long = rw h (k .long) }
 
-module _ (ps : List TrackPoint) (a₀ b₀ x₀ y₀ a b x y a′ b′ x′ y′ : List Float) (n : ℕ) (s : AllBeyond a₀ b₀ x₀ y₀ a b x y) (d : InFront ps a b x y a′ b′ x′ y′ n) where
+module _ {ps : List TrackPoint} {a₀ b₀ x₀ y₀ a b x y a′ b′ x′ y′ : List Float} {n : ℕ} (s : AllBeyond a₀ b₀ x₀ y₀ a b x y) (d : InFront ps a b x y a′ b′ x′ y′ n) where
   -- what stands in front of changed columns, seen from those before
   onto : InFront ps a₀ b₀ x₀ y₀ a′ b′ x′ y′ n
   onto = record {
@@ -150,8 +150,8 @@ pub record Made (c : CoursePoints) (a b x y a′ b′ x′ y′ : List Float) (n
   pub front : InFront (c .points) a b x y a′ b′ x′ y′ n
   pub ring : fallback ≡ c .fallback
 
-made : (c : CoursePoints) (ps : List TrackPoint) (f : Bool) (a b x y a′ b′ x′ y′ : List Float) (n : ℕ) → c ≡ record { points = ps; fallback = f } → InFront ps a b x y a′ b′ x′ y′ n → Made c a b x y a′ b′ x′ y′ n f
-made c ps f a b x y a′ b′ x′ y′ n e d =
+made : {c : CoursePoints} {ps : List TrackPoint} {f : Bool} {a b x y a′ b′ x′ y′ : List Float} {n : ℕ} → c ≡ record { points = ps; fallback = f } → InFront ps a b x y a′ b′ x′ y′ n → Made c a b x y a′ b′ x′ y′ n f
+made {f = f} {a} {b} {x} {y} {a′} {b′} {x′} {y′} {n} e d =
     subst (λ (z : CoursePoints). Made z a b x y a′ b′ x′ y′ n f) (sym e) (record { front = d; ring = refl })
 
 pub record Trying (attempts seed : ℕ) (a₀ b₀ x₀ y₀ a b x y : List Float) (g : SplitMix64) (k : ℕ) : Type 0 where
@@ -159,51 +159,53 @@ pub record Trying (attempts seed : ℕ) (a₀ b₀ x₀ y₀ a b x y : List Floa
   pub rest : courseWithin attempts seed ≡ courseFrom (attempts - k) g
   pub kept : AllBeyond a₀ b₀ x₀ y₀ a b x y
 
-pub trying-none : (attempts seed : ℕ) (a b x y : List Float) (g : SplitMix64) → g ≡ seeded seed → mostPoints ≤ length a → mostPoints ≤ length b → mostPoints ≤ length x → mostPoints ≤ length y
+pub trying-none : {attempts seed : ℕ} {a b x y : List Float} {g : SplitMix64} → g ≡ seeded seed → mostPoints ≤ length a → mostPoints ≤ length b → mostPoints ≤ length x → mostPoints ≤ length y
     → Trying attempts seed a b x y a b x y g 0
 unfolding courseWithin
-trying-none attempts seed a b x y g e la lb lx ly = record { few = omega arith; rest = ap (courseFrom attempts) (sym e) ∙ ap (λ (m : ℕ). courseFrom m g) (all attempts); kept = untouched a b x y la lb lx ly }
+trying-none {attempts} {g = g} e la lb lx ly = record { few = omega arith; rest = ap (courseFrom attempts) (sym e) ∙ ap (λ (m : ℕ). courseFrom m g) (all attempts); kept = untouched la lb lx ly }
   where
     all : (m : ℕ) → m ≡ m - 0
     all m = omega arith
 
-module _ (attempts seed : ℕ) (a₀ b₀ x₀ y₀ a b x y : List Float) (g : SplitMix64) (k : ℕ) (s : Trying attempts seed a₀ b₀ x₀ y₀ a b x y g k) where
-  module _ (h : k < attempts) (a′ b′ x′ y′ : List Float) (n : ℕ) (d : InFront (attemptOn (checkpointsOf 12 g)) a b x y a′ b′ x′ y′ n) where
+module _ {attempts seed : ℕ} {a₀ b₀ x₀ y₀ a b x y : List Float} {g : SplitMix64} {k : ℕ} (s : Trying attempts seed a₀ b₀ x₀ y₀ a b x y g k) where
+  module _ (h : k < attempts) {a′ b′ x′ y′ : List Float} {n : ℕ} (d : InFront (attemptOn (checkpointsOf 12 g)) a b x y a′ b′ x′ y′ n) where
     left : attempts - k ≡ 0 → ⊥
     left q = omega (arith, q)
 
-    pub trying-more : (r : SplitMix64) → r ≡ after 24 g → n ≡ 0 → length a′ ≡ length a → length b′ ≡ length b → length x′ ≡ length x → length y′ ≡ length y → Trying attempts seed a₀ b₀ x₀ y₀ a′ b′ x′ y′ r (k + 1)
-    trying-more r er z ea eb ex ey =
+    pub trying-more : {r : SplitMix64} → r ≡ after 24 g → n ≤ 0 → length a′ ≡ length a → length b′ ≡ length b → length x′ ≡ length x → length y′ ≡ length y → Trying attempts seed a₀ b₀ x₀ y₀ a′ b′ x′ y′ r (k + 1)
+    trying-more er z ea eb ex ey =
+        let none : n ≡ 0 = omega arith in
         let m : attempts - k - 1 ≡ attempts - (k + 1) = omega arith in
         record {
           few = omega arith;
-          rest = s .rest ∙ opened (attempts - k) g left ∙ or-none (attemptOn (checkpointsOf 12 g)) (courseFrom (attempts - k - 1) (after 24 g)) (sym (d .count) ∙ z)
+          rest = s .rest ∙ opened (attempts - k) g left ∙ or-none (attemptOn (checkpointsOf 12 g)) (courseFrom (attempts - k - 1) (after 24 g)) (sym (d .count) ∙ none)
               ∙ ap₂ (λ (i : ℕ) (z : SplitMix64). courseFrom i z) m (sym er);
-          kept = all-further _ a₀ b₀ x₀ y₀ a b x y a′ b′ x′ y′ n (s .kept) d ea eb ex ey;
+          kept = all-further (s .kept) d ea eb ex ey;
         }
 
     pub reached-here : 0 < n → Made (courseWithin attempts seed) a₀ b₀ x₀ y₀ a′ b′ x′ y′ n false
     reached-here p =
-        made (courseWithin attempts seed) _ false a₀ b₀ x₀ y₀ a′ b′ x′ y′ n
+        made
         (s .rest ∙ opened (attempts - k) g left ∙ or-some (attemptOn (checkpointsOf 12 g)) (courseFrom (attempts - k - 1) (after 24 g)) (rw (← d .count) p))
-        (onto _ a₀ b₀ x₀ y₀ a b x y a′ b′ x′ y′ n (s .kept) d)
+        (onto (s .kept) d)
 
-  pub reached-ring : attempts ≤ k → (b′ x′ y′ : List Float) → b′ ≡ betas (ringOf 100) ++ drop 100 b → x′ ≡ xs (ringOf 100) ++ drop 100 x → y′ ≡ ys (ringOf 100) ++ drop 100 y
+  pub reached-ring : attempts ≤ k → {b′ x′ y′ : List Float} → b′ ≡ betas (ringOf 100) ++ drop 100 b → x′ ≡ xs (ringOf 100) ++ drop 100 x → y′ ≡ ys (ringOf 100) ++ drop 100 y
       → Made (courseWithin attempts seed) a₀ b₀ x₀ y₀ a b′ x′ y′ 100 true
-  reached-ring h b′ x′ y′ eb ex ey =
+  reached-ring h {b′} {x′} {y′} eb ex ey =
       let z : attempts - k ≡ 0 = omega arith in
-      made (courseWithin attempts seed) (ringOf 100) true a₀ b₀ x₀ y₀ a b′ x′ y′ 100 (s .rest ∙ course-ring (attempts - k) g z)
-      (onto _ a₀ b₀ x₀ y₀ a b x y a b′ x′ y′ 100 (s .kept) (ring-front a b x y b′ x′ y′ eb ex ey))
+      made (s .rest ∙ course-ring (attempts - k) g z)
+      (onto (s .kept) (ring-front a b x y b′ x′ y′ eb ex ey))
 
 -- ---- one attempt with given checkpoints
-module _ (cs : List Checkpoint) (a₀ b₀ x₀ y₀ a b x y : List Float) (n : ℕ) (d : InFront (attemptOn cs) a₀ b₀ x₀ y₀ a b x y n) where
+module _ (cs : List Checkpoint) {a₀ b₀ x₀ y₀ a b x y : List Float} {n : ℕ} (d : InFront (attemptOn cs) a₀ b₀ x₀ y₀ a b x y n) where
   pub on-here : 0 < n → Made (courseOn cs) a₀ b₀ x₀ y₀ a b x y n false
   unfolding courseOn
-  on-here p = made (courseOn cs) _ false a₀ b₀ x₀ y₀ a b x y n (or-some (attemptOn cs) ringCourse (rw (← d .count) p)) d
+  on-here p = made (or-some (attemptOn cs) ringCourse (rw (← d .count) p)) d
 
-  pub on-ring : n ≡ 0 → AllBeyond a₀ b₀ x₀ y₀ a b x y → (b′ x′ y′ : List Float) → b′ ≡ betas (ringOf 100) ++ drop 100 b → x′ ≡ xs (ringOf 100) ++ drop 100 x → y′ ≡ ys (ringOf 100) ++ drop 100 y
+  pub on-ring : n ≤ 0 → AllBeyond a₀ b₀ x₀ y₀ a b x y → {b′ x′ y′ : List Float} → b′ ≡ betas (ringOf 100) ++ drop 100 b → x′ ≡ xs (ringOf 100) ++ drop 100 x → y′ ≡ ys (ringOf 100) ++ drop 100 y
       → Made (courseOn cs) a₀ b₀ x₀ y₀ a b′ x′ y′ 100 true
   unfolding courseOn
-  on-ring z s b′ x′ y′ eb ex ey =
-      made (courseOn cs) (ringOf 100) true a₀ b₀ x₀ y₀ a b′ x′ y′ 100 (or-none (attemptOn cs) ringCourse (sym (d .count) ∙ z))
-      (onto _ a₀ b₀ x₀ y₀ a b x y a b′ x′ y′ 100 s (ring-front a b x y b′ x′ y′ eb ex ey))
+  on-ring z s {b′} {x′} {y′} eb ex ey =
+      let none : n ≡ 0 = omega arith in
+      made (or-none (attemptOn cs) ringCourse (sym (d .count) ∙ none))
+      (onto s (ring-front a b x y b′ x′ y′ eb ex ey))

@@ -1,15 +1,32 @@
 -- `course::lay::generate_on` meets its contract. Assumes nothing.
-use native.Mathlib.Omega.{arith}
-use Prim.Native.Nat.{_-_}
-use mathlib.Core.Path.{_≡_}
-use Rattle.course.proofs.Generating.{untouched, all-further, on-here, on-ring}
 use borrow.Author.Needs.{needs}
+use Rattle.course.proofs.Generating.{AllBeyond, untouched, all-further, on-here, on-ring}
 use Rattle.course.proofs.lay.generate_on.Statement.{statement}
 use Rattle.course.proofs.lay.generate_on.Tie as tie
-use Rattle.course.proofs.lay.generate_on.Reads as reads
-use Rattle.course.proofs.lay.generate_on.Lts as lts
-use Rattle.course.proofs.lay.attempt.Reads as attempt-reads
-use Rattle.course.proofs.lay.ring_points.Reads as ring-points-reads
+
+-- The places that the answers name, each reached from a later one: the call is made, the attempt has ended, it is refused, and the
+-- ring stands in front.
+abbrev entry : tie.After-attempt → tie.Start
+entry c = c .before .before .before .before .before .before .before .before .before
+
+abbrev tried : tie.After-slice-known8 → tie.After-attempt
+tried c = c .before .before .before .before .before .before .before .before
+
+abbrev refused : tie.After-ring-points-arg3 → tie.Else1
+refused c = c .before .before .before
+
+abbrev ringed : tie.After-slice-known11 → tie.After-ring-points
+ringed c = c .before .before .before .before .before .before
+
+-- what the attempt does not touch
+beyond : (c : tie.After-attempt) →
+    let a = entry c .args in
+    let t = c .attempt .last in
+    AllBeyond (a .alpha .now) (a .beta .now) (a .x .now) (a .y .now) (t .1 .0) (t .1 .1 .0) (t .1 .1 .1 .0) (t .1 .1 .1 .1 .0)
+beyond c =
+    let s = entry c .pre in
+    let k = c .attempt .kept in
+    all-further (untouched (s .0) (s .1 .0) (s .1 .1 .0) (s .1 .1 .1)) (c .attempt .ensures) (k .1 .0) (k .1 .1 .0) (k .1 .1 .1 .0) (k .1 .1 .1 .1 .0)
 
 attempt-requires : tie.Need-attempt-requires
 attempt-requires c κs = search needs
@@ -27,15 +44,10 @@ same-length-4 : tie.Need-same-length-4
 same-length-4 c = search needs
 
 returns : tie.Need-returns
-returns c = let m = on-here _ _ _ _ _ _ _ _ _ _ (c .before .before .before .before .before .before .before .before .before .attempt .ensures) (c .if1 .taken) in (m .front, m .ring)
+returns c = let m = on-here _ (tried (c .before) .attempt .ensures) (c .if1 .taken) in (m .front, m .ring)
 
 ring-points-requires : tie.Need-ring-points-requires
-ring-points-requires c κs =
-    let t = c .before .before .before .before .before .before .before .before .before .before .before .before .attempt in
-    let q = c .before .before .before .before .before .before .before .before .before .before .before .before .before .before .before .before .before .before .before .before .before .pre in
-    let k = t .kept in
-    let v = all-further _ _ _ _ _ _ _ _ _ _ _ _ _ _ (untouched _ _ _ _ (q .0) (q .1 .0) (q .1 .1 .0) (q .1 .1 .1)) (t .ensures) (k .1 .0) (k .1 .1 .0) (k .1 .1 .1 .0) (k .1 .1 .1 .1 .0) in
-    (v .beta .long, (v .east .long, v .north .long))
+ring-points-requires c κs = let v = beyond (tried (refused c .before)) in (v .beta .long, (v .east .long, v .north .long))
 
 same-length-5 : tie.Need-same-length-5
 same-length-5 c = search needs
@@ -51,13 +63,10 @@ same-length-8 c = search needs
 
 returns-2 : tie.Need-returns-2
 returns-2 c =
-    let t = c .before .before .before .before .before .before .before .before .before .before .before .before .before .before .before .before .before .before .before .attempt in
-    let q = c .before .before .before .before .before .before .before .before .before .before .before .before .before .before .before .before .before .before .before .before .before .before .before .before .before .before .before .before .pre in
-    let k = t .kept in
-    let v = all-further _ _ _ _ _ _ _ _ _ _ _ _ _ _ (untouched _ _ _ _ (q .0) (q .1 .0) (q .1 .1 .0) (q .1 .1 .1)) (t .ensures) (k .1 .0) (k .1 .1 .0) (k .1 .1 .1 .0) (k .1 .1 .1 .1 .0) in
-    let r = c .before .before .before .before .before .before .ring-points in
-    let z : t .result ≡ 0 = omega (arith, c .before .before .before .before .before .before .before .before .before .before .if1 .left) in
-    let m = on-ring _ _ _ _ _ _ _ _ _ _ (t .ensures) z v _ _ _ (r .ensures .0) (r .ensures .1 .0) (r .ensures .1 .1) in
+    let e = refused (ringed c .before) in
+    let t = tried (e .before) in
+    let r = ringed c .ring-points .ensures in
+    let m = on-ring _ (t .attempt .ensures) (e .if1 .left) (beyond t) (r .0) (r .1 .0) (r .1 .1) in
     (m .front, m .ring)
 
 pub generate-on-spec : {M : Type 1} → statement M

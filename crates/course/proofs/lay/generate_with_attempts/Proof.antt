@@ -1,16 +1,9 @@
 -- `course::lay::generate_with_attempts` meets its contract. Assumes nothing.
-use borrow.Author.Needs.{needs}
-use native.Mathlib.Omega.{arith}
 use Prim.Native.Nat.{_-_}
-use mathlib.Core.Path.{_≡_}
+use borrow.Author.Needs.{needs}
 use Rattle.course.proofs.Generating.{Trying, trying-none, trying-more, reached-here, reached-ring}
 use Rattle.course.proofs.lay.generate_with_attempts.Statement.{statement}
 use Rattle.course.proofs.lay.generate_with_attempts.Tie as tie
-use Rattle.course.proofs.lay.generate_with_attempts.Reads as reads
-use Rattle.course.proofs.lay.generate_with_attempts.Lts as lts
-use Rattle.course.proofs.lay.ring_points.Reads as ring-points-reads
-use Rattle.course.proofs.lay.try_generate.Reads as try-generate-reads
-use Rattle.rng.proofs.SplitMix64.from_seed.Reads as from-seed-reads
 
 abbrev Inv-loop : tie.InvT-loop
 Inv-loop attempts seed alpha₀ beta₀ x₀ y₀ g₀ k₀ alpha beta x y g k = Trying attempts seed alpha₀ beta₀ x₀ y₀ alpha beta x y g k
@@ -18,14 +11,32 @@ Inv-loop attempts seed alpha₀ beta₀ x₀ y₀ g₀ k₀ alpha beta x y g k =
 abbrev μ-loop : tie.MeasureT-loop
 μ-loop attempts seed alpha₀ beta₀ x₀ y₀ g₀ k₀ alpha beta x y g k = attempts - k
 
+-- The places that the answers name, each reached from a later one: a turn begins, its attempt has ended; the attempts are used up,
+-- and the ring stands in front.
+abbrev turn : tie.After-try-generate-arg4 Inv-loop μ-loop → tie.In-loop Inv-loop μ-loop
+turn c = c .before .before .before .before
+
+abbrev tried : tie.After-slice-known8 Inv-loop μ-loop → tie.After-try-generate Inv-loop μ-loop
+tried c = c .before .before .before .before .before .before .before .before
+
+abbrev used-up : tie.After-ring-points-arg3 Inv-loop μ-loop → tie.After-loop Inv-loop μ-loop
+used-up c = c .before .before .before
+
+abbrev ringed : tie.After-slice-known11 Inv-loop μ-loop → tie.After-ring-points Inv-loop μ-loop
+ringed c = c .before .before .before .before .before .before
+
 from-seed-requires : tie.Need-from-seed-requires Inv-loop μ-loop
 from-seed-requires c κs = search needs
 
 loop-holds : tie.Need-loop-holds Inv-loop μ-loop
-loop-holds c = let q = c .before .before .before .before .before .pre in trying-none _ _ _ _ _ _ _ (c .from-seed .ensures) (q .0) (q .1 .0) (q .1 .1 .0) (q .1 .1 .1)
+loop-holds c =
+    let q = c .before .before .before .before .before .pre in
+    trying-none (c .from-seed .ensures) (q .0) (q .1 .0) (q .1 .1 .0) (q .1 .1 .1)
 
 try-generate-requires : tie.Need-try-generate-requires Inv-loop μ-loop
-try-generate-requires c κs = let v = c .before .before .before .before .before .loop .inv .kept in (v .alpha .long, (v .beta .long, (v .east .long, v .north .long)))
+try-generate-requires c κs =
+    let v = turn c .before .loop .inv .kept in
+    (v .alpha .long, (v .beta .long, (v .east .long, v .north .long)))
 
 same-length : tie.Need-same-length Inv-loop μ-loop
 same-length c = search needs
@@ -41,9 +52,9 @@ same-length-4 c = search needs
 
 returns : tie.Need-returns Inv-loop μ-loop
 returns c =
-    let t = c .before .before .before .before .before .before .before .before .before .try-generate in
-    let i = c .before .before .before .before .before .before .before .before .before .before .before .before .before .before in
-    let m = reached-here _ _ _ _ _ _ _ _ _ _ _ _ (i .before .loop .inv) (i .loop-test .taken) _ _ _ _ _ (t .ensures .0) (c .if1 .taken) in
+    let t = tried (c .before) in
+    let i = turn (t .before) in
+    let m = reached-here (i .before .loop .inv) (i .loop-test .taken) (t .try-generate .ensures .0) (c .if1 .taken) in
     (m .front, m .ring)
 
 add-k : tie.Need-add-k Inv-loop μ-loop
@@ -54,14 +65,14 @@ loop-less c = search needs
 
 loop-again : tie.Need-loop-again Inv-loop μ-loop
 loop-again c =
-    let t = c .before .before .before .before .before .before .before .before .before .before .try-generate in
-    let i = c .before .before .before .before .before .before .before .before .before .before .before .before .before .before .before in
-    let k = t .kept in
-    let z : t .result .n ≡ 0 = omega (arith, c .before .if1 .left) in
-    trying-more _ _ _ _ _ _ _ _ _ _ _ _ (i .before .loop .inv) (i .loop-test .taken) _ _ _ _ _ (t .ensures .0) _ (t .ensures .1) z (k .1 .0) (k .1 .1 .0) (k .1 .1 .1 .0) (k .1 .1 .1 .1 .0)
+    let t = tried (c .before .before) in
+    let i = turn (t .before) in
+    let e = t .try-generate .ensures in
+    let k = t .try-generate .kept in
+    trying-more (i .before .loop .inv) (i .loop-test .taken) (e .0) (e .1) (c .before .if1 .left) (k .1 .0) (k .1 .1 .0) (k .1 .1 .1 .0) (k .1 .1 .1 .1 .0)
 
 ring-points-requires : tie.Need-ring-points-requires Inv-loop μ-loop
-ring-points-requires c κs = let v = c .before .before .before .before .loop .inv .kept in (v .beta .long, (v .east .long, v .north .long))
+ring-points-requires c κs = let v = used-up c .before .loop .inv .kept in (v .beta .long, (v .east .long, v .north .long))
 
 same-length-5 : tie.Need-same-length-5 Inv-loop μ-loop
 same-length-5 c = search needs
@@ -77,9 +88,9 @@ same-length-8 c = search needs
 
 returns-2 : tie.Need-returns-2 Inv-loop μ-loop
 returns-2 c =
-    let r = c .before .before .before .before .before .before .ring-points in
-    let a = c .before .before .before .before .before .before .before .before .before .before in
-    let m = reached-ring _ _ _ _ _ _ _ _ _ _ _ _ (a .before .loop .inv) (a .loop-test .left) _ _ _ (r .ensures .0) (r .ensures .1 .0) (r .ensures .1 .1) in
+    let a = used-up (ringed c .before) in
+    let r = ringed c .ring-points .ensures in
+    let m = reached-ring (a .before .loop .inv) (a .loop-test .left) (r .0) (r .1 .0) (r .1 .1) in
     (m .front, m .ring)
 
 pub generate-with-attempts-spec : {M : Type 1} → statement M
