@@ -106,11 +106,11 @@ poses-sound-by-cells offs l n ps =
     ∙ sym (every-append p (k 0) (k 1 ++ (k 2 ++ k 3)))
 
 -- so cause 10 by the cells is cause 10 by the poses
-pub cells-sound-is : (offs l : List ℕ) (n : ℕ) (ps : List Pose) (ks : List ℕ) (b : Bool) → ks ≡ sixteenCells ps → b ≡ everyOf (soundCell offs l n) ks → b ≡ soundPoses offs l n ps
-cells-sound-is offs l n ps ks b e h = h ∙ ap (everyOf (soundCell offs l n)) e ∙ sym (poses-sound-by-cells offs l n ps)
+pub cells-sound-is : (offs l : List ℕ) (n : ℕ) (ps : List Pose) {ks : List ℕ} {b : Bool} → ks ≡ sixteenCells ps → b ≡ everyOf (soundCell offs l n) ks → b ≡ soundPoses offs l n ps
+cells-sound-is offs l n ps e h = h ∙ ap (everyOf (soundCell offs l n)) e ∙ sym (poses-sound-by-cells offs l n ps)
 
 pub all-cells : (offs l : List ℕ) (n : ℕ) (ps : List Pose) (ks : List ℕ) → ks ≡ sixteenCells ps → soundPoses offs l n ps ≡ true → Looked offs l n (sixteenCells ps) ks
-all-cells offs l n ps ks e h = record { are = e; sound = cells-sound-is offs l n ps ks (everyOf (soundCell offs l n) ks) e refl ∙ h }
+all-cells offs l n ps ks e h = record { are = e; sound = cells-sound-is offs l n ps e refl ∙ h }
 
 pub cells-long : (ps : List Pose) (ks : List ℕ) → ks ≡ sixteenCells ps → length ks ≡ 16
 unfolding sixteenCells boxCells
