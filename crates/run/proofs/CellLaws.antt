@@ -112,9 +112,9 @@ cells-sound-is offs l n ps e h = h ∙ ap (everyOf (soundCell offs l n)) e ∙ s
 pub all-cells : (offs l : List ℕ) (n : ℕ) (ps : List Pose) (ks : List ℕ) → ks ≡ sixteenCells ps → soundPoses offs l n ps ≡ true → Looked offs l n (sixteenCells ps) ks
 all-cells offs l n ps ks e h = record { are = e; sound = cells-sound-is offs l n ps e refl ∙ h }
 
-pub cells-long : (ps : List Pose) (ks : List ℕ) → ks ≡ sixteenCells ps → length ks ≡ 16
+pub cells-long : (ps : List Pose) {ks : List ℕ} → ks ≡ sixteenCells ps → length ks ≡ 16
 unfolding sixteenCells boxCells
-cells-long ps ks e = ap length e
+cells-long ps e = ap length e
 
 -- those of wheel w
 part-cells : (ps : List Pose) (w : ℕ) → w < 4 → take (w * 4 + 4 - w * 4) (drop (w * 4) (sixteenCells ps)) ≡ boxCells (quadOf ps w)
@@ -137,9 +137,9 @@ every-drop-of p xs zero e = e
 every-drop-of p [] (suc k) e = refl
 every-drop-of p (x ∷ xs) (suc k) e = every-drop-of p xs k (and-right (p x) (everyOf p xs) e)
 
-pub own-cells : (offs l : List ℕ) (n : ℕ) (ps : List Pose) (w : ℕ) (ks : List ℕ) (q : List (List Float)) → Looked offs l n (sixteenCells ps) ks → w < 4 → q ≡ quadOf ps w
+pub own-cells : {offs l : List ℕ} {n : ℕ} (ps : List Pose) (w : ℕ) {ks : List ℕ} {q : List (List Float)} → Looked offs l n (sixteenCells ps) ks → w < 4 → q ≡ quadOf ps w
     → Looked offs l n (boxCells q) (take (w * 4 + 4 - w * 4) (drop (w * 4) ks))
-own-cells offs l n ps w ks q h b e =
+own-cells {offs} {l} {n} ps w {ks} h b e =
     record {
       are = ap (λ (x : List ℕ). take (w * 4 + 4 - w * 4) (drop (w * 4) x)) (h .are) ∙ part-cells ps w b ∙ ap boxCells (sym e);
       sound = every-take-of (soundCell offs l n) (drop (w * 4) ks) (w * 4 + 4 - w * 4) (every-drop-of (soundCell offs l n) ks (w * 4) (h .sound));

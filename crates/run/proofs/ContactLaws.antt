@@ -88,19 +88,19 @@ pub wheel-ends : {m w : ℕ} {W₀ W tested : List ℕ} {P : ℕ → ℕ → Boo
 wheel-ends {m = m} {w = w} h b = part-ends w m (h .long) b
 
 -- the quad of a wheel by its pose
-pub wheel-is : (ps : List Pose) (w : ℕ) (q : List (List Float)) → q ≡ wheelQuad (poseAt ps w) → q ≡ quadOf ps w
+pub wheel-is : (ps : List Pose) (w : ℕ) {q : List (List Float)} → q ≡ wheelQuad (poseAt ps w) → q ≡ quadOf ps w
 unfolding quadOf
-wheel-is ps w q e = e
+wheel-is ps w e = e
 
-module _ (m : ℕ) (W₀ : List ℕ) (P : ℕ → ℕ → Bool) (l : length W₀ ≡ 4 * m) where
-  pub no-set : (tested : List ℕ) → length tested ≡ m → Touched m W₀ P W₀ tested 0
+module _ {m : ℕ} {W₀ : List ℕ} {P : ℕ → ℕ → Bool} (l : length W₀ ≡ 4 * m) where
+  pub no-set : {tested : List ℕ} → length tested ≡ m → Touched m W₀ P W₀ tested 0
   unfolding wheelSets
-  no-set tested a = record { bound = omega arith; scratch = a; long = l; wheels = sym (ap (λ (k : ℕ). drop k W₀) (zero-mul m)) }
+  no-set a = record { bound = omega arith; scratch = a; long = l; wheels = sym (ap (λ (k : ℕ). drop k W₀) (zero-mul m)) }
 
-  module _ (W tested : List ℕ) (w : ℕ) (h : Touched m W₀ P W tested w) (b : w < 4) where
+  module _ {W tested : List ℕ} {w : ℕ} (h : Touched m W₀ P W tested w) (b : w < 4) where
     -- the lent part has room for what the wheel touches
-    pub own-room : (n : ℕ) (ts : List Float) → n ≤ 64 * m → n * 8 ≤ length ts → Room 1 n ts tested (take (w * m + m - w * m) (drop (w * m) W))
-    own-room n ts a d =
+    pub own-room : {n : ℕ} {ts : List Float} → n ≤ 64 * m → n * 8 ≤ length ts → Room 1 n ts tested (take (w * m + m - w * m) (drop (w * m) W))
+    own-room a d =
         let k = ap length (sym (lent-part m w W)) ∙ part-long m w W (h .long) b in
         record { sets = omega (arith, k, h .scratch); words = omega (arith, a, h .scratch); tiles = d }
 
@@ -109,10 +109,10 @@ module _ (m : ℕ) (W₀ : List ℕ) (P : ℕ → ℕ → Bool) (l : length W₀
         ap₂ (λ (k : ℕ) (x : List ℕ). drop k x) (size (w * m) m) (ap (drop (w * m)) (h .wheels) ∙ drop-at (wheelSets m P w) (drop (w * m) W₀) (w * m) (sets-long m P w))
         ∙ drop-drop m (w * m) W₀ ∙ ap (λ (k : ℕ). drop k W₀) (next w m)
 
-    pub one-set : (tested′ part : List ℕ) (Q : ℕ → Bool) → length tested′ ≡ length tested → part ≡ setOf (length tested) Q → Q ≡ P w
+    pub one-set : {tested′ part : List ℕ} {Q : ℕ → Bool} → length tested′ ≡ length tested → part ≡ setOf (length tested) Q → Q ≡ P w
         → Touched m W₀ P (take (w * m) W ++ (part ++ drop (w * m + m - w * m) (drop (w * m) W))) tested′ (w + 1)
     unfolding wheelSets
-    one-set tested′ part Q a e q =
+    one-set {part = part} a e q =
         let whole : take (w * m) W ++ (part ++ drop (w * m + m - w * m) (drop (w * m) W)) ≡ wheelSets m P (w + 1) ++ drop ((w + 1) * m) W₀ =
         ap₂ (λ (x y : List ℕ). x ++ y) (ap (take (w * m)) (h .wheels) ∙ take-at (wheelSets m P w) (drop (w * m) W₀) (w * m) (sets-long m P w))
         (ap₂ (λ (x y : List ℕ). x ++ y) (e ∙ ap₂ setOf (h .scratch) q) rest)
@@ -127,8 +127,8 @@ module _ (m : ℕ) (W₀ : List ℕ) (P : ℕ → ℕ → Bool) (l : length W₀
           wheels = whole;
         }
 
-  pub four-sets : (W tested : List ℕ) (w : ℕ) → 4 ≤ w → Touched m W₀ P W tested w → W ≡ wheelSets m P 4
-  four-sets W tested w b h =
+  pub four-sets : {W tested : List ℕ} {w : ℕ} → 4 ≤ w → Touched m W₀ P W tested w → W ≡ wheelSets m P 4
+  four-sets {w = w} b h =
       let four : w ≡ 4 = omega (arith, h .bound) in
       h .wheels ∙ ap (λ (k : ℕ). wheelSets m P k ++ drop (k * m) W₀) four ∙ ap (λ (x : List ℕ). wheelSets m P 4 ++ x) (drop-of-length-le W₀ (le-of-eq l)) ∙ append-nil (wheelSets m P 4)
 
@@ -244,6 +244,6 @@ touched-creditable m m′ n W₀ W ts offs l ks ps e s lb small some few look =
         small = small;
         some = some;
         few = few;
-        past = λ t a u. in-set m W₀ P W e w t b u ∙ untouched ts offs l n (quadOf ps w) _ t (own-cells offs l n ps w ks (quadOf ps w) look b refl) a;
+        past = λ t a u. in-set m W₀ P W e w t b u ∙ untouched ts offs l n (quadOf ps w) _ t (own-cells ps w look b refl) a;
       };
     })

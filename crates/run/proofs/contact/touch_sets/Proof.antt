@@ -1,8 +1,7 @@
 -- `run::contact::touch_sets` meets its contract. Assumes nothing.
 use Rattle.run.proofs.ContactLaws.{wheel-ends, Touched, no-set, own-room, one-set, four-sets, wheel-is}
--- `run::contact::touch_sets` meets its contract. Assumes nothing.
 use native.Mathlib.Omega.{arith}
-use mathlib.Core.Path.{refl, sym, ap, _∙_}
+use mathlib.Core.Path.{_≡_, refl, sym, ap, _∙_}
 use Prim.Native.Nat.{_-_}
 use lib.ListN.{length}
 use Rattle.run.specs.Wheel.{quadOf}
@@ -23,8 +22,29 @@ Inv-loop cells tiles offsets list n tested₀ wheels₀ poses m w₀ tested whee
 abbrev μ-loop : tie.MeasureT-loop
 μ-loop cells tiles offsets list n tested₀ wheels₀ poses m w₀ tested wheels w = 4 - w
 
+-- The places that the answers name, each from one further down: the call's own start, the turn of a wheel, its quad is made, what it
+-- touches is found.
+abbrev start-at : tie.After-slice-known2 Inv-loop μ-loop → tie.Start Inv-loop μ-loop
+start-at c = c .before .before .before .before .before .before
+
+abbrev turn-at : tie.After-wheel-quad Inv-loop μ-loop → tie.In-loop Inv-loop μ-loop
+turn-at c = c .before .before
+
+abbrev quad-at : tie.After-touch-quad-arg2 Inv-loop μ-loop → tie.After-wheel-quad Inv-loop μ-loop
+quad-at c = c .before .before
+
+abbrev touched-at : tie.After-slice-known4 Inv-loop μ-loop → tie.After-touch-quad Inv-loop μ-loop
+touched-at c = c .before .before .before .before
+
+-- the start, from a turn
+abbrev given-at : tie.In-loop Inv-loop μ-loop → tie.Start Inv-loop μ-loop
+given-at c = start-at (c .before .before)
+
+sixteen : (c : tie.In-loop Inv-loop μ-loop) → length (given-at c .args .cells .now) ≡ 16
+sixteen c = cells-long _ (given-at c .pre .1 .are)
+
 loop-holds : tie.Need-loop-holds Inv-loop μ-loop
-loop-holds c = no-set _ _ _ (c .before .before .before .before .before .before .pre .0 .sets) _ refl
+loop-holds c = no-set (start-at c .pre .0 .sets) refl
 
 mul-from : tie.Need-mul-from Inv-loop μ-loop
 mul-from c = omega (arith, wheel-ends (c .before .loop .inv) (c .loop-test .taken))
@@ -39,48 +59,49 @@ wheel-quad-requires : tie.Need-wheel-quad-requires Inv-loop μ-loop
 wheel-quad-requires c κs = search needs
 
 mul-touch-quad : tie.Need-mul-touch-quad Inv-loop μ-loop
-mul-touch-quad c = omega (arith, cells-long _ _ (c .before .before .before .before .before .before .before .before .before .before .pre .1 .are), c .before .before .loop-test .taken)
+mul-touch-quad c = omega (arith, sixteen (turn-at c), turn-at c .loop-test .taken)
 
 mul-touch-quad-2 : tie.Need-mul-touch-quad-2 Inv-loop μ-loop
-mul-touch-quad-2 c = omega (arith, cells-long _ _ (c .before .before .before .before .before .before .before .before .before .before .pre .1 .are), c .before .before .loop-test .taken)
+mul-touch-quad-2 c = omega (arith, sixteen (turn-at c), turn-at c .loop-test .taken)
 
 add-touch-quad : tie.Need-add-touch-quad Inv-loop μ-loop
-add-touch-quad c = omega (arith, cells-long _ _ (c .before .before .before .before .before .before .before .before .before .before .pre .1 .are), c .before .before .loop-test .taken)
+add-touch-quad c = omega (arith, sixteen (turn-at c), turn-at c .loop-test .taken)
 
 mul-touch-quad-3 : tie.Need-mul-touch-quad-3 Inv-loop μ-loop
-mul-touch-quad-3 c = omega (arith, cells-long _ _ (c .before .before .before .before .before .before .before .before .before .before .pre .1 .are), c .before .before .loop-test .taken)
+mul-touch-quad-3 c = omega (arith, sixteen (turn-at c), turn-at c .loop-test .taken)
 
 sub-touch-quad : tie.Need-sub-touch-quad Inv-loop μ-loop
-sub-touch-quad c = omega (arith, cells-long _ _ (c .before .before .before .before .before .before .before .before .before .before .pre .1 .are), c .before .before .loop-test .taken)
+sub-touch-quad c = omega (arith, sixteen (turn-at c), turn-at c .loop-test .taken)
 
 part-touch-quad-start : tie.Need-part-touch-quad-start Inv-loop μ-loop
-part-touch-quad-start c = omega (arith, cells-long _ _ (c .before .before .before .before .before .before .before .before .before .before .pre .1 .are), c .before .before .loop-test .taken)
+part-touch-quad-start c = omega (arith, sixteen (turn-at c), turn-at c .loop-test .taken)
 
 part-touch-quad-end : tie.Need-part-touch-quad-end Inv-loop μ-loop
-part-touch-quad-end c = omega (arith, cells-long _ _ (c .before .before .before .before .before .before .before .before .before .before .pre .1 .are), c .before .before .loop-test .taken)
+part-touch-quad-end c = omega (arith, sixteen (turn-at c), turn-at c .loop-test .taken)
 
 add-touch-quad-2 : tie.Need-add-touch-quad-2 Inv-loop μ-loop
-add-touch-quad-2 c = omega (arith, wheel-ends (c .before .before .before .before .before .loop .inv) (c .before .before .before .before .loop-test .taken))
+add-touch-quad-2 c = let t = turn-at (quad-at c) in omega (arith, wheel-ends (t .before .loop .inv) (t .loop-test .taken))
 
 mul-touch-quad-4 : tie.Need-mul-touch-quad-4 Inv-loop μ-loop
-mul-touch-quad-4 c = omega (arith, wheel-ends (c .before .before .before .before .before .loop .inv) (c .before .before .before .before .loop-test .taken))
+mul-touch-quad-4 c = let t = turn-at (quad-at c) in omega (arith, wheel-ends (t .before .loop .inv) (t .loop-test .taken))
 
 sub-touch-quad-2 : tie.Need-sub-touch-quad-2 Inv-loop μ-loop
-sub-touch-quad-2 c = omega (arith, wheel-ends (c .before .before .before .before .before .loop .inv) (c .before .before .before .before .loop-test .taken))
+sub-touch-quad-2 c = let t = turn-at (quad-at c) in omega (arith, wheel-ends (t .before .loop .inv) (t .loop-test .taken))
 
 part-touch-quad-start-2 : tie.Need-part-touch-quad-start-2 Inv-loop μ-loop
-part-touch-quad-start-2 c = omega (arith, wheel-ends (c .before .before .before .before .before .loop .inv) (c .before .before .before .before .loop-test .taken))
+part-touch-quad-start-2 c = let t = turn-at (quad-at c) in omega (arith, wheel-ends (t .before .loop .inv) (t .loop-test .taken))
 
 part-touch-quad-end-2 : tie.Need-part-touch-quad-end-2 Inv-loop μ-loop
-part-touch-quad-end-2 c = omega (arith, wheel-ends (c .before .before .before .before .before .loop .inv) (c .before .before .before .before .loop-test .taken))
+part-touch-quad-end-2 c = let t = turn-at (quad-at c) in omega (arith, wheel-ends (t .before .loop .inv) (t .loop-test .taken))
 
 touch-quad-requires : tie.Need-touch-quad-requires Inv-loop μ-loop
 touch-quad-requires c κs =
-    let q = c .before .before .before in
-    let l = q .before .before .before in
-    let s = l .before .before .before .before .before .before .before in
-    let b = q .before .before .loop-test .taken in
-    (own-room _ _ _ (s .pre .0 .sets) _ _ _ (l .loop .inv) b _ _ (s .pre .0 .words) (s .pre .0 .tiles), own-cells _ _ _ _ (l .loop .w) _ _ (s .pre .1) b (wheel-is _ _ _ (q .wheel-quad .ensures)))
+    let q = quad-at (c .before) in
+    let t = turn-at q in
+    let s = given-at t in
+    let l = t .before .loop in
+    let b = t .loop-test .taken in
+    (own-room (s .pre .0 .sets) (l .inv) b (s .pre .0 .words) (s .pre .0 .tiles), own-cells _ (l .w) (s .pre .1) b (wheel-is _ _ (q .wheel-quad .ensures)))
 
 add-w : tie.Need-add-w Inv-loop μ-loop
 add-w c = search needs
@@ -90,21 +111,22 @@ loop-less c = search needs
 
 loop-again : tie.Need-loop-again Inv-loop μ-loop
 loop-again c =
-    let k = c .before .before .before .before in
-    let q = k .before .before .before .before in
-    let l = q .before .before .before in
-    let s = l .before .before .before .before .before .before .before in
-    one-set _ _ _ (s .pre .0 .sets) _ _ _ (l .loop .inv) (q .before .before .loop-test .taken) _ _ _ (k .touch-quad .kept .1 .1 .1 .1 .1 .1 .0) (k .touch-quad .ensures)
-    (ap (touchedBy (s .args .tiles .now) (s .args .offsets .now) (s .args .list .now)) (wheel-is _ _ _ (q .wheel-quad .ensures)))
+    let k = touched-at c in
+    let q = quad-at (k .before .before) in
+    let t = turn-at q in
+    let s = given-at t in
+    let l = t .before .loop in
+    one-set (s .pre .0 .sets) (l .inv) (t .loop-test .taken) (k .touch-quad .kept .1 .1 .1 .1 .1 .1 .0) (k .touch-quad .ensures)
+    (ap (touchedBy (s .args .tiles .now) (s .args .offsets .now) (s .args .list .now)) (wheel-is _ _ (q .wheel-quad .ensures)))
 
 same-length : tie.Need-same-length Inv-loop μ-loop
 same-length c = c .before .loop .inv .scratch
 
 same-length-2 : tie.Need-same-length-2 Inv-loop μ-loop
-same-length-2 c = c .before .loop .inv .long ∙ sym (c .before .before .before .before .before .before .before .before .pre .0 .sets)
+same-length-2 c = c .before .loop .inv .long ∙ sym (start-at (c .before .before) .pre .0 .sets)
 
 returns : tie.Need-returns Inv-loop μ-loop
-returns c = four-sets _ _ _ (c .before .before .before .before .before .before .before .before .pre .0 .sets) _ _ _ (c .loop-test .left) (c .before .loop .inv)
+returns c = four-sets (start-at (c .before .before) .pre .0 .sets) (c .loop-test .left) (c .before .loop .inv)
 
 pub touch-sets-spec : {M : Type 1} → statement M
 touch-sets-spec =
