@@ -133,10 +133,6 @@ module _ {m : ℕ} {W₀ : List ℕ} {P : ℕ → ℕ → Bool} (l : length W₀
       h .wheels ∙ ap (λ (k : ℕ). wheelSets m P k ++ drop (k * m) W₀) four ∙ ap (λ (x : List ℕ). wheelSets m P 4 ++ x) (drop-of-length-le W₀ (le-of-eq l)) ∙ append-nil (wheelSets m P 4)
 
 -- ---- credit: what is entered, a part of it after the other
-pub no-credit : (c : List ℕ) (F : ℕ → ℕ → Bool) → Fit c → credits c 0 false ≡ creditsOf c (λ t. anyBelow 0 (λ w. F w t))
-unfolding creditsOf anyBelow
-no-credit c F f = λ i. credits (is-setOf (length c) c (λ t. member c t || false) refl f (λ t _. sym (or-false (member c t))) i) (sym (howMany-false (64 * length c)) i) false
-
 -- the new tiles of two parts, one after the other
 apart : (A N C : Bool) → (N && not (C || A)) ≡ ((N && not C) && not (A && not C))
 apart A true true = refl
@@ -145,26 +141,26 @@ apart false true false = refl
 apart A false C = refl
 
 module _ (c₀ c : List ℕ) (E : ℕ → Bool) {new : ℕ} {first : Bool} (h : credits c new first ≡ creditsOf c₀ E) where
-  pub credited-is : c ≡ setOf (length c₀) (λ t. member c₀ t || E t)
+  credited-is : c ≡ setOf (length c₀) (λ t. member c₀ t || E t)
   unfolding creditsOf
   credited-is = ap (λ (r : Credits). r .credited) h
 
-  pub credited-long : length c ≡ length c₀
-  credited-long = ap length credited-is ∙ length-setOf (length c₀) (λ t. member c₀ t || E t)
+  credits-long : length c ≡ length c₀
+  credits-long = ap length credited-is ∙ length-setOf (length c₀) (λ t. member c₀ t || E t)
 
   fresh-is : new ≡ howMany (64 * length c₀) (λ t. E t && not (member c₀ t))
   unfolding creditsOf
   fresh-is = ap (λ (r : Credits). r .fresh) h
 
   -- no more new tiles than the words have bits
-  pub few-credits : new ≤ 64 * length c₀
+  few-credits : new ≤ 64 * length c₀
   few-credits = subst (λ (x : ℕ). x ≤ 64 * length c₀) (sym fresh-is) (few (64 * length c₀) (λ t. E t && not (member c₀ t)))
 
-  pub more-credit : (c′ : List ℕ) (N : ℕ → Bool) {f : ℕ} {z : Bool} → credits c′ f z ≡ creditsOf c N → credits c′ (new + f) (first || z) ≡ creditsOf c₀ (λ t. E t || N t)
+  more-credit : (c′ : List ℕ) (N : ℕ → Bool) {f : ℕ} {z : Bool} → credits c′ f z ≡ creditsOf c N → credits c′ (new + f) (first || z) ≡ creditsOf c₀ (λ t. E t || N t)
   unfolding creditsOf
   more-credit c′ N k =
       let m = length c₀ in
-      let k′ = k ∙ ap (λ (x : ℕ). credits (setOf x (λ t. member c t || N t)) (howMany (64 * x) (λ t. N t && not (member c t))) (N 0)) credited-long in
+      let k′ = k ∙ ap (λ (x : ℕ). credits (setOf x (λ t. member c t || N t)) (howMany (64 * x) (λ t. N t && not (member c t))) (N 0)) credits-long in
       let inside : (t : ℕ) → t < 64 * m → member c t ≡ (member c₀ t || E t) = λ t b. ap (λ (x : List ℕ). member x t) credited-is ∙ member-setOf m t (λ u. member c₀ u || E u) b in
       let all = or-chain m c c′ (λ t. member c₀ t || E t) N credited-is (ap (λ (r : Credits). r .credited) k′)
       ∙ setOf-cong m (λ t. (member c₀ t || E t) || N t) (λ t. member c₀ t || (E t || N t)) (λ t _. or-assoc (member c₀ t) (E t) (N t)) in
@@ -178,35 +174,61 @@ module _ (c₀ c : List ℕ) (E : ℕ → Bool) {new : ℕ} {first : Bool} (h : 
       (λ t _. sym (and-or-distrib-right (E t) (N t) (not (member c₀ t)))) in
       λ i. credits (all i) (count i) (h i .zero || k′ i .zero)
 
--- one wheel more, by its parts of the four wheels' words
+-- the parts of wheel w end within the four wheels' words
 pub parts-end : {m n w : ℕ} {B W : List ℕ} → AllCreditable m n B W → w < 4 → (w * m + m ≤ length B) × (w * m + m ≤ length W)
 parts-end {m = m} {w = w} h b = (part-ends w m (h .last) b, part-ends w m (h .long) b)
 
-module _ (n : ℕ) (c₀ B W : List ℕ) where
+-- what the first w wheels enter
+abbrev byWheels : List ℕ → List ℕ → List ℕ → ℕ → ℕ → Bool
+byWheels c₀ B W w t = anyBelow w (λ v. enters (length c₀) B (inSets (length c₀) W) v t)
+
+-- after w wheels
+pub record Credited (c₀ B W c : List ℕ) (new : ℕ) (first : Bool) (w : ℕ) : Type 0 where
+  pub bound : w ≤ 4
+  pub credit : credits c new first ≡ creditsOf c₀ (byWheels c₀ B W w)
+
+pub no-credit : {c B W : List ℕ} → Fit c → Credited c B W c 0 false 0
+unfolding creditsOf anyBelow
+no-credit {c} f =
+    record {
+      bound = omega arith;
+      credit = λ i. credits (is-setOf (length c) c (λ t. member c t || false) refl f (λ t _. sym (or-false (member c t))) i) (sym (howMany-false (64 * length c)) i) false;
+    }
+
+module _ {c₀ B W c : List ℕ} {new : ℕ} {first : Bool} {w : ℕ} (h : Credited c₀ B W c new first w) where
   abbrev m : ℕ
   m = length c₀
 
-  abbrev pub byWheels : ℕ → ℕ → Bool
-  byWheels w t = anyBelow w (λ v. enters m B (inSets m W) v t)
+  pub credited-long : length c ≡ m
+  credited-long = credits-long c₀ c (byWheels c₀ B W w) (h .credit)
 
-  pub own-credit : (w m′ : ℕ) → AllCreditable m n B W → w < 4 → m′ ≡ m → Creditable m′ n (take (w * m + m - w * m) (drop (w * m) B)) (take (w * m + m - w * m) (drop (w * m) W))
-  own-credit w m′ h b e =
-      let k = subst (λ (x : ℕ). Creditable x n (wheelPart m B w) (wheelPart m W w)) (sym e) (h .each w b) in
-      let l = subst (λ (x : List ℕ). Creditable m′ n x (wheelPart m W w)) (lent-part m w B) k in
-      subst (λ (x : List ℕ). Creditable m′ n (take (w * m + m - w * m) (drop (w * m) B)) x) (lent-part m w W) l
+  -- one wheel more, by its parts of the four wheels' words
+  module _ {n : ℕ} (a : AllCreditable m n B W) (b : w < 4) where
+    pub own-credit : Creditable (length c) n (take (w * m + m - w * m) (drop (w * m) B)) (take (w * m + m - w * m) (drop (w * m) W))
+    own-credit =
+        let k = subst (λ (x : ℕ). Creditable x n (wheelPart m B w) (wheelPart m W w)) (sym credited-long) (a .each w b) in
+        let l = subst (λ (x : List ℕ). Creditable (length c) n x (wheelPart m W w)) (lent-part m w B) k in
+        subst (λ (x : List ℕ). Creditable (length c) n (take (w * m + m - w * m) (drop (w * m) B)) x) (lent-part m w W) l
 
-  pub one-credit : (w : ℕ) (c c′ : List ℕ) {new f : ℕ} {first z : Bool} → credits c new first ≡ creditsOf c₀ (byWheels w)
-      → credits c′ f z ≡ creditsOf c (λ t. member (take (w * m + m - w * m) (drop (w * m) W)) t && not (member (take (w * m + m - w * m) (drop (w * m) B)) t))
-      → credits c′ (new + f) (first || z) ≡ creditsOf c₀ (byWheels (w + 1))
-  unfolding anyBelow enters
-  one-credit w c c′ h k =
-      more-credit c₀ c (byWheels w) h c′ (λ t. enters m B (inSets m W) w t)
-      (k ∙ ap₂ (λ (x y : List ℕ). creditsOf c (λ t. member x t && not (member y t))) (sym (lent-part m w W)) (sym (lent-part m w B)))
-      ∙ ap (λ (k : ℕ). creditsOf c₀ (byWheels k)) (sym (add-one w))
+    module _ {c′ : List ℕ} {f : ℕ} {z : Bool}
+        (k : credits c′ f z ≡ creditsOf c (λ t. member (take (w * m + m - w * m) (drop (w * m) W)) t && not (member (take (w * m + m - w * m) (drop (w * m) B)) t))) where
+      pub one-credit : Credited c₀ B W c′ (new + f) (first || z) (w + 1)
+      unfolding anyBelow enters
+      one-credit =
+          record {
+            bound = omega arith;
+            credit =
+                more-credit c₀ c (byWheels c₀ B W w) (h .credit) c′ (λ t. enters m B (inSets m W) w t)
+                (k ∙ ap₂ (λ (x y : List ℕ). creditsOf c (λ t. member x t && not (member y t))) (sym (lent-part m w W)) (sym (lent-part m w B)))
+                ∙ ap (λ (j : ℕ). creditsOf c₀ (byWheels c₀ B W j)) (sym (add-one w));
+          }
 
-  pub four-credits : (w : ℕ) (c : List ℕ) {new : ℕ} {first : Bool} → w ≤ 4 → 4 ≤ w → credits c new first ≡ creditsOf c₀ (byWheels w) → credits c new first ≡ creditsOf c₀ (enteredSince m B W)
+      pub few-new : new + f < 2 ^ 32
+      few-new = omega (arith, few-credits c₀ c′ (byWheels c₀ B W (w + 1)) (one-credit .credit), a .each w b .small)
+
+  pub four-credits : 4 ≤ w → credits c new first ≡ creditsOf c₀ (enteredSince m B W)
   unfolding entered
-  four-credits w c a b h = let four : w ≡ 4 = omega arith in h ∙ ap (λ (k : ℕ). creditsOf c₀ (byWheels k)) four
+  four-credits b = let four : w ≡ 4 = omega (arith, h .bound) in h .credit ∙ ap (λ (k : ℕ). creditsOf c₀ (byWheels c₀ B W k)) four
 
 -- ---- the contact: touch, then credit
 module _ (m : ℕ) (W₀ : List ℕ) (P : ℕ → ℕ → Bool) (W : List ℕ) (e : W ≡ wheelSets m P 4) where

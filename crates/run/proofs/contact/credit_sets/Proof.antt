@@ -1,10 +1,7 @@
 -- `run::contact::credit_sets` meets its contract. Assumes nothing.
-use Rattle.run.proofs.ContactLaws.{parts-end, byWheels, no-credit, own-credit, one-credit, few-credits, credited-long, four-credits}
--- `run::contact::credit_sets` meets its contract. Assumes nothing.
+use Rattle.run.proofs.ContactLaws.{parts-end, Credited, no-credit, own-credit, one-credit, few-new, credited-long, four-credits}
 use native.Mathlib.Omega.{arith}
-use mathlib.Core.Path.{_≡_}
-use Prim.Native.Nat.{_-_, _≤_}
-use Rattle.run.specs.TouchSteps.{credits, creditsOf}
+use Prim.Native.Nat.{_-_}
 use borrow.Author.Needs.{needs}
 use Rattle.run.proofs.contact.credit_sets.Statement.{statement}
 use Rattle.run.proofs.contact.credit_sets.Tie as tie
@@ -13,55 +10,68 @@ use Rattle.run.proofs.contact.credit_sets.Lts as lts
 use Rattle.run.proofs.contact.credit_set.Reads as credit-set-reads
 
 abbrev Inv-loop : tie.InvT-loop
-Inv-loop credited₀ before wheels n m fresh₀ zero₀ w₀ credited fresh zero w = (w ≤ 4) × (credits credited fresh zero ≡ creditsOf credited₀ (byWheels n credited₀ before wheels w))
+Inv-loop credited₀ before wheels n m fresh₀ zero₀ w₀ credited fresh zero w = Credited credited₀ before wheels credited fresh zero w
 
 abbrev μ-loop : tie.MeasureT-loop
 μ-loop credited₀ before wheels n m fresh₀ zero₀ w₀ credited fresh zero w = 4 - w
 
+-- The places that the answers name, each from one further down: the call's own start, the turn of a wheel, its parts are lent, what it
+-- entered is credited.
+abbrev start-at : tie.At-loop Inv-loop μ-loop → tie.Start Inv-loop μ-loop
+start-at c = c .before .before .before .before
+
+abbrev turn-at : tie.After-credit-set-arg2 Inv-loop μ-loop → tie.In-loop Inv-loop μ-loop
+turn-at c = c .before .before
+
+abbrev lent-at : tie.After-credit-set Inv-loop μ-loop → tie.After-credit-set-arg2 Inv-loop μ-loop
+lent-at c = c .before .before
+
+abbrev credited-at : tie.After-struct-known Inv-loop μ-loop → tie.After-credit-set Inv-loop μ-loop
+credited-at c = c .before .before .before
+
 loop-holds : tie.Need-loop-holds Inv-loop μ-loop
-loop-holds c = (omega arith, no-credit _ _ (λ j. c .before .before .slice-known .given j .fits))
+loop-holds c = no-credit (λ j. c .before .before .slice-known .given j .fits)
 
 mul-from : tie.Need-mul-from Inv-loop μ-loop
-mul-from c = omega (arith, parts-end (c .before .before .before .before .before .pre) (c .loop-test .taken))
+mul-from c = omega (arith, parts-end (start-at (c .before) .pre) (c .loop-test .taken))
 
 add-to : tie.Need-add-to Inv-loop μ-loop
-add-to c = omega (arith, parts-end (c .before .before .before .before .before .pre) (c .loop-test .taken))
+add-to c = omega (arith, parts-end (start-at (c .before) .pre) (c .loop-test .taken))
 
 mul-credit-set : tie.Need-mul-credit-set Inv-loop μ-loop
-mul-credit-set c = omega (arith, parts-end (c .before .before .before .before .before .before .pre) (c .before .loop-test .taken))
+mul-credit-set c = let t = c .before in omega (arith, parts-end (start-at (t .before) .pre) (t .loop-test .taken))
 
 sub-credit-set : tie.Need-sub-credit-set Inv-loop μ-loop
-sub-credit-set c = omega (arith, parts-end (c .before .before .before .before .before .before .pre) (c .before .loop-test .taken))
+sub-credit-set c = let t = c .before in omega (arith, parts-end (start-at (t .before) .pre) (t .loop-test .taken))
 
 part-credit-set-start : tie.Need-part-credit-set-start Inv-loop μ-loop
-part-credit-set-start c = omega (arith, parts-end (c .before .before .before .before .before .before .pre) (c .before .loop-test .taken))
+part-credit-set-start c = let t = c .before in omega (arith, parts-end (start-at (t .before) .pre) (t .loop-test .taken))
 
 part-credit-set-end : tie.Need-part-credit-set-end Inv-loop μ-loop
-part-credit-set-end c = omega (arith, parts-end (c .before .before .before .before .before .before .pre) (c .before .loop-test .taken))
+part-credit-set-end c = let t = c .before in omega (arith, parts-end (start-at (t .before) .pre) (t .loop-test .taken))
 
 mul-credit-set-2 : tie.Need-mul-credit-set-2 Inv-loop μ-loop
-mul-credit-set-2 c = omega (arith, parts-end (c .before .before .before .before .before .before .before .pre) (c .before .before .loop-test .taken))
+mul-credit-set-2 c = let t = turn-at c in omega (arith, parts-end (start-at (t .before) .pre) (t .loop-test .taken))
 
 sub-credit-set-2 : tie.Need-sub-credit-set-2 Inv-loop μ-loop
-sub-credit-set-2 c = omega (arith, parts-end (c .before .before .before .before .before .before .before .pre) (c .before .before .loop-test .taken))
+sub-credit-set-2 c = let t = turn-at c in omega (arith, parts-end (start-at (t .before) .pre) (t .loop-test .taken))
 
 part-credit-set-start-2 : tie.Need-part-credit-set-start-2 Inv-loop μ-loop
-part-credit-set-start-2 c = omega (arith, parts-end (c .before .before .before .before .before .before .before .pre) (c .before .before .loop-test .taken))
+part-credit-set-start-2 c = let t = turn-at c in omega (arith, parts-end (start-at (t .before) .pre) (t .loop-test .taken))
 
 part-credit-set-end-2 : tie.Need-part-credit-set-end-2 Inv-loop μ-loop
-part-credit-set-end-2 c = omega (arith, parts-end (c .before .before .before .before .before .before .before .pre) (c .before .before .loop-test .taken))
+part-credit-set-end-2 c = let t = turn-at c in omega (arith, parts-end (start-at (t .before) .pre) (t .loop-test .taken))
 
 credit-set-requires : tie.Need-credit-set-requires Inv-loop μ-loop
 credit-set-requires c κs =
-    let l = c .before .before .before .before in
-    let s = l .before .before .before .before in
-    own-credit _ (s .args .credited .now) _ _ (l .loop .w) _ (s .pre) (c .before .before .before .loop-test .taken) (credited-long _ _ _ (l .loop .inv .1))
+    let t = turn-at (c .before) in
+    own-credit (t .before .loop .inv) (start-at (t .before) .pre) (t .loop-test .taken)
 
 add-fresh : tie.Need-add-fresh Inv-loop μ-loop
 add-fresh c =
-    let l = c .before .before .before .before .before .before .before .before in
-    let r = one-credit (l .before .before .before .before .args .n) _ _ _ (l .loop .w) _ _ (l .loop .inv .1) (c .before .before .before .credit-set .ensures) in
-    record { fits = omega (arith, few-credits _ _ _ r, l .before .before .before .before .pre .each (l .loop .w) (c .before .before .before .before .before .before .before .loop-test .taken) .small) }
+    let k = credited-at c in
+    let t = turn-at (lent-at k) in
+    record { fits = omega (arith, few-new (t .before .loop .inv) (start-at (t .before) .pre) (t .loop-test .taken) (k .credit-set .ensures)) }
 
 add-w : tie.Need-add-w Inv-loop μ-loop
 add-w c = search needs
@@ -71,15 +81,15 @@ loop-less c = search needs
 
 loop-again : tie.Need-loop-again Inv-loop μ-loop
 loop-again c =
-    let l = c .before .before .before .before .before .before .before .before .before in
-    let r = one-credit (l .before .before .before .before .args .n) _ _ _ (l .loop .w) _ _ (l .loop .inv .1) (c .before .before .before .before .credit-set .ensures) in
-    (omega arith, r)
+    let k = credited-at (c .before) in
+    let t = turn-at (lent-at k) in
+    one-credit (t .before .loop .inv) (start-at (t .before) .pre) (t .loop-test .taken) (k .credit-set .ensures)
 
 same-length : tie.Need-same-length Inv-loop μ-loop
-same-length c = credited-long _ _ _ (c .before .loop .inv .1)
+same-length c = credited-long (c .before .loop .inv)
 
 returns : tie.Need-returns Inv-loop μ-loop
-returns c = four-credits (c .before .before .before .before .before .args .n) _ _ _ _ _ (c .before .loop .inv .0) (c .loop-test .left) (c .before .loop .inv .1)
+returns c = four-credits (c .before .loop .inv) (c .loop-test .left)
 
 pub credit-sets-spec : {M : Type 1} → statement M
 credit-sets-spec =
