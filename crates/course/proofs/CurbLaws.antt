@@ -18,6 +18,7 @@ use Rattle.course.specs.Points.{givenCause, givenOf, allGood}
 use Rattle.course.specs.Curbs.{curbRoom, afterOf, bordered, curbQuad, whiteOf, quadsTo, whitesTo, filledMarks, edged, curbAnswer, curbCauseOf, curbCountOf, curbCause, curbsAt, curbsCall}
 use Rattle.course.specs.CourseSteps.{Curbed, CurbsTo}
 use Rattle.course.specs.declared.curbs.CurbAnswer.{CurbAnswer}
+use Rattle.course.specs.declared.tiles.TrackPoint.{TrackPoint}
 use Rattle.course.specs.declared.curbs.CurbAnswer.the-variants.{Count, Refused}
 use Rattle.course.proofs.ColumnLaws.{Grown, grown-more, puts-grown, drop-past}
 use Rattle.course.proofs.LaidColumns.{Given, given-long, passed, positive, at-most, left, right, fill-tiles}
@@ -73,22 +74,26 @@ module _ (b e n : List Float) (k : ℕ) (q : List Float) (w : List ℕ) where
       → Curbed (bordered b k i) (curbQuad (pointAt b e n i) (pointAt b e n (beforeOf k i))) (whiteOf i) m q1 w1 m′ q2 w2 → CurbsTo b e n k (i + 1) m′ q w q2 w2
   curbs-more i m q1 w1 m′ q2 w2 hq hw t s = subst (λ (z : ℕ). CurbsTo b e n k z m′ q w q2 w2) (sym (add-one i)) (next i m q1 w1 m′ q2 w2 hq hw t s)
 
--- a step of the code
-pub curb-kept : (has : Bool) (quad : List (List Float)) (mark m : ℕ) (q : List Float) (w : List ℕ) → has ≡ false → Curbed has quad mark m q w m q w
-curb-kept true quad mark m q w h = absurd (subst (λ (z : Bool). cond z (Unit {0}) ⊥) h tt)
-curb-kept false quad mark m q w h = record { count = none m; quads = refl; white = refl }
+-- a step of the code: the quad between a point and the one before
+pub quad-between : (b e n : List Float) (k i : ℕ) {c : List (List Float)} {p q : TrackPoint} {j : ℕ} → c ≡ curbQuad p q → p ≡ pointAt b e n i → q ≡ pointAt b e n j → j ≡ beforeOf k i
+    → c ≡ curbQuad (pointAt b e n i) (pointAt b e n (beforeOf k i))
+quad-between b e n k i ec ep eq ej = ec ∙ ap₂ curbQuad ep (eq ∙ ap (pointAt b e n) ej)
+
+pub curb-kept : {has : Bool} {quad : List (List Float)} {mark m : ℕ} {q : List Float} {w : List ℕ} → has ≡ false → Curbed has quad mark m q w m q w
+curb-kept {has = true} h = absurd (subst (λ (z : Bool). cond z (Unit {0}) ⊥) h tt)
+curb-kept {has = false} {m = m} h = record { count = none m; quads = refl; white = refl }
   where
     none : (m : ℕ) → m ≡ m + 0
     none m = omega arith
 
-pub curb-put : (has : Bool) (quad quad′ : List (List Float)) (mark mark′ m : ℕ) (q q′ : List Float) (w w′ : List ℕ) → has ≡ true → quad′ ≡ quad → mark′ ≡ mark
+pub curb-put : {has : Bool} {quad quad′ : List (List Float)} {mark mark′ m : ℕ} {q q′ : List Float} {w w′ : List ℕ} → has ≡ true → quad′ ≡ quad → mark′ ≡ mark
     → q′ ≡ puts (eight quad′) (m * 8) q → w′ ≡ set w m mark′ → Curbed has quad mark m q w (m + 1) q′ w′
-curb-put true quad quad′ mark mark′ m q q′ w w′ h eq em pq pw = record {
+curb-put {has = true} {m = m} {q = q} {w = w} h eq em pq pw = record {
   count = refl;
   quads = pq ∙ ap (λ (z : List (List Float)). puts (eight z) (m * 8) q) eq;
   white = pw ∙ ap (λ (z : ℕ). set w m z) em;
 }
-curb-put false quad quad′ mark mark′ m q q′ w w′ h eq em pq pw = absurd (subst (λ (z : Bool). cond z ⊥ (Unit {0})) h tt)
+curb-put {has = false} h eq em pq pw = absurd (subst (λ (z : Bool). cond z ⊥ (Unit {0})) h tt)
 
 -- ---- the call
 pub record Fits (b e n : List Float) (k : ℕ) (q : List Float) (w : List ℕ) : Type 0 where

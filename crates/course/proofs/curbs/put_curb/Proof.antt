@@ -1,31 +1,34 @@
 -- `course::curbs::put_curb` meets its contract. Assumes nothing.
-use Rattle.course.proofs.CurbLaws.{curb-kept, curb-put}
-use Rattle.course.specs.Curbs.{curbQuad}
-use Rattle.course.specs.Tiles.{pointAt}
-use borrow.Author.Tests.{not-true, not-false}
-use mathlib.Core.List.{List, [], _∷_, _++_, append-assoc}
-use lib.ListN.{length, getD, take, drop, set, replicate}
-use Prim.Native.Nat.{ℕ, zero, suc, _+_, _-_, _*_, _/_, _%_, _≤_, _<_}
-use mathlib.Core.Path.{_≡_, refl, sym, ap, ap₂, _∙_, subst}
+use mathlib.Core.Path.{sym, _∙_}
 use native.Mathlib.Omega.{arith}
+use borrow.Author.Tests.{not-true, not-false}
 use borrow.Author.Needs.{needs}
+use Rattle.course.proofs.CurbLaws.{curb-kept, curb-put, quad-between}
 use Rattle.course.proofs.curbs.put_curb.Statement.{statement}
 use Rattle.course.proofs.curbs.put_curb.Tie as tie
-use Rattle.course.proofs.curbs.put_curb.Reads as reads
-use Rattle.course.proofs.curbs.put_curb.Lts as lts
-use Rattle.course.proofs.curbs.curb_quad.Reads as curb-quad-reads
-use Rattle.course.proofs.curbs.is_bordered.Reads as is-bordered-reads
-use Rattle.course.proofs.curbs.put_mark.Reads as put-mark-reads
-use Rattle.course.proofs.curbs.white_of.Reads as white-of-reads
-use Rattle.course.proofs.tiles.before.Reads as before-reads
-use Rattle.course.proofs.tiles.point_at.Reads as point-at-reads
-use Rattle.course.proofs.tiles.put_quad.Reads as put-quad-reads
+
+-- The places that the answers name, each reached from a later one: the call is made, the point has a border, its quad is made,
+-- the quad is put, and then its mark.
+abbrev entry : tie.After-is-bordered → tie.Start
+entry c = c .before .before .before .before .before .before
+
+abbrev bordered : tie.After-curb-quad → tie.Else1
+bordered c = c .before .before .before .before
+
+abbrev quad-made : tie.After-put-quad → tie.After-curb-quad
+quad-made c = c .before .before
+
+abbrev quad-put : tie.After-put-mark → tie.After-put-quad
+quad-put c = c .before .before .before .before .before
+
+abbrev mark-put : tie.After-slice-known4 → tie.After-put-mark
+mark-put c = c .before .before
 
 is-bordered-requires : tie.Need-is-bordered-requires
 is-bordered-requires c κs = search needs
 
 returns : tie.Need-returns
-returns c = curb-kept _ _ _ _ _ _ (sym (c .before .is-bordered .ensures) ∙ not-true _ (c .if1 .taken))
+returns c = curb-kept (sym (c .before .is-bordered .ensures) ∙ not-true _ (c .if1 .taken))
 
 before-requires : tie.Need-before-requires
 before-requires c κs = search needs
@@ -52,7 +55,9 @@ put-mark-requires : tie.Need-put-mark-requires
 put-mark-requires c κs = search needs
 
 add-result : tie.Need-add-result
-add-result c = let s = c .before .before .before .before .before .before .before .before .before .before .before .before .before .before .before .before .before .before .before .before in omega (arith, s .pre .0 .0, s .pre .1 .0, s .pre .1 .1)
+add-result c =
+    let s = entry (bordered (quad-made (quad-put (mark-put c))) .before) .pre in
+    omega (arith, s .0 .0, s .1 .0, s .1 .1)
 
 same-length : tie.Need-same-length
 same-length c = search needs
@@ -62,14 +67,14 @@ same-length-2 c = search needs
 
 returns-2 : tie.Need-returns-2
 returns-2 c =
-    let b = c .before .before .before .before .before .before .before .before .before .before .before .before .before .before in
-    let p = c .before .before .before .before .before .before .before .before .before .before .before in
-    let p2 = c .before .before .before .before .before .before .before .before .before .before in
-    let j = c .before .before .before .before .before .before .before .before .before .before .before .before in
-    let s = c .before .before .before .before .before .before .before .before .before .before .before .before .before .before .before .before .before .before .before .before in
-    curb-put _ _ _ _ _ _ _ _ _ _ (sym (b .is-bordered .ensures) ∙ not-false _ (c .before .before .before .before .before .before .before .before .before .before .before .before .before .if1 .left))
-    (c .before .before .before .before .before .before .before .before .before .curb-quad .ensures ∙ ap₂ curbQuad (p .point-at .ensures) (p2 .point-at2 .ensures ∙ ap (pointAt (s .args .beta .now) (s .args .x .now) (s .args .y .now)) (j .before2 .ensures .0)))
-    (c .before .before .before .white-of .ensures) (c .before .before .before .before .before .before .before .put-quad .ensures) (c .before .before .put-mark .ensures)
+    let m = mark-put c in
+    let q = quad-made (quad-put m) in
+    let p2 = q .before in
+    let p = p2 .before in
+    let e = bordered q in
+    let a = entry (e .before) .args in
+    let quad = quad-between (a .beta .now) (a .x .now) (a .y .now) (a .n) (a .i) (q .curb-quad .ensures) (p .point-at .ensures) (p2 .point-at2 .ensures) (p .before .before2 .ensures .0) in
+    curb-put (sym (e .before .is-bordered .ensures) ∙ not-false _ (e .if1 .left)) quad (m .before .white-of .ensures) (quad-put m .put-quad .ensures) (m .put-mark .ensures)
 
 pub put-curb-spec : {M : Type 1} → statement M
 put-curb-spec =
