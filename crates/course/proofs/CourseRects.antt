@@ -49,14 +49,14 @@ module _ (tiles : List Float) where
       rw (← add-one i)
       (omega (arith, needed-start i, start-tile (holdsOf tiles) i cellCount, held-area (rectOf tiles i) (rect-small tiles i)))
 
-  module _ (n : ℕ) (o l : List ℕ) (need : ℕ) (is : need ≡ needed tiles n) where
+  module _ {n : ℕ} {o l : List ℕ} {need : ℕ} (is : need ≡ needed tiles n) where
     pub built-short : length l < needed tiles n → Built tiles n o l o l true need
     built-short a =
         let t : ltb (length l) (needed tiles n) ≡ true = lt-ltb (length l) (needed tiles n) a in
         record { length-needed = is; too-short = sym t; offsets = simp t; entries = simp t }
 
-    pub built-laid : needed tiles n ≤ length l → (o′ l′ : List ℕ) → o′ ≡ offsetsOf (holdsOf tiles) n cellCount → l′ ≡ indexOf (holdsOf tiles) n cellCount → Built tiles n o l (o′ ++ drop offsetCount o) (l′ ++ drop need l) false need
-    built-laid a o′ l′ p q =
+    pub built-laid : needed tiles n ≤ length l → {o′ l′ : List ℕ} → o′ ≡ offsetsOf (holdsOf tiles) n cellCount → l′ ≡ indexOf (holdsOf tiles) n cellCount → Built tiles n o l (o′ ++ drop offsetCount o) (l′ ++ drop need l) false need
+    built-laid a p q =
         let t : ltb (length l) (needed tiles n) ≡ false = le-ltb (length l) (needed tiles n) a in
         record {
           length-needed = is;

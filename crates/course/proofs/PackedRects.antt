@@ -1,7 +1,7 @@
 -- Rectangles packed in a column: what is read is what was packed, and the index of the rectangles is that of their tiles. Assumes nothing.
 use Prim.Native.Nat.{ℕ, zero, suc, _+_, _*_, _-_, _/_, _%_, _≤_, _<_}
 use mathlib.Core.Path.{_≡_, refl, sym, ap, ap₂, _∙_, subst}
-use mathlib.Core.Bool.{Bool, not}
+use mathlib.Core.Bool.{Bool, false, not}
 use mathlib.Core.List.{List, [], _∷_, _++_}
 use mathlib.Core.Logic.{⊎-elim}
 use native.Mathlib.Nat.{eq-or-lt-of-le, le-of-suc-le-suc}
@@ -13,14 +13,14 @@ use lib.Dec.{T}
 use lib.Ieee.{Float, nan, isNan, nanBits, binary64, ofBits, toBits}
 use lib.Ieee.Bits.{toBits-ofBits, nanBits-is}
 use Rattle.course.specs.Constants.{gridDim}
-use Rattle.course.specs.Lengths.{mostPoints, cellCount}
+use Rattle.course.specs.Lengths.{mostPoints, cellCount, offsetCount}
 use Rattle.course.specs.declared.index.Rect.{Rect}
 use Rattle.course.specs.Arithmetic.{nought}
 use Rattle.course.specs.Index.{addIf, listed, start, indexOf, table, offsetsOf}
 use Rattle.course.specs.Rect.{rectOf, holds, holdsOf, needed}
-use Rattle.course.specs.IndexSteps.{Small, Packs, rectIn, heldIn, RectsIn, RectsPacked}
+use Rattle.course.specs.IndexSteps.{Built, Small, Packs, rectIn, heldIn, RectsIn, RectsPacked}
 use Rattle.course.proofs.RootFields.{below-inf}
-use Rattle.course.proofs.CourseRects.{rect-same, rect-small, needed-start}
+use Rattle.course.proofs.CourseRects.{rect-same, rect-small, needed-start, built-laid}
 
 -- ---- one rectangle
 -- four numbers below 256, side by side
@@ -99,18 +99,18 @@ module _ (tiles : List Float) (n : ℕ) where
           apart : (k : ℕ) → k < i → k ≡ i → ⊥
           apart k m e = omega arith
 
-  pub rects-in : (rects rects′ : List Float) → n ≤ mostPoints → n ≤ length rects → RectsPacked tiles n n rects rects′ → RectsIn rects′ n
-  rects-in rects rects′ few room t = record {
+  pub rects-in : {rects rects′ : List Float} → n ≤ mostPoints → n ≤ length rects → RectsPacked tiles n n rects rects′ → RectsIn rects′ n
+  rects-in few room t = record {
     few = few;
     each = λ i l. record { room = omega (arith, t .same, l, room); number = t .each i l .number };
     small = λ i l. subst Small (sym (t .each i l .same)) (rect-small tiles i);
   }
 
-  pub held-same : (rects rects′ : List Float) → RectsPacked tiles n n rects rects′ → (i c : ℕ) → i < n → heldIn rects′ i c ≡ holdsOf tiles i c
-  held-same rects rects′ t i c l = ap (λ (r : Rect). holds r c) (t .each i l .same)
+  held-same : {rects rects′ : List Float} → RectsPacked tiles n n rects rects′ → (i c : ℕ) → i < n → heldIn rects′ i c ≡ holdsOf tiles i c
+  held-same t i c l = ap (λ (r : Rect). holds r c) (t .each i l .same)
 
 -- ---- two tests that agree below n
-module _ (h g : ℕ → ℕ → Bool) where
+module _ {h g : ℕ → ℕ → Bool} where
   listed-same : (n : ℕ) → ((i c : ℕ) → i < n → h i c ≡ g i c) → (c : ℕ) → listed h n c ≡ listed g n c
   unfolding listed
   listed-same zero e c = refl
@@ -123,12 +123,12 @@ module _ (h g : ℕ → ℕ → Bool) where
       more i n l = omega arith
 
   module _ (n : ℕ) (e : (i c : ℕ) → i < n → h i c ≡ g i c) where
-    pub start-same : (c : ℕ) → start h n c ≡ start g n c
+    start-same : (c : ℕ) → start h n c ≡ start g n c
     unfolding start
     start-same zero = refl
     start-same (suc c) = ap₂ (λ (a : ℕ) (l : List ℕ). a + length l) (start-same c) (listed-same n e c)
 
-    pub index-same : (c : ℕ) → indexOf h n c ≡ indexOf g n c
+    index-same : (c : ℕ) → indexOf h n c ≡ indexOf g n c
     unfolding indexOf
     index-same zero = refl
     index-same (suc c) = ap₂ (λ (a b : List ℕ). a ++ b) (index-same c) (listed-same n e c)
@@ -138,12 +138,19 @@ module _ (h g : ℕ → ℕ → Bool) where
     table-same zero = refl
     table-same (suc k) = ap₂ (λ (a : List ℕ) (b : ℕ). a ++ (b ∷ [])) (table-same k) (start-same k)
 
-    pub offsets-same : (cells : ℕ) → offsetsOf h n cells ≡ offsetsOf g n cells
+    offsets-same : (cells : ℕ) → offsetsOf h n cells ≡ offsetsOf g n cells
     offsets-same cells = table-same (cells + 1)
 
 -- the cells summed are the length of the rectangles' index
-pub needed-packed : (tiles : List Float) (n : ℕ) (rects rects′ : List Float) → RectsPacked tiles n n rects rects′ → needed tiles n ≡ start (heldIn rects′) n cellCount
-needed-packed tiles n rects rects′ t = needed-start tiles n ∙ sym (start-same (heldIn rects′) (holdsOf tiles) n (held-same tiles n rects rects′ t) cellCount)
+pub needed-packed : {tiles : List Float} {n : ℕ} {rects rects′ : List Float} → RectsPacked tiles n n rects rects′ → needed tiles n ≡ start (heldIn rects′) n cellCount
+needed-packed {tiles} {n} t = needed-start tiles n ∙ sym (start-same n (held-same tiles n t) cellCount)
+
+-- the index laid by the rectangles is that of the tiles
+pub packed-laid : {tiles : List Float} {n : ℕ} {rects rects′ : List Float} {o l : List ℕ} {need : ℕ} {o′ l′ : List ℕ} → RectsPacked tiles n n rects rects′ → need ≡ needed tiles n → need ≤ length l
+    → o′ ≡ offsetsOf (heldIn rects′) n cellCount → l′ ≡ indexOf (heldIn rects′) n cellCount → Built tiles n o l (o′ ++ drop offsetCount o) (l′ ++ drop need l) false need
+packed-laid {tiles} {n} {l = l} t is room eo el =
+    let e = held-same tiles n t in
+    built-laid tiles is (subst (λ (z : ℕ). z ≤ length l) is room) (eo ∙ offsets-same n e cellCount) (el ∙ index-same n e cellCount)
 
 -- ---- the scratch is cleared
 pub scratch-cleared : (a a1 a2 : List Float) (n m : ℕ) → n ≤ m → drop n a1 ≡ drop n a → a2 ≡ take 0 a1 ++ (replicate (m - 0) nought ++ drop m a1) → a2 ≡ take 0 a ++ (replicate (m - 0) nought ++ drop m a)
