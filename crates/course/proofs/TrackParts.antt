@@ -114,16 +114,16 @@ positive : (m : ℕ) → (m ≡ 0 → ⊥) → 0 < m
 positive zero h = absurd (h refl)
 positive (suc m) h = omega arith
 
-module _ (ps : List TrackStep) (a b x y : List Float) (f : Front ps a b x y) where
-  pub b-is : (n : ℕ) → 0 < n → length ps ≡ n → lastPass a (n - 1) ≡ laterPass ps
+module _ {ps : List TrackStep} {a b x y : List Float} (f : Front ps a b x y) where
+  pub later-is : {n : ℕ} → 0 < n → length ps ≡ n → lastPass a (n - 1) ≡ laterPass ps
   unfolding laterPass
-  b-is n p e =
+  later-is {n} p e =
       let k : n - 1 < length (stepAlphas ps) = rw (length-map ps _) (omega arith) in
       ap (λ (z : List Float). lastPass z (n - 1)) (f .alpha .is) ∙ pass-front (stepAlphas ps) (f .alpha .rest) (n - 1) k ∙ ap (λ (z : ℕ). lastPass (stepAlphas ps) (z - 1)) (sym e)
 
-  pub a-is : (m : ℕ) → m ≡ laterPass ps → m - 1 < length ps → lastPass a (m - 1) ≡ earlierPass ps
+  pub earlier-is : {m : ℕ} → m ≡ laterPass ps → m - 1 < length ps → lastPass a (m - 1) ≡ earlierPass ps
   unfolding earlierPass
-  a-is m e h =
+  earlier-is {m} e h =
       let k : m - 1 < length (stepAlphas ps) = rw (length-map ps _) h in
       ap (λ (z : List Float). lastPass z (m - 1)) (f .alpha .is) ∙ pass-front (stepAlphas ps) (f .alpha .rest) (m - 1) k ∙ ap (λ (z : ℕ). lastPass (stepAlphas ps) (z - 1)) e
 
@@ -144,7 +144,7 @@ module _ (ps : List TrackStep) (a b x y : List Float) (f : Front ps a b x y) whe
         ← same (λ (t : TrackStep). t .y) ps y r n (n - 1) e ln q le (f .y),
       )
 
-  module _ (rb ra : ℕ) (eb : rb ≡ laterPass ps) (ea : ra ≡ earlierPass ps) (z : ra ≡ 0 → ⊥) (n : rb - 1 - ra ≡ 0 → ⊥) (l : rb ≤ length ps) where
+  module _ {rb ra : ℕ} (eb : rb ≡ laterPass ps) (ea : ra ≡ earlierPass ps) (z : ra ≡ 0 → ⊥) (n : rb - 1 - ra ≡ 0 → ⊥) (l : rb ≤ length ps) where
     between-is : take (rb - 1 - ra) (drop ra ps) ≡ betweenPasses ps
     unfolding betweenPasses
     between-is = rw (eb, ea)
@@ -166,17 +166,20 @@ module _ (ps : List TrackStep) (a b x y : List Float) (f : Front ps a b x y) whe
         let q : take (rb - 1 - ra) (drop ra ps) ≡ trackOf ps = between-is ∙ sym (track-is ps (λ e. z (ea ∙ e)) (sym here ∙ h)) in
         record { size = sym (part-length ps ra (rb - 1 - ra) (omega arith)) ∙ ap length q; part = q }
 
-  pub cut-no-b : (rb : ℕ) → rb ≡ laterPass ps → rb ≡ 0 → Cut ps 0 0
-  cut-no-b rb e z = cut-none ps (none-a ps (none-b ps (sym e ∙ z)))
+  pub cut-no-b : {rb : ℕ} → rb ≡ laterPass ps → rb ≡ 0 → Cut ps 0 0
+  cut-no-b e z = cut-none ps (none-a ps (none-b ps (sym e ∙ z)))
 
-  pub cut-no-a : (ra : ℕ) → ra ≡ earlierPass ps → ra ≡ 0 → Cut ps 0 0
-  cut-no-a ra e z = cut-none ps (none-a ps (sym e ∙ z))
+  pub cut-no-a : {ra : ℕ} → ra ≡ earlierPass ps → ra ≡ 0 → Cut ps 0 0
+  cut-no-a e z = cut-none ps (none-a ps (sym e ∙ z))
 
-  pub cut-no-n : (rb ra : ℕ) → rb ≡ laterPass ps → ra ≡ earlierPass ps → rb - 1 - ra ≡ 0 → Cut ps 0 0
-  cut-no-n rb ra eb ea z = cut-none ps (none-n ps (sym (ap₂ (λ (m n : ℕ). m - 1 - n) eb ea) ∙ z))
+  pub cut-no-n : {rb ra : ℕ} → rb ≡ laterPass ps → ra ≡ earlierPass ps → rb - 1 - ra ≡ 0 → Cut ps 0 0
+  cut-no-n eb ea z = cut-none ps (none-n ps (sym (ap₂ (λ (m n : ℕ). m - 1 - n) eb ea) ∙ z))
 
 pub end-below : (m rb len n : ℕ) → 0 < len → rb ≤ len - 1 → len ≤ m → m ≤ n → rb - 1 - 1 < n
 end-below m rb len n p h l k = omega arith
 
 pub end-fits : (rb len : ℕ) → rb ≤ len - 1 → len ≤ mostPoints → Fits w64 ((rb - 1 - 1) * 8)
 end-fits rb len h l = omega arith
+
+pub part-within : (rb ra len : ℕ) → (rb - 1 - ra ≡ 0 → ⊥) → rb ≤ len - 1 → ra + (rb - 1 - ra) ≤ len
+part-within rb ra len z h = let p = positive (rb - 1 - ra) z in omega (arith, p, h)

@@ -1,18 +1,49 @@
 -- `course::track::cut` meets its contract. Assumes nothing.
-use Rattle.course.proofs.TrackParts.{end-below, end-fits, b-is, a-is, cut-no-b, cut-no-a, cut-no-n, cut-good, cut-apart}
-use lib.ListN.{length}
-use native.Mathlib.Omega.{arith}
-use mathlib.Core.Path.{_≡_, sym, _∙_}
 use Prim.Native.Nat.{ℕ, _-_, _≤_, _<_}
+use mathlib.Core.Path.{_≡_, sym, _∙_}
+use mathlib.Core.List.{List}
+use native.Mathlib.Omega.{arith}
+use lib.ListN.{length}
+use borrow.Author.Needs.{needs}
 use Rattle.course.specs.Lengths.{mostPoints}
 use Rattle.course.specs.Track.{earlierPass, laterPass}
-use borrow.Author.Needs.{needs}
+use Rattle.course.specs.LaySteps.{Front}
+use Rattle.course.specs.declared.step.TrackStep.{TrackStep}
+use Rattle.course.proofs.TrackParts.{end-below, end-fits, part-within, later-is, earlier-is, cut-no-b, cut-no-a, cut-no-n, cut-good, cut-apart}
 use Rattle.course.proofs.track.cut.Statement.{statement}
 use Rattle.course.proofs.track.cut.Tie as tie
-use Rattle.course.proofs.track.cut.Reads as reads
-use Rattle.course.proofs.track.cut.Lts as lts
-use Rattle.course.proofs.track.last_pass.Reads as last-pass-reads
-use Rattle.course.proofs.track.well_glued.Reads as well-glued-reads
+
+-- The places that the answers name, each reached from a later one: the call is made, the later pass is found, the earlier one is
+-- found, there are steps between them, and their ends are compared.
+abbrev entry : tie.After-last-pass → tie.Start
+entry c = c .before .before .before .before .before
+
+abbrev later-found : tie.After-last-pass2 → tie.After-last-pass
+later-found c = c .before .before
+
+abbrev earlier-found : tie.Else3 → tie.After-last-pass2
+earlier-found c = c .before .before
+
+abbrev some-between : tie.After-shared-slice-known7 → tie.Else3
+some-between c = c .before .before .before
+
+abbrev compared : tie.After-well-glued → tie.Else3
+compared c = some-between (c .before .before .before)
+
+-- The steps of the walk stand in front of the columns.
+abbrev Steps : tie.Start → List TrackStep → Type 0
+Steps s ps = Front ps (s .args .alpha .now) (s .args .beta .now) (s .args .x .now) (s .args .y .now)
+
+-- what the two searches found
+later : (c : tie.After-last-pass) (ps : List TrackStep) → length ps ≡ entry c .args .len → Steps (entry c) ps → c .last-pass .result ≡ laterPass ps
+later c ps e f = c .last-pass .ensures .0 ∙ later-is f (entry c .pre .0 .0) e
+
+within : (c : tie.After-last-pass) (ps : List TrackStep) → length ps ≡ entry c .args .len → c .last-pass .result < length ps
+within c ps e = omega (arith, e, c .last-pass .ensures .1, entry c .pre .0 .0)
+
+earlier : (c : tie.After-last-pass2) (ps : List TrackStep) → length ps ≡ entry (later-found c) .args .len → Steps (entry (later-found c)) ps
+    → c .last-pass2 .result ≡ earlierPass ps
+earlier c ps e f = c .last-pass2 .ensures .0 ∙ earlier-is f (later (later-found c) ps e f) (omega (arith, within (later-found c) ps e))
 
 sub-top : tie.Need-sub-top
 sub-top c = search needs
@@ -21,16 +52,7 @@ last-pass-requires : tie.Need-last-pass-requires
 last-pass-requires c κs = search needs
 
 returns : tie.Need-returns
-returns c =
-    let A = c .before in
-    let s = A .before .before .before .before .before in
-    let ar = s .args in
-    let rb : ℕ = A .last-pass .result in (
-      λ ps e f.
-          let eb : rb ≡ laterPass ps = A .last-pass .ensures .0 ∙ b-is ps _ _ _ _ f (ar .len) (s .pre .0 .0) e in
-          cut-no-b ps _ _ _ _ f rb eb (c .if1 .taken),
-      omega arith,
-    )
+returns c = (λ ps e f. cut-no-b f (later (c .before) ps e f) (c .if1 .taken), omega arith)
 
 sub-below : tie.Need-sub-below
 sub-below c = search needs
@@ -39,37 +61,15 @@ last-pass-requires-2 : tie.Need-last-pass-requires-2
 last-pass-requires-2 c κs = search needs
 
 returns-2 : tie.Need-returns-2
-returns-2 c =
-    let A = c .before .before .before in
-    let s = A .before .before .before .before .before in
-    let ar = s .args in
-    let rb : ℕ = A .last-pass .result in
-    let ra : ℕ = c .before .last-pass2 .result in (
-      λ ps e f.
-          let eb : rb ≡ laterPass ps = A .last-pass .ensures .0 ∙ b-is ps _ _ _ _ f (ar .len) (s .pre .0 .0) e in
-          let hb : rb - 1 < length ps = omega (arith, e, A .last-pass .ensures .1, s .pre .0 .0) in
-          let ea : ra ≡ earlierPass ps = c .before .last-pass2 .ensures .0 ∙ a-is ps _ _ _ _ f rb eb hb in
-          cut-no-a ps _ _ _ _ f ra ea (c .if2 .taken),
-      omega arith,
-    )
+returns-2 c = (λ ps e f. cut-no-a f (earlier (c .before) ps e f) (c .if2 .taken), omega arith)
 
 sub-n : tie.Need-sub-n
 sub-n c = search needs
 
 returns-3 : tie.Need-returns-3
 returns-3 c =
-    let A = c .before .before .before .before in
-    let s = A .before .before .before .before .before in
-    let ar = s .args in
-    let rb : ℕ = A .last-pass .result in
-    let ra : ℕ = c .before .before .last-pass2 .result in (
-      λ ps e f.
-          let eb : rb ≡ laterPass ps = A .last-pass .ensures .0 ∙ b-is ps _ _ _ _ f (ar .len) (s .pre .0 .0) e in
-          let hb : rb - 1 < length ps = omega (arith, e, A .last-pass .ensures .1, s .pre .0 .0) in
-          let ea : ra ≡ earlierPass ps = c .before .before .last-pass2 .ensures .0 ∙ a-is ps _ _ _ _ f rb eb hb in
-          cut-no-n ps _ _ _ _ f rb ra eb ea (c .if3 .taken),
-      omega arith,
-    )
+    let p = c .before .before in
+    (λ ps e f. cut-no-n f (later (later-found p) ps e f) (earlier p ps e f) (c .if3 .taken), omega arith)
 
 sub-e : tie.Need-sub-e
 sub-e c = search needs
@@ -92,52 +92,48 @@ mul-well-glued-3 c = search needs
 shared-slice-read-well-glued-3 : tie.Need-shared-slice-read-well-glued-3
 shared-slice-read-well-glued-3 c = search needs
 
+-- the last step between the passes is one of the walk's
+end-in : (c : tie.After-last-pass) {n : ℕ} → mostPoints ≤ n → c .last-pass .result - 1 - 1 < n
+end-in c {n} wide = end-below mostPoints _ (entry c .args .len) n (entry c .pre .0 .0) (c .last-pass .ensures .1) (entry c .pre .0 .1) wide
+
 mul-well-glued-4 : tie.Need-mul-well-glued-4
-mul-well-glued-4 c = let A = c .before .before .before .before .before .before .before in let s = A .before .before .before .before .before in end-fits _ (s .args .len) (A .last-pass .ensures .1) (s .pre .0 .1)
+mul-well-glued-4 c =
+    let l = later-found (earlier-found (some-between c)) in
+    end-fits _ (entry l .args .len) (l .last-pass .ensures .1) (entry l .pre .0 .1)
 
 shared-slice-read-well-glued-4 : tie.Need-shared-slice-read-well-glued-4
-shared-slice-read-well-glued-4 c = let A = c .before .before .before .before .before .before .before .before in let s = A .before .before .before .before .before in end-below mostPoints _ (s .args .len) _ (s .pre .0 .0) (A .last-pass .ensures .1) (s .pre .0 .1) (s .pre .1 .1 .0)
+shared-slice-read-well-glued-4 c = let l = later-found (earlier-found (some-between (c .before))) in end-in l (entry l .pre .1 .1 .0)
 
 mul-well-glued-5 : tie.Need-mul-well-glued-5
-mul-well-glued-5 c = let A = c .before .before .before .before .before .before .before .before in let s = A .before .before .before .before .before in end-fits _ (s .args .len) (A .last-pass .ensures .1) (s .pre .0 .1)
+mul-well-glued-5 c =
+    let l = later-found (earlier-found (some-between (c .before))) in
+    end-fits _ (entry l .args .len) (l .last-pass .ensures .1) (entry l .pre .0 .1)
 
 shared-slice-read-well-glued-5 : tie.Need-shared-slice-read-well-glued-5
-shared-slice-read-well-glued-5 c = let A = c .before .before .before .before .before .before .before .before .before in let s = A .before .before .before .before .before in end-below mostPoints _ (s .args .len) _ (s .pre .0 .0) (A .last-pass .ensures .1) (s .pre .0 .1) (s .pre .1 .1 .1)
+shared-slice-read-well-glued-5 c = let l = later-found (earlier-found (some-between (c .before .before))) in end-in l (entry l .pre .1 .1 .1)
 
 well-glued-requires : tie.Need-well-glued-requires
 well-glued-requires c κs = search needs
 
 returns-4 : tie.Need-returns-4
 returns-4 c =
-    let E = c .before .before .before .before .before .before .before in
-    let A = E .before .before .before .before in
-    let s = A .before .before .before .before .before in
-    let ar = s .args in
-    let rb : ℕ = A .last-pass .result in
-    let ra : ℕ = E .before .before .last-pass2 .result in (
+    let s = compared (c .before) in
+    let p = earlier-found s in
+    let l = later-found p in (
       λ ps e f.
-          let eb : rb ≡ laterPass ps = A .last-pass .ensures .0 ∙ b-is ps _ _ _ _ f (ar .len) (s .pre .0 .0) e in
-          let hb : rb - 1 < length ps = omega (arith, e, A .last-pass .ensures .1, s .pre .0 .0) in
-          let ea : ra ≡ earlierPass ps = E .before .before .last-pass2 .ensures .0 ∙ a-is ps _ _ _ _ f rb eb hb in
-          let l : rb ≤ length ps = omega (arith, e, A .last-pass .ensures .1, s .pre .0 .0) in
-          cut-good ps _ _ _ _ f rb ra eb ea (E .before .if2 .left) (E .if3 .left) l (sym (c .before .well-glued .ensures) ∙ c .if4 .taken),
-      omega arith,
+          cut-good f (later l ps e f) (earlier p ps e f) (s .before .if2 .left) (s .if3 .left) (omega (arith, within l ps e))
+          (sym (c .before .well-glued .ensures) ∙ c .if4 .taken),
+      part-within _ _ (entry l .args .len) (s .if3 .left) (l .last-pass .ensures .1),
     )
 
 returns-5 : tie.Need-returns-5
 returns-5 c =
-    let E = c .before .before .before .before .before .before .before in
-    let A = E .before .before .before .before in
-    let s = A .before .before .before .before .before in
-    let ar = s .args in
-    let rb : ℕ = A .last-pass .result in
-    let ra : ℕ = E .before .before .last-pass2 .result in (
+    let s = compared (c .before) in
+    let p = earlier-found s in
+    let l = later-found p in (
       λ ps e f.
-          let eb : rb ≡ laterPass ps = A .last-pass .ensures .0 ∙ b-is ps _ _ _ _ f (ar .len) (s .pre .0 .0) e in
-          let hb : rb - 1 < length ps = omega (arith, e, A .last-pass .ensures .1, s .pre .0 .0) in
-          let ea : ra ≡ earlierPass ps = E .before .before .last-pass2 .ensures .0 ∙ a-is ps _ _ _ _ f rb eb hb in
-          let l : rb ≤ length ps = omega (arith, e, A .last-pass .ensures .1, s .pre .0 .0) in
-          cut-apart ps _ _ _ _ f rb ra eb ea (E .before .if2 .left) (E .if3 .left) l (sym (c .before .well-glued .ensures) ∙ c .if4 .left),
+          cut-apart f (later l ps e f) (earlier p ps e f) (s .before .if2 .left) (s .if3 .left) (omega (arith, within l ps e))
+          (sym (c .before .well-glued .ensures) ∙ c .if4 .left),
       omega arith,
     )
 
