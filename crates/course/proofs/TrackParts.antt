@@ -181,5 +181,6 @@ end-below m rb len n p h l k = omega arith
 pub end-fits : (rb len : ℕ) → rb ≤ len - 1 → len ≤ mostPoints → Fits w64 ((rb - 1 - 1) * 8)
 end-fits rb len h l = omega arith
 
+-- the part ends within the walk
 pub part-within : (rb ra len : ℕ) → (rb - 1 - ra ≡ 0 → ⊥) → rb ≤ len - 1 → ra + (rb - 1 - ra) ≤ len
 part-within rb ra len z h = let p = positive (rb - 1 - ra) z in omega (arith, p, h)

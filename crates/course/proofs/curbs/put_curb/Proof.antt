@@ -7,8 +7,8 @@ use Rattle.course.proofs.CurbLaws.{curb-kept, curb-put, quad-between}
 use Rattle.course.proofs.curbs.put_curb.Statement.{statement}
 use Rattle.course.proofs.curbs.put_curb.Tie as tie
 
--- The places that the answers name, each reached from a later one: the call is made, the point has a border, its quad is made,
--- the quad is put, and then its mark.
+-- The places that the answers name, each reached from a later one: the call is made, the point has a border, its quad is
+-- made, the quad is put, and then its mark.
 abbrev entry : tie.After-is-bordered → tie.Start
 entry c = c .before .before .before .before .before .before
 
@@ -69,12 +69,15 @@ returns-2 : tie.Need-returns-2
 returns-2 c =
     let m = mark-put c in
     let q = quad-made (quad-put m) in
-    let p2 = q .before in
-    let p = p2 .before in
     let e = bordered q in
     let a = entry (e .before) .args in
-    let quad = quad-between (a .beta .now) (a .x .now) (a .y .now) (a .n) (a .i) (q .curb-quad .ensures) (p .point-at .ensures) (p2 .point-at2 .ensures) (p .before .before2 .ensures .0) in
-    curb-put (sym (e .before .is-bordered .ensures) ∙ not-false _ (e .if1 .left)) quad (m .before .white-of .ensures) (quad-put m .put-quad .ensures) (m .put-mark .ensures)
+    let has = sym (e .before .is-bordered .ensures) ∙ not-false _ (e .if1 .left) in
+    let made = q .curb-quad .ensures in
+    let there = q .before .point-at2 .ensures in
+    let here = q .before .before .point-at .ensures in
+    let prior = q .before .before .before .before2 .ensures .0 in
+    let quad = quad-between (a .beta .now) (a .x .now) (a .y .now) (a .n) (a .i) made here there prior in
+    curb-put has quad (m .before .white-of .ensures) (quad-put m .put-quad .ensures) (m .put-mark .ensures)
 
 pub put-curb-spec : {M : Type 1} → statement M
 put-curb-spec =

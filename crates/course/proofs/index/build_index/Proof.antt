@@ -9,8 +9,8 @@ use Rattle.course.proofs.PackedRects.{rects-in, needed-packed, packed-l
 use Rattle.course.proofs.index.build_index.Statement.{statement}
 use Rattle.course.proofs.index.build_index.Tie as tie
 
--- The places that the answers name, each reached from a later one: the call is made, the length needed is known, the list is long
--- enough, and the index is laid.
+-- The places that the answers name, each reached from a later one: the call is made, the length needed is known, the list is
+-- long enough, and the index is laid.
 abbrev entry : tie.After-total → tie.Start
 entry c = c .before .before .before .before .before .before
 
@@ -56,7 +56,8 @@ lay-index-requires c κs =
     let e = t .total .ensures in
     let s = entry t in
     let long = length-take-le (t .total .result) (s .args .list .now) (omega (arith, enough c .if1 .left)) in
-    (rects-in _ _ (s .pre .0 .0) (s .pre .1 .0) (e .1), (length-take-le offsetCount (s .args .offsets .now) (s .pre .1 .1), long ∙ e .0 ∙ needed-packed (e .1)))
+    let offsets = length-take-le offsetCount (s .args .offsets .now) (s .pre .1 .1) in
+    (rects-in _ _ (s .pre .0 .0) (s .pre .1 .0) (e .1), (offsets, long ∙ e .0 ∙ needed-packed (e .1)))
 
 same-length-2 : tie.Need-same-length-2
 same-length-2 c = search needs

@@ -6,8 +6,8 @@ use Rattle.course.proofs.Attempts.{Wide, some, front, attempt-good, att
 use Rattle.course.proofs.lay.attempt.Statement.{statement}
 use Rattle.course.proofs.lay.attempt.Tie as tie
 
--- The places that the answers name, each reached from a later one: the call is made, the walk has ended, it met no limit, its
--- track is cut, and the columns are moved to the front one after the other.
+-- The places that the answers name, each reached from a later one: the call is made, the walk has ended, it met no limit,
+-- its track is cut, and the columns are moved to the front one after the other.
 abbrev entry : tie.After-walk-round → tie.Start
 entry c = c .before .before .before .before .before .before .before .before .before
 
@@ -34,7 +34,9 @@ abbrev walk-of : tie.After-cut → tie.After-walk-round
 walk-of c = walked (unlimited (c .before) .before)
 
 -- the walk keeps the columns' lengths
-wide : (c : tie.After-walk-round) → let w = c .walk-round .last in Wide (w .1 .0) (w .1 .1 .0) (w .1 .1 .1 .0) (w .1 .1 .1 .1 .0)
+wide : (c : tie.After-walk-round) →
+    let w = c .walk-round .last in
+    Wide (w .1 .0) (w .1 .1 .0) (w .1 .1 .1 .0) (w .1 .1 .1 .1 .0)
 wide c =
     let s = entry c .pre in
     let k = c .walk-round .kept in
@@ -89,7 +91,8 @@ returns c =
     let k = cut-out b in
     let e = walk-of k .walk-round .ensures in
     let whole = k .cut .ensures .0 _ (sym (e .count)) (front e) in
-    attempt-good e (unlimited (k .before) .if1 .taken) (k .cut .ensures .1) whole (b .shift .ensures) (x .shift2 .ensures) (y .shift3 .ensures)
+    attempt-good e (unlimited (k .before) .if1 .taken) (k .cut .ensures .1) whole
+    (b .shift .ensures) (x .shift2 .ensures) (y .shift3 .ensures)
 
 same-length-5 : tie.Need-same-length-5
 same-length-5 c = search needs

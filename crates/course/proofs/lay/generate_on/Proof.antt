@@ -4,8 +4,8 @@ use Rattle.course.proofs.Generating.{AllBeyond, untouched, all-further,
 use Rattle.course.proofs.lay.generate_on.Statement.{statement}
 use Rattle.course.proofs.lay.generate_on.Tie as tie
 
--- The places that the answers name, each reached from a later one: the call is made, the attempt has ended, it is refused, and the
--- ring stands in front.
+-- The places that the answers name, each reached from a later one: the call is made, the attempt has ended, it is refused, and
+-- the ring stands in front.
 abbrev entry : tie.After-attempt → tie.Start
 entry c = c .before .before .before .before .before .before .before .before .before
 
@@ -22,11 +22,13 @@ ringed c = c .before .before .before .before .before .before
 beyond : (c : tie.After-attempt) →
     let a = entry c .args in
     let t = c .attempt .last in
-    AllBeyond (a .alpha .now) (a .beta .now) (a .x .now) (a .y .now) (t .1 .0) (t .1 .1 .0) (t .1 .1 .1 .0) (t .1 .1 .1 .1 .0)
+    AllBeyond (a .alpha .now) (a .beta .now) (a .x .now) (a .y .now)
+    (t .1 .0) (t .1 .1 .0) (t .1 .1 .1 .0) (t .1 .1 .1 .1 .0)
 beyond c =
     let s = entry c .pre in
     let k = c .attempt .kept in
-    all-further (untouched (s .0) (s .1 .0) (s .1 .1 .0) (s .1 .1 .1)) (c .attempt .ensures) (k .1 .0) (k .1 .1 .0) (k .1 .1 .1 .0) (k .1 .1 .1 .1 .0)
+    all-further (untouched (s .0) (s .1 .0) (s .1 .1 .0) (s .1 .1 .1)) (c .attempt .ensures)
+    (k .1 .0) (k .1 .1 .0) (k .1 .1 .1 .0) (k .1 .1 .1 .1 .0)
 
 attempt-requires : tie.Need-attempt-requires
 attempt-requires c κs = search needs
@@ -47,7 +49,9 @@ returns : tie.Need-returns
 returns c = let m = on-here _ (tried (c .before) .attempt .ensures) (c .if1 .taken) in (m .front, m .ring)
 
 ring-points-requires : tie.Need-ring-points-requires
-ring-points-requires c κs = let v = beyond (tried (refused c .before)) in (v .beta .long, (v .east .long, v .north .long))
+ring-points-requires c κs =
+    let v = beyond (tried (refused c .before)) in
+    (v .beta .long, (v .east .long, v .north .long))
 
 same-length-5 : tie.Need-same-length-5
 same-length-5 c = search needs

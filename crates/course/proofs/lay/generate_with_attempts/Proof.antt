@@ -11,8 +11,8 @@ Inv-loop attempts seed alpha₀ beta₀ x₀ y₀ g₀ k₀ alpha beta x y g k =
 abbrev μ-loop : tie.MeasureT-loop
 μ-loop attempts seed alpha₀ beta₀ x₀ y₀ g₀ k₀ alpha beta x y g k = attempts - k
 
--- The places that the answers name, each reached from a later one: a turn begins, its attempt has ended; the attempts are used up,
--- and the ring stands in front.
+-- The places that the answers name, each reached from a later one: a turn begins, its attempt has ended; the attempts are used
+-- up, and the ring stands in front.
 abbrev turn : tie.After-try-generate-arg4 Inv-loop μ-loop → tie.In-loop Inv-loop μ-loop
 turn c = c .before .before .before .before
 
@@ -69,10 +69,13 @@ loop-again c =
     let i = turn (t .before) in
     let e = t .try-generate .ensures in
     let k = t .try-generate .kept in
-    trying-more (i .before .loop .inv) (i .loop-test .taken) (e .0) (e .1) (c .before .if1 .left) (k .1 .0) (k .1 .1 .0) (k .1 .1 .1 .0) (k .1 .1 .1 .1 .0)
+    trying-more (i .before .loop .inv) (i .loop-test .taken) (e .0) (e .1) (c .before .if1 .left)
+    (k .1 .0) (k .1 .1 .0) (k .1 .1 .1 .0) (k .1 .1 .1 .1 .0)
 
 ring-points-requires : tie.Need-ring-points-requires Inv-loop μ-loop
-ring-points-requires c κs = let v = used-up c .before .loop .inv .kept in (v .beta .long, (v .east .long, v .north .long))
+ring-points-requires c κs =
+    let v = used-up c .before .loop .inv .kept in
+    (v .beta .long, (v .east .long, v .north .long))
 
 same-length-5 : tie.Need-same-length-5 Inv-loop μ-loop
 same-length-5 c = search needs

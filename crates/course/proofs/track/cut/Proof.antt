@@ -9,12 +9,13 @@ use Rattle.course.specs.Lengths.{mostPoints}
 use Rattle.course.specs.Track.{earlierPass, laterPass}
 use Rattle.course.specs.LaySteps.{Front}
 use Rattle.course.specs.declared.step.TrackStep.{TrackStep}
-use Rattle.course.proofs.TrackParts.{end-below, end-fits, part-within, later-is, earlier-is, cut-no-b, cut-no-a, cut-no-n, cut-good, cut-apart}
+use Rattle.course.proofs.TrackParts.{end-below, end-fits, part-within, later-is, earlier-is}
+use Rattle.course.proofs.TrackParts.{cut-no-b, cut-no-a, cut-no-n, cut-good, cut-apart}
 use Rattle.course.proofs.track.cut.Statement.{statement}
 use Rattle.course.proofs.track.cut.Tie as tie
 
--- The places that the answers name, each reached from a later one: the call is made, the later pass is found, the earlier one is
--- found, there are steps between them, and their ends are compared.
+-- The places that the answers name, each reached from a later one: the call is made, the later pass is found, the earlier one
+-- is found, there are steps between them, and their ends are compared.
 abbrev entry : tie.After-last-pass → tie.Start
 entry c = c .before .before .before .before .before
 
@@ -35,15 +36,19 @@ abbrev Steps : tie.Start → List TrackStep → Type 0
 Steps s ps = Front ps (s .args .alpha .now) (s .args .beta .now) (s .args .x .now) (s .args .y .now)
 
 -- what the two searches found
-later : (c : tie.After-last-pass) (ps : List TrackStep) → length ps ≡ entry c .args .len → Steps (entry c) ps → c .last-pass .result ≡ laterPass ps
+later : (c : tie.After-last-pass) (ps : List TrackStep) → length ps ≡ entry c .args .len → Steps (entry c) ps
+    → c .last-pass .result ≡ laterPass ps
 later c ps e f = c .last-pass .ensures .0 ∙ later-is f (entry c .pre .0 .0) e
 
-within : (c : tie.After-last-pass) (ps : List TrackStep) → length ps ≡ entry c .args .len → c .last-pass .result < length ps
+within : (c : tie.After-last-pass) (ps : List TrackStep) → length ps ≡ entry c .args .len
+    → c .last-pass .result < length ps
 within c ps e = omega (arith, e, c .last-pass .ensures .1, entry c .pre .0 .0)
 
-earlier : (c : tie.After-last-pass2) (ps : List TrackStep) → length ps ≡ entry (later-found c) .args .len → Steps (entry (later-found c)) ps
-    → c .last-pass2 .result ≡ earlierPass ps
-earlier c ps e f = c .last-pass2 .ensures .0 ∙ earlier-is f (later (later-found c) ps e f) (omega (arith, within (later-found c) ps e))
+earlier : (c : tie.After-last-pass2) (ps : List TrackStep) → length ps ≡ entry (later-found c) .args .len
+    → Steps (entry (later-found c)) ps → c .last-pass2 .result ≡ earlierPass ps
+earlier c ps e f =
+    let l = later-found c in
+    c .last-pass2 .ensures .0 ∙ earlier-is f (later l ps e f) (omega (arith, within l ps e))
 
 sub-top : tie.Need-sub-top
 sub-top c = search needs
@@ -94,7 +99,9 @@ shared-slice-read-well-glued-3 c = search needs
 
 -- the last step between the passes is one of the walk's
 end-in : (c : tie.After-last-pass) {n : ℕ} → mostPoints ≤ n → c .last-pass .result - 1 - 1 < n
-end-in c {n} wide = end-below mostPoints _ (entry c .args .len) n (entry c .pre .0 .0) (c .last-pass .ensures .1) (entry c .pre .0 .1) wide
+end-in c {n} wide =
+    let s = entry c in
+    end-below mostPoints _ (s .args .len) n (s .pre .0 .0) (c .last-pass .ensures .1) (s .pre .0 .1) wide
 
 mul-well-glued-4 : tie.Need-mul-well-glued-4
 mul-well-glued-4 c =
@@ -102,7 +109,9 @@ mul-well-glued-4 c =
     end-fits _ (entry l .args .len) (l .last-pass .ensures .1) (entry l .pre .0 .1)
 
 shared-slice-read-well-glued-4 : tie.Need-shared-slice-read-well-glued-4
-shared-slice-read-well-glued-4 c = let l = later-found (earlier-found (some-between (c .before))) in end-in l (entry l .pre .1 .1 .0)
+shared-slice-read-well-glued-4 c =
+    let l = later-found (earlier-found (some-between (c .before))) in
+    end-in l (entry l .pre .1 .1 .0)
 
 mul-well-glued-5 : tie.Need-mul-well-glued-5
 mul-well-glued-5 c =
@@ -110,7 +119,9 @@ mul-well-glued-5 c =
     end-fits _ (entry l .args .len) (l .last-pass .ensures .1) (entry l .pre .0 .1)
 
 shared-slice-read-well-glued-5 : tie.Need-shared-slice-read-well-glued-5
-shared-slice-read-well-glued-5 c = let l = later-found (earlier-found (some-between (c .before .before))) in end-in l (entry l .pre .1 .1 .1)
+shared-slice-read-well-glued-5 c =
+    let l = later-found (earlier-found (some-between (c .before .before))) in
+    end-in l (entry l .pre .1 .1 .1)
 
 well-glued-requires : tie.Need-well-glued-requires
 well-glued-requires c κs = search needs
@@ -121,8 +132,8 @@ returns-4 c =
     let p = earlier-found s in
     let l = later-found p in (
       λ ps e f.
-          cut-good f (later l ps e f) (earlier p ps e f) (s .before .if2 .left) (s .if3 .left) (omega (arith, within l ps e))
-          (sym (c .before .well-glued .ensures) ∙ c .if4 .taken),
+          cut-good f (later l ps e f) (earlier p ps e f) (s .before .if2 .left) (s .if3 .left)
+          (omega (arith, within l ps e)) (sym (c .before .well-glued .ensures) ∙ c .if4 .taken),
       part-within _ _ (entry l .args .len) (s .if3 .left) (l .last-pass .ensures .1),
     )
 
@@ -132,8 +143,8 @@ returns-5 c =
     let p = earlier-found s in
     let l = later-found p in (
       λ ps e f.
-          cut-apart f (later l ps e f) (earlier p ps e f) (s .before .if2 .left) (s .if3 .left) (omega (arith, within l ps e))
-          (sym (c .before .well-glued .ensures) ∙ c .if4 .left),
+          cut-apart f (later l ps e f) (earlier p ps e f) (s .before .if2 .left) (s .if3 .left)
+          (omega (arith, within l ps e)) (sym (c .before .well-glued .ensures) ∙ c .if4 .left),
       omega arith,
     )
 
