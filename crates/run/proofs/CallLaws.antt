@@ -116,24 +116,31 @@ settle-facts most u p l x y ps m h =
       sound = yes-of (soundPoses (l .offsets) (l .list) (u .n) ps) (v .0);
     }
 
-module _ (m most : ℕ) (u : Setup) (p : Progress) (c w : List ℕ) (l : Columns) (x y : Float) (ps : List Pose) where
-  pub settle-refused : (k : ℕ) → k ≡ settleCause most u p l x y ps → (k ≡ 0 → ⊥) → settledParts (NotSettled k) p c w ≡ settlePartsOf m most u p c w l x y ps
-  unfolding settlePartsOf settleAt settleAnswer
-  settle-refused zero e n = absurd (n refl)
-  settle-refused (suc k) e n = ap (λ (j : ℕ). settleAt m j u p c w l x y ps) e
+-- the number of a cause, 0 for none, was found for a settle
+pub record SettleCaused (most : ℕ) (u : Setup) (p : Progress) (l : Columns) (x y : Float) (ps : List Pose) (k : ℕ) : Type 0 where
+  pub cause : k ≡ settleCause most u p l x y ps
 
-  -- the contact of an accepted settle
-  abbrev pub contactIn : Contacted
-  contactIn = contactOf m c w (λ v. touchedBy (l .tiles) (l .offsets) (l .list) (quadOf ps v))
+pub settle-refused : (m : ℕ) {most : ℕ} {u : Setup} {p : Progress} {c w : List ℕ} {l : Columns} {x y : Float} {ps : List Pose} {k : ℕ} → SettleCaused most u p l x y ps k → (k ≡ 0 → ⊥)
+    → settledParts (NotSettled k) p c w ≡ settlePartsOf m most u p c w l x y ps
+unfolding settlePartsOf settleAt settleAnswer
+settle-refused m {k = zero} h n = absurd (n refl)
+settle-refused m {u = u} {p = p} {c = c} {w = w} {l = l} {x = x} {y = y} {ps = ps} {k = suc k} h n = ap (λ (j : ℕ). settleAt m j u p c w l x y ps) (h .cause)
 
-  pub settle-accepted : (k : ℕ) (c′ w′ : List ℕ) (f : ℕ) (z off : Bool) (next : Progress) → k ≡ settleCause most u p l x y ps → k ≡ 0
-      → contacted c′ w′ f z ≡ contactIn
-      → off ≡ offField x y → next ≡ settledProgress u p f z off
-      → settledParts (Settled (record { «new_tiles» = f; n = u .n; off = off; lap = next .lap; ended = next .ended })) next c′ w′ ≡ settlePartsOf m most u p c w l x y ps
-  unfolding settlePartsOf settleAt settleAnswer settledBy
-  settle-accepted k c′ w′ f z off next e n h eo es =
-      (λ i. settledParts (Settled (record { «new_tiles» = f; n = u .n; off = off; lap = es i .lap; ended = es i .ended })) (es i) c′ w′)
-      ∙ ap₂ (settledBy u p) eo h ∙ ap (λ (j : ℕ). settleAt m j u p c w l x y ps) (sym n ∙ e)
+-- what each call of an accepted settle leaves
+pub record SettleCalls (m most : ℕ) (u : Setup) (p : Progress) (c w : List ℕ) (l : Columns) (x y : Float) (ps : List Pose) (k : ℕ) (c′ w′ : List ℕ) (f : ℕ) (z o : Bool) (next : Progress) : Type 0 where
+  pub cause : k ≡ settleCause most u p l x y ps
+  pub none : k ≡ 0
+  pub contact : contacted c′ w′ f z ≡ contactOf m c w (λ v. touchedBy (l .tiles) (l .offsets) (l .list) (quadOf ps v))
+  pub off : o ≡ offField x y
+  pub progress : next ≡ settledProgress u p f z o
+
+pub settle-accepted : {m most : ℕ} {u : Setup} {p : Progress} {c w : List ℕ} {l : Columns} {x y : Float} {ps : List Pose} {k : ℕ} {c′ w′ : List ℕ} {f : ℕ} {z o : Bool} {next : Progress}
+    → SettleCalls m most u p c w l x y ps k c′ w′ f z o next
+    → settledParts (Settled (record { «new_tiles» = f; n = u .n; off = o; lap = next .lap; ended = next .ended })) next c′ w′ ≡ settlePartsOf m most u p c w l x y ps
+unfolding settlePartsOf settleAt settleAnswer settledBy
+settle-accepted {m} {u = u} {p = p} {c = c} {w = w} {l = l} {x = x} {y = y} {ps = ps} {c′ = c′} {w′ = w′} {f = f} {o = o} h =
+    (λ i. settledParts (Settled (record { «new_tiles» = f; n = u .n; off = o; lap = h .progress i .lap; ended = h .progress i .ended })) (h .progress i) c′ w′)
+    ∙ ap₂ (settledBy u p) (h .off) (h .contact) ∙ ap (λ (j : ℕ). settleAt m j u p c w l x y ps) (sym (h .none) ∙ h .cause)
 
 -- the call on a whole state, put together around the parts that it leaves
 pub settled-from : (m most : ℕ) (s : State) (l : Columns) (x y : Float) (ps : List Pose) (r : SettleAnswer) (p : Progress) (c w : List ℕ)
@@ -143,6 +150,6 @@ unfolding settleOf
 settled-from m most s l x y ps r p c w e = ap (λ (d : SettledParts). done (d .answer) (stateOf (s .setup) (d .progress) (s .car) (d .credited) (d .wheels))) e
 
 -- a contact has no more new tiles than its words have bits
-pub contact-few : (m : ℕ) (c w : List ℕ) (P : ℕ → ℕ → Bool) (f : ℕ) → f ≡ contactOf m c w P .fresh → f ≤ 64 * m
+pub contact-few : (m : ℕ) (c w : List ℕ) (P : ℕ → ℕ → Bool) {c′ w′ : List ℕ} {f : ℕ} {z : Bool} → contacted c′ w′ f z ≡ contactOf m c w P → f ≤ 64 * m
 unfolding contactOf
-contact-few m c w P f e = subst (λ (x : ℕ). x ≤ 64 * m) (sym e) (few (64 * m) (λ t. entered m w P t && not (member c t)))
+contact-few m c w P e = subst (λ (x : ℕ). x ≤ 64 * m) (sym (ap (λ (x : Contacted). x .fresh) e)) (few (64 * m) (λ t. entered m w P t && not (member c t)))

@@ -1,10 +1,10 @@
 -- `run::settle::settle_parts` meets its contract. Assumes nothing.
-use Prim.Native.Nat.{_≤_}
-use mathlib.Core.Path.{_≡_, sym, ap, _∙_}
+use mathlib.Core.Path.{_≡_, sym, _∙_}
 use native.Mathlib.Omega.{arith}
 use lib.Dec.{lit≤}
-use Rattle.run.specs.Contact.{Contacted}
-use Rattle.run.proofs.CallLaws.{settle-facts, settle-refused, settle-accepted, contact-few}
+use Rattle.run.specs.State.{columns}
+use Rattle.run.specs.Widths.{fullWords, mostTiles}
+use Rattle.run.proofs.CallLaws.{SettleFacts, settle-facts, settle-refused, settle-accepted, contact-few}
 use borrow.Author.Needs.{needs}
 use Rattle.run.proofs.settle.settle_parts.Statement.{statement}
 use Rattle.run.proofs.settle.settle_parts.Tie as tie
@@ -16,6 +16,28 @@ use Rattle.run.proofs.quad.wheel_cells.Reads as wheel-cells-reads
 use Rattle.run.proofs.settle.settle_cause.Reads as settle-cause-reads
 use Rattle.run.proofs.settle.settled_progress.Reads as settled-progress-reads
 
+-- The places that the answers name, each from one further down: the call's own start, no cause was found, the contact is made.
+abbrev start-at : tie.Else1 → tie.Start
+start-at c = c .before .before .before .before .before .before .before
+
+abbrev free-at : tie.After-full-contact-arg2 → tie.Else1
+free-at c = c .before .before .before .before
+
+abbrev touched-at : tie.After-is-off → tie.After-full-contact
+touched-at c = c .before
+
+-- what no cause says of the arguments
+no-cause : (c : tie.Else1) → c .before .settle-cause .result ≡ 0
+no-cause c = omega (arith, c .if1 .left)
+
+facts : (c : tie.Else1)
+    → let a = start-at c .args in
+    SettleFacts mostTiles (a .setup) (a .progress) (columns (a .tiles .now) (a .offsets .now) (a .list .now)) (a .poses)
+facts c =
+    let a = start-at c .args in
+    settle-facts mostTiles (a .setup) (a .progress) (columns (a .tiles .now) (a .offsets .now) (a .list .now)) (a .x) (a .y) (a .poses)
+    (lit≤ tt) (sym (c .before .settle-cause .ensures) ∙ no-cause c)
+
 wheel-cells-requires : tie.Need-wheel-cells-requires
 wheel-cells-requires c κs = search needs
 
@@ -26,7 +48,7 @@ settle-cause-requires : tie.Need-settle-cause-requires
 settle-cause-requires c κs = search needs
 
 returns : tie.Need-returns
-returns c = settle-refused _ _ _ _ _ _ _ _ _ _ _ (c .before .settle-cause .ensures) (c .if1 .taken)
+returns c = settle-refused fullWords (record { cause = c .before .settle-cause .ensures }) (c .if1 .taken)
 
 slice-aggregate-full-contact : tie.Need-slice-aggregate-full-contact
 slice-aggregate-full-contact c = search needs
@@ -36,10 +58,8 @@ cast-full-contact c = search needs
 
 full-contact-requires : tie.Need-full-contact-requires
 full-contact-requires c κs =
-    let e = c .before .before .before .before in
-    let k = e .before .settle-cause in
-    let z : k .result ≡ 0 = omega (arith, e .if1 .left) in
-    let h = settle-facts _ _ _ _ _ _ _ (lit≤ tt) (sym (k .ensures) ∙ z) in
+    let e = free-at c in
+    let h = facts e in
     (e .before .before .before .wheel-cells .ensures, (h .some, h .few, h .tiles, h .sound))
 
 is-off-requires : tie.Need-is-off-requires
@@ -47,19 +67,22 @@ is-off-requires c κs = search needs
 
 settled-progress-requires : tie.Need-settled-progress-requires
 settled-progress-requires c κs =
-    let e = c .before .before .before .before .before .before in
-    let k = e .before .settle-cause in
-    let z : k .result ≡ 0 = omega (arith, e .if1 .left) in
-    let h = settle-facts _ _ _ _ _ _ _ (lit≤ tt) (sym (k .ensures) ∙ z) in
-    let b = contact-few _ _ _ _ _ (ap (λ (x : Contacted). x .fresh) (c .before .full-contact .ensures)) in
-    (omega (arith, h .few, h .count, b), h .time)
+    let t = touched-at c in
+    let h = facts (free-at (t .before)) in
+    (omega (arith, h .few, h .count, contact-few fullWords _ _ _ (t .full-contact .ensures)), h .time)
 
 returns-2 : tie.Need-returns-2
 returns-2 c =
-    let e = c .before .before .before .before .before .before .before in
-    let k = e .before .settle-cause in
-    let z : k .result ≡ 0 = omega (arith, e .if1 .left) in
-    settle-accepted _ _ _ _ _ _ _ _ _ _ _ _ _ _ _ _ _ (k .ensures) z (c .before .before .full-contact .ensures) (c .before .is-off .ensures) (c .settled-progress .ensures)
+    let t = touched-at (c .before) in
+    let e = free-at (t .before) in
+    settle-accepted
+    (record {
+      cause = e .before .settle-cause .ensures;
+      none = no-cause e;
+      contact = t .full-contact .ensures;
+      off = c .before .is-off .ensures;
+      progress = c .settled-progress .ensures;
+    })
 
 pub settle-parts-spec : {M : Type 1} → statement M
 settle-parts-spec =
