@@ -1,4 +1,5 @@
--- Laws of the cells of wheels' boxes: the four wheels' in one list, and a cell that is the same as the one before it. Assumes nothing.
+-- Laws of the cells of wheels' boxes: the four wheels' in one list, a cell that is the same as the one before it, and the tiles of a
+-- quad's cells, tested one cell after the other. Assumes nothing.
 use mathlib.Core.Bool.{Bool, true, false, not, _&&_, _||_, false≢true, and-assoc, or-assoc, and-self, or-self}
 use mathlib.Core.List.{List, [], _∷_, _++_}
 use mathlib.Core.Path.{_≡_, refl, sym, ap, ap₂, _∙_}
@@ -6,18 +7,21 @@ use Prim.Native.Nat.{ℕ, zero, suc, _+_, _-_, _*_, _≤_, _<_}
 use native.Mathlib.Omega.{arith}
 use native.Mathlib.Numerals.{add-one}
 use lib.ListN.{length, getD, set, take, drop, replicate}
+use lib.Seq.{take-all}
 use lib.Dec.{eqb}
 use lib.Ieee.{Float}
 use borrow.Author.Tests.{eqb-true}
+use Rattle.course.specs.Index.{lookup}
 use Rattle.course.proofs.IndexLaws.{and-left, and-right}
 use Rattle.run.specs.Below.{someOf, everyOf, everyBelow}
+use Rattle.run.specs.Words.{setOf}
 use Rattle.run.specs.Overlap.{leastOn, greatestOn, apartOn, apartAlong, apartByEdges, overlapOf}
 use Rattle.run.specs.Wheel.{quadOf, boxCells}
-use Rattle.run.specs.Touch.{soundCell, soundQuad, soundPoses}
-use Rattle.run.specs.TouchSteps.{sideAlong, firstSide, beyond, apartByOthers, sixteenCells, again, Looked}
+use Rattle.run.specs.Touch.{tileOf, lists, listedBy, touchedBy, soundCell, soundQuad, soundPoses}
+use Rattle.run.specs.TouchSteps.{sideAlong, firstSide, beyond, apartByOthers, sixteenCells, again, overlapsTile, Tested, Tests, Looked}
 use Rattle.run.specs.declared.state.Pose.{Pose}
 use Rattle.run.specs.declared.quad.Side.{Side}
-use Rattle.run.proofs.TouchLaws.{some-take, every-take}
+use Rattle.run.proofs.TouchLaws.{some-none, some-take, every-take, tested-cong, tested-is, touch-more, none-tested}
 
 -- ---- a wheel's first side
 pub side-is : (nx ny low high : Float) (q : List (List Float)) → low ≡ leastOn nx ny q → high ≡ greatestOn nx ny q
@@ -70,6 +74,64 @@ every-next p ks i h n b = go (again ks i) refl
     go : (x : Bool) → again ks i ≡ x → everyOf p (take (i + 1) ks) ≡ true
     go true e = every-again p ks i e b ∙ h
     go false e = every-take p ks i b ∙ ap₂ _&&_ h (sym (ap (λ (x : Bool). x || p (getD ks i 0)) e) ∙ n)
+
+-- ---- the cells of a quad, one after the other
+
+-- after i of the cells k: the tiles that they list are tested, and the sets are as wide as before
+pub record CellsTested (q : List (List Float)) (ts : List Float) (offs l k tested₀ touched₀ tested touched : List ℕ) (i : ℕ) : Type 0 where
+  pub bound : i ≤ length k
+  pub tested-long : length tested ≡ length tested₀
+  pub touched-long : length touched ≡ length touched₀
+  pub sets : Tested (length tested₀) (overlapsTile q ts) (λ t. someOf (λ c. lists (lookup offs l c) t) (take i k)) tested touched
+
+pub no-cell : {q : List (List Float)} {ts : List Float} {offs l k tested touched : List ℕ} {m n : ℕ} → tested ≡ setOf m (λ t. false) → touched ≡ setOf n (λ t. false) → length tested ≡ m → n ≡ m
+    → CellsTested q ts offs l k tested touched tested touched 0
+no-cell {q} {ts} {tested = tested} {touched = touched} {m = m} {n = n} e f p s =
+    record {
+      bound = omega arith;
+      tested-long = refl;
+      touched-long = refl;
+      sets = none-tested (length tested) m n (overlapsTile q ts) _ tested touched e f p s (λ t. some-none _);
+    }
+
+module _ {q : List (List Float)} {ts : List Float} {offs l k tested₀ touched₀ a b : List ℕ} {i : ℕ} (h : CellsTested q ts offs l k tested₀ touched₀ a b i) where
+  -- the same of sets that are equal
+  pub cells-are : {a′ b′ : List ℕ} → a′ ≡ a → b′ ≡ b → CellsTested q ts offs l k tested₀ touched₀ a′ b′ i
+  cells-are p r =
+      record { bound = h .bound; tested-long = ap length p ∙ h .tested-long; touched-long = ap length r ∙ h .touched-long; sets = tested-is p r (h .sets) }
+
+  -- the tiles of one cell more are tested
+  pub one-cell : {ids a′ b′ : List ℕ} → i < length k → ids ≡ lookup offs l (getD k i 0) → length a′ ≡ length a → length b′ ≡ length b → Tests (overlapsTile q ts) (lists ids) a b a′ b′
+      → CellsTested q ts offs l k tested₀ touched₀ a′ b′ (i + 1)
+  one-cell {ids} {a′} {b′} less e p r step =
+      let f : ℕ → ℕ → Bool = λ t c. lists (lookup offs l c) t in
+      record {
+        bound = omega (arith, less);
+        tested-long = p ∙ h .tested-long;
+        touched-long = r ∙ h .touched-long;
+        sets =
+            touch-more (length tested₀) (overlapsTile q ts) (λ t. false) (λ t. someOf (f t) (take i k)) (lists ids) (λ t. someOf (f t) (take (i + 1) k)) a b a′ b′ (h .tested-long) step (h .sets)
+            (λ t. ap (λ (x : List ℕ). someOf (f t) (take i k) || lists x t) e ∙ sym (some-take (f t) k i less));
+      }
+
+  -- a cell again: its tiles are tested already
+  pub same-cell : i < length k → again k i ≡ true → CellsTested q ts offs l k tested₀ touched₀ a b (i + 1)
+  same-cell less e =
+      let f : ℕ → ℕ → Bool = λ t c. lists (lookup offs l c) t in
+      record {
+        bound = omega (arith, less);
+        tested-long = h .tested-long;
+        touched-long = h .touched-long;
+        sets =
+            tested-cong (length tested₀) (overlapsTile q ts) (λ t. someOf (f t) (take i k)) (λ t. someOf (f t) (take (i + 1) k)) a b
+            (λ t _. sym (some-again (f t) k i e less)) (h .sets);
+      }
+
+  -- all cells are done
+  pub all-touched : {m : ℕ} → length tested₀ ≡ m → k ≡ boxCells q → length k ≤ i → b ≡ setOf m (touchedBy ts offs l q)
+  unfolding touchedBy listedBy
+  all-touched w e past =
+      h .sets .hit ∙ ap₂ (λ (n : ℕ) (x : List ℕ). setOf n (λ t. someOf (λ c. lists (lookup offs l c) t) x && overlapOf q (tileOf ts t))) w (take-all i k past ∙ e)
 
 -- ---- the cells of four wheels
 -- sixteen places, of which those of the first w wheels hold their cells

@@ -7,7 +7,7 @@ use native.Mathlib.Omega.{arith}
 use native.Mathlib.Numerals.{add-one}
 use native.Mathlib.Decide.{ℕ-discrete}
 use lib.ListN.{length, getD, take}
-use lib.Seq.{take-suc, take-all}
+use lib.Seq.{take-suc}
 use lib.Dec.{eqb, ltb}
 use lib.Ieee.{Float}
 use borrow.Author.Tests.{eq-eqb, ne-eqb, ltb-true}
@@ -18,7 +18,7 @@ use Rattle.course.specs.Index.{partOk, lookup}
 use Rattle.run.specs.Overlap.{overlapOf}
 use Rattle.run.specs.Wheel.{boxCells}
 use Rattle.run.specs.Touch.{tileOf, lists, listedBy, touchedBy, soundCell}
-use Rattle.run.specs.TouchSteps.{overlapsTile, Tested, Tests, Room, Looked}
+use Rattle.run.specs.TouchSteps.{Tested, Tests, Room, Looked}
 use Rattle.run.proofs.WordLaws.{member-setOf, setOf-cong, or-chain}
 
 -- ---- tests over lists
@@ -128,9 +128,9 @@ pub room-for : {k n : ℕ} {ts : List Float} {a b : List ℕ} (i : ℕ) (a′ b�
 room-for {k = k} i a′ b′ h l p q = record { sets = q ∙ h .sets ∙ ap (λ (x : ℕ). k * x) (sym p); words = omega (arith, h .words, p, l); tiles = omega (arith, h .tiles, l) }
 
 -- the ids that a sound cell lists
-pub sound-ids : (offs l : List ℕ) (n : ℕ) (wanted ks ids : List ℕ) (i : ℕ) → Looked offs l n wanted ks → i < length ks → ids ≡ lookup offs l (getD ks i 0) → everyOf (λ t. ltb t n) ids ≡ true
+pub sound-ids : {offs l : List ℕ} {n : ℕ} {wanted ks ids : List ℕ} {i : ℕ} → Looked offs l n wanted ks → i < length ks → ids ≡ lookup offs l (getD ks i 0) → everyOf (λ t. ltb t n) ids ≡ true
 unfolding soundCell
-sound-ids offs l n wanted ks ids i h b r =
+sound-ids {offs} {l} {n} {ks = ks} {i = i} h b r =
     ap (everyOf (λ t. ltb t n)) r
     ∙ and-right (partOk offs l (getD ks i 0)) (everyOf (λ t. ltb t n) (lookup offs l (getD ks i 0))) (every-at (soundCell offs l n) ks i (h .sound) b)
 
@@ -142,13 +142,6 @@ none-tested m a b o N tested touched e f p q z =
       all = e ∙ ap (λ (x : ℕ). setOf x (λ t. false)) (sym p) ∙ setOf-cong m (λ t. false) N (λ t _. sym (z t));
       hit = f ∙ ap (λ (x : ℕ). setOf x (λ t. false)) (q ∙ sym p) ∙ setOf-cong m (λ t. false) (λ t. N t && o t) (λ t _. sym (ap (λ (x : Bool). x && o t) (z t)));
     }
-
--- all four cells are done
-pub all-touched : (m m′ : ℕ) (ts : List Float) (offs l : List ℕ) (q : List (List Float)) (k tested touched : List ℕ) (i : ℕ) → m ≡ m′ → k ≡ boxCells q → length k ≤ i
-    → Tested m (overlapsTile q ts) (λ t. someOf (λ c. lists (lookup offs l c) t) (take i k)) tested touched → touched ≡ setOf m′ (touchedBy ts offs l q)
-unfolding touchedBy listedBy
-all-touched m m′ ts offs l q k tested touched i em e b h =
-    h .hit ∙ ap₂ (λ (n : ℕ) (x : List ℕ). setOf n (λ t. someOf (λ c. lists (lookup offs l c) t) x && overlapOf q (tileOf ts t))) em (take-all i k b ∙ e)
 
 -- ---- no tile from n on is touched, where the look-ups are sound
 none-listed : (n t : ℕ) (ids : List ℕ) → n ≤ t → everyOf (λ u. ltb u n) ids ≡ true → someOf (eqb t) ids ≡ false
