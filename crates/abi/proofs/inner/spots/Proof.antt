@@ -82,19 +82,30 @@ spot-requires-12 c κs = search needs
 
 returns : tie.Need-returns
 unfolding spotAt checkpointsFrom
-returns c = λ i.
-    (c .before .before .before .before .before .before .before .before .before .before .before .before .before .before .before .before .before .before .before .before .before .before .spot .ensures) i
-    ∷ (c .before .before .before .before .before .before .before .before .before .before .before .before .before .before .before .before .before .before .before .before .spot2 .ensures) i
-    ∷ (c .before .before .before .before .before .before .before .before .before .before .before .before .before .before .before .before .before .before .spot3 .ensures) i
-    ∷ (c .before .before .before .before .before .before .before .before .before .before .before .before .before .before .before .before .spot4 .ensures) i
-    ∷ (c .before .before .before .before .before .before .before .before .before .before .before .before .before .before .spot5 .ensures) i
-    ∷ (c .before .before .before .before .before .before .before .before .before .before .before .before .spot6 .ensures) i
-    ∷ (c .before .before .before .before .before .before .before .before .before .before .spot7 .ensures) i
-    ∷ (c .before .before .before .before .before .before .before .before .spot8 .ensures) i
-    ∷ (c .before .before .before .before .before .before .spot9 .ensures) i
-    ∷ (c .before .before .before .before .spot10 .ensures) i
-    ∷ (c .before .before .spot11 .ensures) i
-    ∷ (c .spot12 .ensures) i
+returns c =
+    let s11 = c .before .before in
+    let s10 = s11 .before .before in
+    let s9 = s10 .before .before in
+    let s8 = s9 .before .before in
+    let s7 = s8 .before .before in
+    let s6 = s7 .before .before in
+    let s5 = s6 .before .before in
+    let s4 = s5 .before .before in
+    let s3 = s4 .before .before in
+    let s2 = s3 .before .before in
+    let s1 = s2 .before .before in
+    λ i. s1 .spot .ensures i
+    ∷ s2 .spot2 .ensures i
+    ∷ s3 .spot3 .ensures i
+    ∷ s4 .spot4 .ensures i
+    ∷ s5 .spot5 .ensures i
+    ∷ s6 .spot6 .ensures i
+    ∷ s7 .spot7 .ensures i
+    ∷ s8 .spot8 .ensures i
+    ∷ s9 .spot9 .ensures i
+    ∷ s10 .spot10 .ensures i
+    ∷ s11 .spot11 .ensures i
+    ∷ c .spot12 .ensures i
     ∷ []
 
 pub spots-spec : {M : Type 1} → statement M
