@@ -12,17 +12,16 @@ use Rattle.course.specs.Curbs.{Edged, edged}
 use Rattle.course.specs.declared.checkpoints.Checkpoint.{Checkpoint}
 use Rattle.course.specs.declared.points.Laid.{Laid}
 use Rattle.course.specs.declared.curbs.CurbAnswer.{CurbAnswer}
-use Rattle.run.specs.State.{view, Columns}
+use Rattle.run.specs.State.{view}
 use Rattle.run.specs.Start.{Begun, begun, startCauseOf, startValuesOf}
 use Rattle.run.specs.Drive.{driveCauseOf, drivePartsOf}
-use Rattle.run.specs.Settle.{settleCauseOf, settleValuesOf, SettledParts, settledParts, settlePartsOf}
+use Rattle.run.specs.Settle.{settleCauseOf, settleValuesOf, SettledParts, settledParts}
 use Rattle.certificate.specs.Numbers.{motionsFrom, forceNumbers, carFrom, carNumbers}
 use Rattle.certificate.specs.Batch.{Replay, replay}
 use Rattle.run.specs.declared.state.Run.{Run}
 use Rattle.run.specs.declared.state.Setup.{Setup}
 use Rattle.run.specs.declared.state.Progress.{Progress}
 use Rattle.run.specs.declared.state.Car.{Car}
-use Rattle.run.specs.declared.state.Pose.{Pose}
 use Rattle.run.specs.declared.dynamics.Motion.{Motion}
 use Rattle.run.specs.declared.start.StartAnswer.{StartAnswer}
 use Rattle.run.specs.declared.start.StartValues.{StartValues}
@@ -32,7 +31,7 @@ use Rattle.run.specs.declared.settle.SettleValues.{SettleValues}
 use Rattle.run.specs.declared.sheet.SheetAnswer.{SheetAnswer}
 use Rattle.run.proofs.DriveLaws.{refused-keeps}
 use Rattle.abi.specs.Flat.{flatLaid, flatCurbs, runOf, flatStarted, flatDriven, flatSettled, flatSheet, flatAnswers, flatReplayed, replayColumns, columnsAfter}
-use Rattle.abi.specs.Lent.{LentDriven, lentDriven, driveLent, lentSettled, settleLent}
+use Rattle.abi.specs.Lent.{LentDriven, lentDriven, driveLent, lentSettled}
 use Rattle.abi.specs.declared.flat.FlatLaid.{FlatLaid}
 use Rattle.abi.specs.declared.flat.FlatCurbs.{FlatCurbs}
 use Rattle.abi.specs.declared.flat.FlatSheet.{FlatSheet}
@@ -91,12 +90,12 @@ module _ (m most : ℕ) (u : Setup) (p : Progress) (car : List Float) (wheels : 
           ∙ ap carNumbers (sym (refused-keeps m most u p c wheels action ms (λ e. z (ek ∙ ap (λ (x : DroveParts). driveCauseOf (x .answer)) is ∙ e)) .1))
           ∙ ap (λ (x : DroveParts). carNumbers (x .car)) (sym is)
 
-pub settled-whole : (m most : ℕ) (u : Setup) (p : Progress) (c w : List ℕ) (l : Columns) (x y : Float) (ps : List Pose) (a : SettleAnswer) (next : Progress) (c′ w′ : List ℕ) (k : ℕ) (v : SettleValues)
-    → k ≡ settleCauseOf a → v ≡ settleValuesOf a → settledParts a next c′ w′ ≡ settlePartsOf m most u p c w l x y ps
-    → lentSettled (record { cause = k; «new_tiles» = v .«new_tiles»; n = v .n; off = v .off; lap = v .lap; ended = v .ended; progress = next }) c′ w′ ≡ settleLent m most u p c w l x y ps
-unfolding settleLent flatSettled
-settled-whole m most u p c w l x y ps a next c′ w′ k v ek ev e =
-    (λ i. lentSettled (record { cause = ek i; «new_tiles» = ev i .«new_tiles»; n = ev i .n; off = ev i .off; lap = ev i .lap; ended = ev i .ended; progress = next }) c′ w′)
+pub settled-whole : {a : SettleAnswer} {next : Progress} {c w : List ℕ} {k : ℕ} {v : SettleValues} {d : SettledParts} → k ≡ settleCauseOf a → v ≡ settleValuesOf a → settledParts a next c w ≡ d
+    → lentSettled (record { cause = k; «new_tiles» = v .«new_tiles»; n = v .n; off = v .off; lap = v .lap; ended = v .ended; progress = next }) c w
+    ≡ lentSettled (flatSettled (d .answer) (d .progress)) (d .credited) (d .wheels)
+unfolding flatSettled
+settled-whole {next = next} {c = c} {w = w} ek ev e =
+    (λ i. lentSettled (record { cause = ek i; «new_tiles» = ev i .«new_tiles»; n = ev i .n; off = ev i .off; lap = ev i .lap; ended = ev i .ended; progress = next }) c w)
     ∙ ap (λ (d : SettledParts). lentSettled (flatSettled (d .answer) (d .progress)) (d .credited) (d .wheels)) e
 
 -- ---- a whole replay

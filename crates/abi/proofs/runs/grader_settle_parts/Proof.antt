@@ -1,5 +1,6 @@
 -- `abi::runs::grader_settle_parts` meets its contract. Assumes nothing.
 use Rattle.abi.proofs.FlatLaws.{settled-whole}
+use Rattle.abi.specs.Lent.{settleLent}
 use borrow.Author.Needs.{needs}
 use Rattle.abi.proofs.runs.grader_settle_parts.Statement.{statement}
 use Rattle.abi.proofs.runs.grader_settle_parts.Tie as tie
@@ -19,7 +20,8 @@ settle-cause-requires : tie.Need-settle-cause-requires
 settle-cause-requires c κs = search needs
 
 returns : tie.Need-returns
-returns c = settled-whole _ _ _ _ _ _ _ _ _ _ _ _ _ _ _ _ (c .settle-cause .ensures) (c .before .settle-values .ensures) (c .before .before .before .settle-parts .ensures)
+unfolding settleLent
+returns c = settled-whole (c .settle-cause .ensures) (c .before .settle-values .ensures) (c .before .before .before .settle-parts .ensures)
 
 pub grader-settle-parts-spec : {M : Type 1} → statement M
 grader-settle-parts-spec =
