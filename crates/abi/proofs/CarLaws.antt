@@ -6,7 +6,7 @@ use native.Mathlib.Omega.{arith}
 use lib.ListN.{length, getD, drop, drop-of-length-le}
 use lib.Seq.{drop-cons}
 use lib.Ieee.{Float, nan}
-use Rattle.certificate.specs.Numbers.{numberAt}
+use Rattle.course.specs.Tiles.{numberAt}
 use Rattle.run.specs.declared.state.WheelCtl.{WheelCtl}
 use Rattle.run.specs.declared.state.Car.{Car}
 use Rattle.certificate.specs.Numbers.{wheelFrom, carFrom, carNumbers}

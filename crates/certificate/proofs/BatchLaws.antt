@@ -1,5 +1,5 @@
 -- What a replay leaves, from what its calls leave: the plain scorer's answers. Assumes nothing.
-use mathlib.Core.Bool.{Bool, true, false, cond, not, _&&_, _||_}
+use mathlib.Core.Bool.{Bool, true, false, cond, not, _&&_, or-true}
 use mathlib.Core.List.{List, [], _∷_, _++_, map-append}
 use mathlib.Core.Path.{_≡_, refl, sym, ap, ap₂, _∙_, subst}
 use Prim.Native.Nat.{ℕ, zero, suc, _*_, _≤_, _<_, min}
@@ -20,7 +20,7 @@ use Rattle.course.specs.declared.tiles.TrackPoint.{TrackPoint}
 use Rattle.course.specs.declared.points.Laid.{Laid}
 use Rattle.course.specs.declared.points.LaidCourse.{LaidCourse}
 use Rattle.course.specs.declared.points.Laid.the-variants.{Course as Made, Short, Refused as NotLaid}
-use Rattle.course.proofs.IndexLaws.{and-left, and-right}
+use Rattle.course.proofs.BoolLaws.{and-left, and-right, or-no}
 use Rattle.course.proofs.CourseSizes.{course-sized}
 use Rattle.course.proofs.LayLaws.{roomy, lay-cause, lay-course}
 use Rattle.run.specs.Arguments.{settingsOk, shortColumns}
@@ -34,13 +34,13 @@ use Rattle.certificate.specs.Answers.Answer.{refused}
 use Rattle.certificate.specs.Scorer.{Lengths, Opening, Told, History, touchedCount, lapDone, startNumber, scores, keptOf}
 use Rattle.certificate.specs.Certificate.{Lending, lentBy, lengthsOf, Given, callOf, toldOf, callsOf, toldsOf, settingsFor, settingsOn, startOn, layNumber}
 use Rattle.certificate.specs.Certificate.Lending.{laid, short}
-use Rattle.certificate.specs.Numbers.{numberAt, motionsFrom, posesFrom}
+use Rattle.course.specs.Tiles.{numberAt}
+use Rattle.certificate.specs.Numbers.{motionsFrom, posesFrom}
 use Rattle.certificate.specs.Replay.{callWords, callNumbers, answerWords, answerNumbers, allWords, allNumbers, partAt}
 use Rattle.certificate.specs.ReplaySteps.{lentTo, callFrom, callsTo}
 use Rattle.certificate.specs.Batch.{toldFrom, toldsTo, plainStart, plainAnswers, sheetOn, plainSheet, laidCourse, replayOn, roomFor, replayOf}
 use Rattle.run.specs.declared.start.StartAnswer.{StartAnswer}
 use Rattle.run.specs.declared.sheet.SheetAnswer.{SheetAnswer}
-use Rattle.run.proofs.CallLaws.{or-no}
 use Rattle.certificate.proofs.LentColumns.{laid-whole, count}
 use Rattle.certificate.proofs.Simulation.{Holds, stateOf, fits-state}
 use Rattle.certificate.proofs.Certificate.{zeros-stay, zeros-after, replies-are, after-is, begins, start-same, start-accepted, lent-holds, no-cause}
@@ -173,17 +173,13 @@ module _ (b : Opening) (k : Lengths) (n : ℕ) (calls : List ℕ) (given : List 
   abbrev nothing : CoursePoints
   nothing = record { points = []; fallback = false }
 
-  or-yes : (a : Bool) → (a || true) ≡ true
-  or-yes true = refl
-  or-yes false = refl
-
   none-number : startNumber [] mostTiles k b ≡ cond (not (settingsOk (b .share) (b .limit))) 1 2
   unfolding startNumber
-  none-number = rw (or-yes (shortColumns (k .tiles) (k .offsets)))
+  none-number = rw (or-true (shortColumns (k .tiles) (k .offsets)))
 
   none-cause : (l : Columns) (fb : Bool) → startCause mostTiles l (settingsFor 0 fb b) ≡ cond (not (settingsOk (b .share) (b .limit))) 1 2
   unfolding startCause startShort
-  none-cause l fb = rw (or-yes (shortOf l))
+  none-cause l fb = rw (or-true (shortOf l))
 
   never-none : (p : Bool) → _≡_ {A = ℕ} (cond p 1 2) 0 → ⊥
   never-none true e = omega (arith, e)

@@ -34,9 +34,9 @@ use Rattle.certificate.specs.Scorer.{Opening, Told, History, opening, dr
 use Rattle.certificate.specs.Scorer.History.{begun}
 use Rattle.certificate.specs.Certificate.{Lending, lentBy, lengthsOf, Given, callOf, toldOf, callsOf, toldsOf, newSum, endedBy, allOccur, settingsFor, settingsOn, keptBy, Graded, startOn, Demand3, layNumber, Certificate}
 use Rattle.certificate.specs.Certificate.Lending.{laid, short}
-use Rattle.run.proofs.CallLaws.{cleared, or-no}
+use Rattle.course.proofs.BoolLaws.{or-no, cond-else, cond-skip, cleared}
 use Rattle.certificate.proofs.ScoreLaws.{InTurn, kept-turn, opening-kept, sum-is, end-is, ended-over, all-occur}
-use Rattle.certificate.proofs.Simulation.{held, Holds, stateOf, withState, cond-else, cond-skip, started, toldBy, Lent, reply-is}
+use Rattle.certificate.proofs.Simulation.{held, Holds, stateOf, withState, started, toldBy, Lent, reply-is}
 use Rattle.run.proofs.SetMembers.{in-set, in-wheel}
 use Rattle.certificate.proofs.LaidTouch.{touched-laid, sound-laid}
 use Rattle.certificate.proofs.LentColumns.{laid-whole, lent-laid, count}

@@ -10,7 +10,8 @@ use lib.Ieee.{Float}
 use Rattle.certificate.specs.Answers.{Answer}
 use Rattle.certificate.specs.Answers.Answer.{drove, settled, refused}
 use Rattle.certificate.specs.Numbers.{forceFrom, forcesFrom, forceNumbers}
-use Rattle.certificate.specs.Replay.{answerWords, answerNumbers, flag, valuesFrom, wordsOf, numbersOf, allWords, allNumbers, answerFrom, answersFrom}
+use Rattle.certificate.specs.Replay.{answerWords, answerNumbers, valuesFrom, wordsOf, numbersOf, allWords, allNumbers, answerFrom, answersFrom}
+use Rattle.course.specs.Counting.{digit}
 use Rattle.course.specs.Lent.{Lent}
 use Rattle.course.specs.Lay.{CoursePoints}
 use Rattle.course.specs.declared.tiles.TrackPoint.{TrackPoint}
@@ -44,7 +45,7 @@ four-back (a ∷ b ∷ []) e = absurd (omega (arith, e))
 four-back (a ∷ b ∷ c ∷ []) e = absurd (omega (arith, e))
 four-back (a ∷ b ∷ c ∷ d ∷ f ∷ fs) e = absurd (omega (arith, e))
 
-flags-back : (off lap ended : Bool) (new n : ℕ) → valuesFrom new n (flag off + 2 * flag lap + 4 * flag ended) ≡ record { «new_tiles» = new; n = n; off = off; lap = lap; ended = ended }
+flags-back : (off lap ended : Bool) (new n : ℕ) → valuesFrom new n (digit off + 2 * digit lap + 4 * digit ended) ≡ record { «new_tiles» = new; n = n; off = off; lap = lap; ended = ended }
 unfolding valuesFrom
 flags-back false false false new n = refl
 flags-back false false true new n = refl

@@ -11,13 +11,15 @@ use lib.ListN.{length, getD, replicate, take, drop, set, length-append, length-d
 use lib.Seq.{sets, sets-eq, take-at, drop-at, drop-drop, length-take-le}
 use lib.Ieee.{Float}
 use Rattle.course.specs.Arithmetic.{nought}
+use Rattle.course.specs.Counting.{digit}
 use Rattle.run.specs.State.{State, Columns, columns}
 use Rattle.run.specs.Drive.{Driven, driven, driveOf}
 use Rattle.run.specs.Settle.{Done, done, settleOf}
 use Rattle.certificate.specs.Calls.{Call, driveSaid, settleSaid, replyOf, repliesOf, stateAfter}
 use Rattle.certificate.specs.Calls.Call.{drive, settle}
-use Rattle.certificate.specs.Numbers.{forceNumbers, motionsFrom, numberAt, posesFrom}
-use Rattle.certificate.specs.Replay.{answerWords, answerNumbers, flag, wordsOf, numbersOf}
+use Rattle.course.specs.Tiles.{numberAt}
+use Rattle.certificate.specs.Numbers.{forceNumbers, motionsFrom, posesFrom}
+use Rattle.certificate.specs.Replay.{answerWords, answerNumbers, wordsOf, numbersOf}
 use Rattle.certificate.specs.Replay.{callWords, callNumbers, partAt, allWords, allNumbers}
 use Rattle.certificate.specs.ReplaySteps.{lentTo, callFrom, callsTo}
 use Rattle.certificate.specs.Answers.{Answer}
@@ -83,7 +85,7 @@ abbrev SettleWritten : SettleAnswer → List ℕ → List Float → Type 0
 SettleWritten a ws ns = (ws ≡ wordsOf (settleSaid a)) × (ns ≡ numbersOf (settleSaid a))
 
 pub written-settled : (a : SettleAnswer) (ws : List ℕ) (ns : List Float) (v : SettleValues) (f : ℕ) → a ≡ Settled v
-    → f ≡ flag (v .off) + 2 * flag (v .lap) + 4 * flag (v .ended) → ws ≡ 1 ∷ v .«new_tiles» ∷ v .n ∷ f ∷ [] → ns ≡ replicate answerNumbers nought → SettleWritten a ws ns
+    → f ≡ digit (v .off) + 2 * digit (v .lap) + 4 * digit (v .ended) → ws ≡ 1 ∷ v .«new_tiles» ∷ v .n ∷ f ∷ [] → ns ≡ replicate answerNumbers nought → SettleWritten a ws ns
 unfolding wordsOf numbersOf
 written-settled a ws ns v f e g h k =
     subst (λ (x : SettleAnswer). SettleWritten x ws ns) (sym e) (h ∙ ap (λ (x : ℕ). 1 ∷ v .«new_tiles» ∷ v .n ∷ x ∷ []) g, k)

@@ -7,7 +7,7 @@ use native.Mathlib.Omega.{arith}
 use lib.Dec.{ltb, leb, eqb}
 use lib.ListN.{length}
 use lib.Ieee.{Float}
-use borrow.Author.Tests.{ltb-true, ltb-false, lt-ltb, leb-false}
+use borrow.Author.Tests.{ltb-true, ltb-false, lt-ltb, leb-false, not-false}
 use Rattle.course.specs.declared.tiles.TrackPoint.{TrackPoint}
 use Rattle.run.specs.Arguments.{shortColumns, placesOk, motionsOk}
 use Rattle.certificate.specs.Answers.{Answer}
@@ -18,7 +18,7 @@ use Rattle.certificate.specs.Certificate.{Given, lentBy, lengthsOf, told
 use Rattle.run.specs.declared.state.Pose.{Pose}
 use Rattle.run.specs.declared.dynamics.Motion.{Motion}
 use Rattle.run.proofs.WordLaws.{howMany-or}
-use Rattle.run.proofs.CallLaws.{cleared, yes-of}
+use Rattle.course.proofs.BoolLaws.{both, cleared}
 
 -- ---- numbers that cannot occur
 no-ten : (a b c d e : Bool) → not (eqb (cond a 4 (cond b 5 (cond c 6 (cond d 7 (cond e 8 0))))) 10) ≡ true
@@ -35,9 +35,6 @@ no-ten-six false true c d = refl
 no-ten-six false false true d = refl
 no-ten-six false false false true = refl
 no-ten-six false false false false = refl
-
-both : (a b : Bool) → a ≡ true → b ≡ true → (a && b) ≡ true
-both a b p q = rw (p, q)
 
 -- drives and settles alternate, drive first, and a settle that is owed is within the tick limit
 pub record InTurn (h : History) : Type 0 where
@@ -62,7 +59,7 @@ module _ (c : List TrackPoint) where
   unfolding settleScore settleNumber opening drives settles
   settle-turn h v l x y ps zero e =
       let p = cleared (not (ltb (settles h) (drives h))) 4 _ (cleared (ended c h) 3 _ e .1) in
-      let owed : settles h < drives h = ltb-true _ _ (yes-of _ (p .0)) in
+      let owed : settles h < drives h = ltb-true _ _ (not-false _ (p .0)) in
       let near : drives h ≤ settles h + 1 = v .close in
       record { ahead = omega arith; close = omega arith; time = λ m. absurd (omega arith) }
   settle-turn h v l x y ps (suc k) e = v

@@ -1,6 +1,6 @@
 -- The grader's state is a function of the plain scorer's history, and each call keeps it so: what is answered is the scorer's answer.
 -- For any number of words that hold the course's tiles. Assumes nothing.
-use mathlib.Core.Bool.{Bool, true, false, cond, not, _&&_, _||_, and-true, and-false}
+use mathlib.Core.Bool.{Bool, true, false, not, _&&_, _||_, and-true, and-false}
 use mathlib.Core.List.{List, [], _∷_, _++_}
 use mathlib.Core.Path.{_≡_, refl, sym, ap, ap₂, _∙_}
 use Prim.Native.Nat.{ℕ, zero, suc, _+_, _*_, _≤_, _<_}
@@ -9,7 +9,7 @@ use native.Mathlib.Omega.{arith}
 use lib.Dec.{ltb, leb}
 use lib.ListN.{length, replicate, length-replicate, replicate-append-replicate}
 use lib.Ieee.{Float}
-use borrow.Author.Tests.{ltb-true, lt-ltb, le-ltb, lt-leb}
+use borrow.Author.Tests.{ltb-true, lt-ltb, le-ltb, lt-leb, not-false}
 use Rattle.course.specs.declared.tiles.TrackPoint.{TrackPoint}
 use Rattle.run.specs.Below.{anyBelow, howMany}
 use Rattle.run.specs.Arguments.{placesOk}
@@ -33,10 +33,9 @@ use Rattle.run.specs.declared.state.Progress.{Progress}
 use Rattle.run.specs.declared.dynamics.Motion.{Motion}
 use Rattle.run.specs.declared.drive.DroveParts.{DroveParts}
 use Rattle.run.specs.declared.settle.SettleValues.{SettleValues}
-use Rattle.run.proofs.Tests.{right-false}
+use Rattle.course.proofs.BoolLaws.{right-false, cond-else, cond-skip, cleared}
 use Rattle.run.proofs.WordLaws.{getD-zeros, howMany-cong, howMany-or, setOf-cong}
 use Rattle.run.proofs.CreditLaws.{few, empty-words}
-use Rattle.run.proofs.CallLaws.{cleared, yes-of}
 use Rattle.run.proofs.AnyLaws.{any-none}
 use Rattle.certificate.proofs.ScoreLaws.{InTurn}
 use Rattle.run.proofs.BelowLaws.{below, all-pass}
@@ -53,14 +52,6 @@ no-tiles m (suc k) =
     ap (λ (x : ℕ). replicate x 0) (suc-mul k m)
     ∙ sym (replicate-append-replicate (k * m) m 0)
     ∙ ap₂ _++_ (no-tiles m k) (no-tile m)
-
--- ---- chains of causes
-pub cond-else : (b : Bool) (k x y : ℕ) → (b ≡ false → x ≡ y) → cond b k x ≡ cond b k y
-cond-else true k x y h = refl
-cond-else false k x y h = h refl
-
-pub cond-skip : (b : Bool) (k x : ℕ) → b ≡ false → cond b k x ≡ x
-cond-skip b k x h = rw h
 
 -- ---- on a course of the points c, whose tiles the sets hold
 module _ (m most : ℕ) (c : List TrackPoint) (room : most ≤ 64 * m) (some : 0 < length c) (fits : length c ≤ most) where
@@ -188,7 +179,7 @@ module _ (m most : ℕ) (c : List TrackPoint) (room : most ≤ 64 * m) (some : 0
       rw (fits-state fb h)
       (cond-else (ended c h) 4 _ _ (λ e₁.
       cond-else (not (ltb (settles h) (drives h))) 5 _ _ (λ e₂.
-      cond-skip (leb (opening h .limit) (settles h)) 6 _ (lt-leb (opening h .limit) (settles h) (v .time (ltb-true _ _ (yes-of _ e₂))))
+      cond-skip (leb (opening h .limit) (settles h)) 6 _ (lt-leb (opening h .limit) (settles h) (v .time (ltb-true _ _ (not-false _ e₂))))
       ∙ cond-else (shortOf l) 2 _ _ (λ e₃.
       cond-else (not (placesOk x y ps)) 8 _ _ (λ e₄. cond-skip (not (soundPoses (l .offsets) (l .list) (length c) ps)) 10 0 (ap not (w e₃ .sound ps)))))))
 

@@ -14,12 +14,13 @@ use Rattle.course.specs.Lent.{Lent, Outcome, layInto}
 use Rattle.course.specs.Constants.{scale, playfield, trackWidth, gridCell, halfPi, f64Max, f64Min}
 use Rattle.course.specs.Numeric.{absOf, minOf, maxOf, leastOf, greatestOf, within}
 use Rattle.course.specs.Trig.{factorial, plus, minus, horner, sineTerms, cosineTerms, sinePoly, cosinePoly, floor, wholeBelow, turnsOf, restOf, quarterOf, pick, cosineOf, sineOf}
-use Rattle.course.specs.Cell.{count, along, cellOf, cellAt}
-use Rattle.course.specs.Rect.{rectOf, holds}
-use Rattle.course.specs.Tiles.{beforeOf, tileQuad, eight, tileAt, tilesTo, tilesOf}
+use Rattle.course.specs.Counting.{howMany}
+use Rattle.course.specs.Cell.{along, cellOf, cellAt}
+use Rattle.course.specs.Rect.{leastX, leastY, greatestX, greatestY, rectOf, holds}
+use Rattle.course.specs.Tiles.{beforeOf, tileQuad, eight, tileOf, tileAt, tilesTo, tilesOf}
 use Rattle.course.specs.declared.tiles.TrackPoint.{TrackPoint}
-use Rattle.run.specs.Below.{anyBelow, everyBelow, someOf, howMany}
-use Rattle.run.specs.Wheel.{size, wheelW, wheelR, placed, wheelQuad, quadOf, leastX, leastY, greatestX, greatestY, boxCells}
+use Rattle.run.specs.Below.{anyBelow, everyBelow, someOf}
+use Rattle.run.specs.Wheel.{size, wheelW, wheelR, placed, wheelQuad, quadOf, boxCells}
 use Rattle.run.specs.Overlap.{leastOn, greatestOn, apartOn, apartAlong, apartByEdges, overlapOf}
 use Rattle.run.specs.Arguments.{settingsOk, shortColumns, inRange, poseOk, posesOk, placesOk, motionOk, motionsOk}
 use Rattle.run.specs.Lap.{offField}
@@ -84,12 +85,12 @@ pub plain : scores points (begun beside) told
     ∷ settled (record { «new_tiles» = 2; n = 2; off = false; lap = true; ended = true })
     ∷ refused 4
     ∷ []
-unfolding touches touched newTiles lapDone meetsLap touchedCount over ended off opening settles drives lastPoses driveNumber settleNumber startNumber driveScore settleScore score scores anyBelow everyBelow howMany offField absOf shortColumns settingsOk posesOk poseOk inRange placesOk motionsOk motionOk touch someOf holds rectOf tilesTo eight tileAt tileQuad beforeOf boxCells quadOf wheelQuad placed size wheelW wheelR leastX leastY greatestX greatestY cellAt cellOf count along overlapOf apartByEdges apartAlong apartOn leastOn greatestOn leastOf greatestOf minOf maxOf within cosineOf sineOf pick quarterOf restOf turnsOf wholeBelow floor cosinePoly sinePoly cosineTerms sineTerms horner minus plus factorial scale playfield trackWidth gridCell halfPi f64Max f64Min natural decimal ofInt round add sub mul div neg lt le isNan ofBits
+unfolding touches touched newTiles lapDone meetsLap touchedCount over ended off opening settles drives lastPoses driveNumber settleNumber startNumber driveScore settleScore score scores anyBelow everyBelow howMany offField absOf shortColumns settingsOk posesOk poseOk inRange placesOk motionsOk motionOk touch someOf holds rectOf tileOf tilesTo eight tileAt tileQuad beforeOf boxCells quadOf wheelQuad placed size wheelW wheelR leastX leastY greatestX greatestY cellAt cellOf along overlapOf apartByEdges apartAlong apartOn leastOn greatestOn leastOf greatestOf minOf maxOf within cosineOf sineOf pick quarterOf restOf turnsOf wholeBelow floor cosinePoly sinePoly cosineTerms sineTerms horner minus plus factorial scale playfield trackWidth gridCell halfPi f64Max f64Min natural decimal ofInt round add sub mul div neg lt le isNan ofBits
 plain = refl
 
 -- the start beside the strip is accepted
 accepted : startNumber points 2500 enough beside ≡ 0
-unfolding touches touched newTiles lapDone meetsLap touchedCount over ended off opening settles drives lastPoses driveNumber settleNumber startNumber driveScore settleScore score scores anyBelow everyBelow howMany offField absOf shortColumns settingsOk posesOk poseOk inRange placesOk motionsOk motionOk touch someOf holds rectOf tilesTo eight tileAt tileQuad beforeOf boxCells quadOf wheelQuad placed size wheelW wheelR leastX leastY greatestX greatestY cellAt cellOf count along overlapOf apartByEdges apartAlong apartOn leastOn greatestOn leastOf greatestOf minOf maxOf within cosineOf sineOf pick quarterOf restOf turnsOf wholeBelow floor cosinePoly sinePoly cosineTerms sineTerms horner minus plus factorial scale playfield trackWidth gridCell halfPi f64Max f64Min natural decimal ofInt round add sub mul div neg lt le isNan ofBits
+unfolding touches touched newTiles lapDone meetsLap touchedCount over ended off opening settles drives lastPoses driveNumber settleNumber startNumber driveScore settleScore score scores anyBelow everyBelow howMany offField absOf shortColumns settingsOk posesOk poseOk inRange placesOk motionsOk motionOk touch someOf holds rectOf tileOf tilesTo eight tileAt tileQuad beforeOf boxCells quadOf wheelQuad placed size wheelW wheelR leastX leastY greatestX greatestY cellAt cellOf along overlapOf apartByEdges apartAlong apartOn leastOn greatestOn leastOf greatestOf minOf maxOf within cosineOf sineOf pick quarterOf restOf turnsOf wholeBelow floor cosinePoly sinePoly cosineTerms sineTerms horner minus plus factorial scale playfield trackWidth gridCell halfPi f64Max f64Min natural decimal ofInt round add sub mul div neg lt le isNan ofBits
 accepted = refl
 
 pub no-columns : shortOf (columns [] [] []) ≡ true

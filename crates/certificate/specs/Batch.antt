@@ -19,7 +19,8 @@ use Rattle.certificate.specs.Answers.Answer.{refused}
 use Rattle.certificate.specs.Scorer.{Lengths, Opening, Told, History, settles, touchedCount, lapDone, ended, startNumber, scores, keptOf}
 use Rattle.certificate.specs.Scorer.History.{begun}
 use Rattle.certificate.specs.Certificate.{layNumber}
-use Rattle.certificate.specs.Numbers.{numberAt, motionsFrom, posesFrom}
+use Rattle.course.specs.Tiles.{numberAt}
+use Rattle.certificate.specs.Numbers.{motionsFrom, posesFrom}
 use Rattle.certificate.specs.Replay.{callWords, callNumbers, answerWords, answerNumbers, partAt, allWords, allNumbers}
 use Rattle.run.specs.declared.start.StartAnswer.{StartAnswer}
 use Rattle.run.specs.declared.sheet.SheetAnswer.{SheetAnswer}

@@ -3,16 +3,14 @@
 use mathlib.Core.List.{List, [], _∷_}
 use Prim.Native.Nat.{ℕ, _+_}
 use lib.ListN.{getD}
-use lib.Ieee.{Float, nan}
+use lib.Ieee.{Float}
+use Rattle.course.specs.Tiles.{numberAt}
 use Rattle.run.specs.Pass.{ctlAt, noForce}
 use Rattle.run.specs.declared.state.Pose.{Pose}
 use Rattle.run.specs.declared.state.WheelCtl.{WheelCtl}
 use Rattle.run.specs.declared.state.Car.{Car}
 use Rattle.run.specs.declared.dynamics.Motion.{Motion}
 use Rattle.run.specs.declared.dynamics.Force.{Force}
-
-abbrev pub numberAt : List Float → ℕ → Float
-numberAt ns i = getD ns i nan
 
 -- ---- a call's numbers
 

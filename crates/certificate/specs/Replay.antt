@@ -1,11 +1,12 @@
 -- The batch grader's columns: how a call stands in four words and twenty numbers, and its answer in four words and twelve numbers. Assumes nothing.
-use mathlib.Core.Bool.{Bool, true, false, cond}
+use mathlib.Core.Bool.{cond}
 use mathlib.Core.List.{List, [], _∷_, _++_}
 use Prim.Native.Nat.{ℕ, zero, suc, _+_, _*_, _/_, _%_}
 use lib.Dec.{eqb}
 use lib.ListN.{getD, take, drop, replicate}
 use lib.Ieee.{Float}
 use Rattle.course.specs.Arithmetic.{nought}
+use Rattle.course.specs.Counting.{digit}
 use Rattle.certificate.specs.Answers.{Answer}
 use Rattle.certificate.specs.Answers.Answer.{drove, settled, refused}
 use Rattle.certificate.specs.Numbers.{forcesFrom, forceNumbers}
@@ -33,14 +34,10 @@ partAt k l i = take k (drop (k * i) l)
 
 -- ---- an answer's words and numbers
 
-abbrev pub flag : Bool → ℕ
-flag true = 1
-flag false = 0
-
 -- the case, then its values: 0 for forces; 1 for a settle with new tiles, n and the flags off, lap and ended as 1, 2 and 4; 2 for a refusal with its number
 unfoldable pub wordsOf : Answer → List ℕ
 wordsOf (drove fs) = 0 ∷ 0 ∷ 0 ∷ 0 ∷ []
-wordsOf (settled v) = 1 ∷ v .«new_tiles» ∷ v .n ∷ (flag (v .off) + 2 * flag (v .lap) + 4 * flag (v .ended)) ∷ []
+wordsOf (settled v) = 1 ∷ v .«new_tiles» ∷ v .n ∷ (digit (v .off) + 2 * digit (v .lap) + 4 * digit (v .ended)) ∷ []
 wordsOf (refused k) = 2 ∷ k ∷ 0 ∷ 0 ∷ []
 
 -- the forces, or zeros

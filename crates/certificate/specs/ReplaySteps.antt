@@ -8,7 +8,8 @@ use lib.Ieee.{Float}
 use Rattle.run.specs.State.{Columns, columns}
 use Rattle.certificate.specs.Calls.{Call}
 use Rattle.certificate.specs.Calls.Call.{drive, settle}
-use Rattle.certificate.specs.Numbers.{numberAt, motionsFrom, posesFrom}
+use Rattle.course.specs.Tiles.{numberAt}
+use Rattle.certificate.specs.Numbers.{motionsFrom, posesFrom}
 use Rattle.certificate.specs.Replay.{callWords, callNumbers, partAt}
 
 -- the first of the lent tiles and offsets, and the whole list

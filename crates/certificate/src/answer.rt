@@ -4,9 +4,10 @@ ghost use mathlib.Core.List.{[], _∷_};
 ghost use Prim.Native.Nat.{_+_, _*_, _≤_};
 ghost use lib.ListN.{length, set, replicate};
 ghost use Rattle.course.specs.Arithmetic.{nought};
+ghost use Rattle.course.specs.Counting.{digit};
 ghost use Rattle.certificate.specs.Calls.{driveSaid, settleSaid};
 ghost use Rattle.certificate.specs.Numbers.{forceNumbers};
-ghost use Rattle.certificate.specs.Replay.{answerNumbers, flag, wordsOf, numbersOf};
+ghost use Rattle.certificate.specs.Replay.{answerNumbers, wordsOf, numbersOf};
 use run::drive::DriveAnswer;
 use run::dynamics::Force;
 use run::settle::SettleAnswer;
@@ -91,7 +92,7 @@ pub(crate) fn put_drive(
 
 // A flag as a number.
 fn bit(b: bool) -> u32
-    ensures { λ r. ⌜ r ≡ flag b ⌝ }
+    ensures { λ r. ⌜ r ≡ digit b ⌝ }
     ensures { λ r. ⌜ r ≤ 1 ⌝ }
 {
     if b {
@@ -102,7 +103,7 @@ fn bit(b: bool) -> u32
 
 // The flags of a settle as bits of a word.
 fn flags(off: bool, lap: bool, ended: bool) -> u32
-    ensures { λ r. ⌜ r ≡ flag off + 2 * flag lap + 4 * flag ended ⌝ }
+    ensures { λ r. ⌜ r ≡ digit off + 2 * digit lap + 4 * digit ended ⌝ }
 {
     let a = bit(off);
     let b = bit(lap);

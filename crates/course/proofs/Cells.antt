@@ -3,7 +3,7 @@ use mathlib.Core.Path.{_≡_, refl, sym, ap, _∙_, subst}
 use Prim.Native.Nat.{ℕ, zero, suc, _+_, _-_, _*_, _/_, _^_, _≤_, _<_, min}
 use native.Mathlib.Nat.{le-trans, le-of-eq, mul-one, le-div-iff-mul-le, div-lt-iff-lt-mul, lt-of-lt-of-le, mul-le-mul-right, min-zero}
 use native.Mathlib.Omega.{arith}
-use mathlib.Core.Bool.{Bool, true, false, not, cond}
+use mathlib.Core.Bool.{Bool, true, false, not}
 use lib.IntN.{ℤ, pos}
 use lib.Dec.{T, leb, ltb, leb→le, le→leb, ltb→lt, lt→ltb, lit≤}
 use lib.Ieee.{Float, nan, inf, fin, binary64, up, down, le, lt, ofInt, toUnsigned}
@@ -15,22 +15,23 @@ use lib.Ieee.Positive.{positive, positive-of-value, above-of-le, values-of-le}
 use borrow.Author.Tests.{le-leb, lt-leb, leb-true, leb-false}
 use Rattle.course.specs.Arithmetic.{natural}
 use Rattle.course.proofs.Naturals.{natural-le}
-use Rattle.course.specs.Cell.{count, along, cellOf}
+use Rattle.course.specs.Counting.{digit, howMany}
+use Rattle.course.specs.Cell.{along, cellOf}
 
 -- ---- counting
-step : (n q : ℕ) → cond (leb (suc n) q) 1 0 + min n q ≡ min (suc n) q
+step : (n q : ℕ) → min n q + digit (leb (suc n) q) ≡ min (suc n) q
 step n q = go (leb (suc n) q) (leb-true (suc n) q) (leb-false (suc n) q)
   where
-    go : (b : Bool) → (b ≡ true → suc n ≤ q) → (b ≡ false → q < suc n) → cond b 1 0 + min n q ≡ min (suc n) q
+    go : (b : Bool) → (b ≡ true → suc n ≤ q) → (b ≡ false → q < suc n) → min n q + digit b ≡ min (suc n) q
     go true f g = let h : suc n ≤ q = f refl in omega arith
     go false f g = let h : q < suc n = g refl in omega arith
 
-pub count-cut : (p : ℕ → Bool) (q n : ℕ) → ((k : ℕ) → 0 < k → k ≤ n → p k ≡ leb k q) → count p n ≡ min n q
-unfolding count
+count-cut : (p : ℕ → Bool) (q n : ℕ) → ((k : ℕ) → 0 < k → k ≤ n → p k ≡ leb k q) → howMany n (λ k. p (suc k)) ≡ min n q
+unfolding howMany
 count-cut p q zero h = omega arith
 count-cut p q (suc n) h =
-    ap (λ (b : Bool). cond b 1 0 + count p n) (h (suc n) (omega arith) (omega arith))
-    ∙ ap (λ (c : ℕ). cond (leb (suc n) q) 1 0 + c) (count-cut p q n (λ k a b. h k a (omega arith)))
+    ap (λ (b : Bool). howMany n (λ k. p (suc k)) + digit b) (h (suc n) (omega arith) (omega arith))
+    ∙ ap (λ (c : ℕ). c + digit (leb (suc n) q)) (count-cut p q n (λ k a b. h k a (omega arith)))
     ∙ step n q
 
 -- the cell is (v + P) / 10 as an integer, 66 at most: the Rust's own expression

@@ -1,7 +1,7 @@
 -- The tiles of a course: their rectangles lie in the grid, and the cells summed are the index's length. Assumes nothing.
 use Prim.Native.Nat.{ℕ, zero, suc, _+_, _*_, _≤_, _<_}
 use mathlib.Core.Path.{_≡_, refl, sym, ap, _∙_}
-use mathlib.Core.Bool.{Bool, true, false}
+use mathlib.Core.Bool.{Bool, true, false, cond}
 use mathlib.Core.List.{List, _++_}
 use lib.ListN.{length, drop}
 use lib.Dec.{ltb}
@@ -13,7 +13,7 @@ use Rattle.course.specs.Lengths.{cellCount, offsetCount}
 use Rattle.course.specs.declared.index.Rect.{Rect}
 use Rattle.course.specs.Index.{start, offsetsOf, indexOf}
 use Rattle.course.specs.Rect.{rectOf, holdsOf, areaOf, needed}
-use Rattle.course.specs.IndexSteps.{Small, Built, pickList}
+use Rattle.course.specs.IndexSteps.{Small, Built}
 use Rattle.course.proofs.Cells.{cell-high}
 use Rattle.course.proofs.IndexLaws.{start-tile, start-no-tile}
 use Rattle.course.proofs.Rects.{held-area, area-small}
@@ -61,9 +61,9 @@ module _ (tiles : List Float) where
         record {
           length-needed = is;
           too-short = sym t;
-          offsets = ap (λ (z : List ℕ). z ++ drop offsetCount o) p ∙ sym (ap (λ (b : Bool). pickList b o (offsetsOf (holdsOf tiles) n cellCount ++ drop offsetCount o)) t);
+          offsets = ap (λ (z : List ℕ). z ++ drop offsetCount o) p ∙ sym (ap (λ (b : Bool). cond b o (offsetsOf (holdsOf tiles) n cellCount ++ drop offsetCount o)) t);
           entries =
               ap (λ (z : List ℕ). z ++ drop need l) q
               ∙ ap (λ (z : ℕ). indexOf (holdsOf tiles) n cellCount ++ drop z l) is
-              ∙ sym (ap (λ (b : Bool). pickList b l (indexOf (holdsOf tiles) n cellCount ++ drop (needed tiles n) l)) t);
+              ∙ sym (ap (λ (b : Bool). cond b l (indexOf (holdsOf tiles) n cellCount ++ drop (needed tiles n) l)) t);
         }

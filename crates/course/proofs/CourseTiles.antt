@@ -3,7 +3,7 @@ use Prim.Native.Nat.{ℕ, zero, suc, _+_, _*_, _-_, _<_, _≤_}
 use native.Mathlib.Omega.{arith}
 use native.Mathlib.Numerals.{add-one, sub-one}
 use mathlib.Core.Path.{_≡_, refl, sym, ap, ap₂, _∙_, subst}
-use mathlib.Core.Bool.{Bool, true, false, cond, _&&_}
+use mathlib.Core.Bool.{Bool, true, cond, _&&_}
 use mathlib.Core.List.{List, [], _∷_, _++_, map, append-assoc, append-nil, map-append}
 use lib.ListN.{length, getD, take, drop, set, replicate, length-append, length-map, List·getD-append}
 use lib.Seq.{ext-getD, take-suc, getD-at, length-take-le, take-append-le, getD-take, drop-at, take-at, drop-drop, drop-append-add}
@@ -15,6 +15,7 @@ use Rattle.course.specs.CourseSteps.{puts, edgesAt, quadBetween}
 use Rattle.course.specs.Points.{goodPoint, allGood}
 use Rattle.course.specs.declared.tiles.TrackPoint.{TrackPoint}
 use Rattle.course.specs.declared.tiles.Edges.{Edges}
+use Rattle.course.proofs.BoolLaws.{swap}
 use Rattle.course.proofs.ColumnLaws.{Grown, grown-none, puts-grown}
 
 module _ (b e n : List Float) where
@@ -72,12 +73,6 @@ points-front b e n p q r m (suc k) hb he hn h =
     rw (points-front b e n p q r m k hb he hn (omega arith), front-read b p m k hb h, front-read e q m k he h, front-read n r m k hn h)
 
 -- ---- refusals
-swap : (a b c : Bool) → a && (b && c) ≡ b && (a && c)
-swap true true c = refl
-swap true false c = refl
-swap false true c = refl
-swap false false c = refl
-
 pub good-none : (b e n : List Float) → allGood (pointsOf b e n 0) ≡ true
 unfolding allGood pointsOf
 good-none b e n = refl

@@ -21,9 +21,11 @@ use Rattle.course.specs.declared.curbs.CurbAnswer.{CurbAnswer}
 use Rattle.course.specs.declared.tiles.TrackPoint.{TrackPoint}
 use Rattle.course.specs.declared.curbs.CurbAnswer.the-variants.{Count, Refused}
 use Rattle.course.proofs.ColumnLaws.{Grown, grown-more, puts-grown, drop-past}
-use Rattle.course.proofs.LaidColumns.{Given, given-long, passed, positive, at-most, left, right, fill-tiles}
+use Rattle.course.proofs.LaidColumns.{Given, given-long, passed, positive, at-most, fill-tiles}
+use Rattle.course.specs.Counting.{digit}
+use Rattle.course.proofs.BoolLaws.{and-left, and-right, digit-le}
 
-quads-step : (has : Bool) (vs p c c′ l : List Float) (m m′ : ℕ) → Grown p c l (m * 8) → length vs ≡ 8 → m * 8 + 8 ≤ length l → m′ ≡ m + cond has 1 0 → c′ ≡ cond has (puts vs (m * 8) c) c
+quads-step : (has : Bool) (vs p c c′ l : List Float) (m m′ : ℕ) → Grown p c l (m * 8) → length vs ≡ 8 → m * 8 + 8 ≤ length l → m′ ≡ m + digit has → c′ ≡ cond has (puts vs (m * 8) c) c
     → Grown (p ++ cond has vs []) c′ l (m′ * 8)
 quads-step true vs p c c′ l m m′ g e h n is =
     let s : m * 8 + length vs ≡ m′ * 8 = omega (arith, e, n) in
@@ -33,7 +35,7 @@ quads-step false vs p c c′ l m m′ g e h n is =
     subst (λ (z : ℕ). Grown (p ++ []) c′ l z) s
     (subst (λ (z : List Float). Grown (p ++ []) z l (m * 8)) (sym is) (subst (λ (z : List Float). Grown z c l (m * 8)) (sym (append-nil p)) g))
 
-white-step : (has : Bool) (v : ℕ) (p c c′ l : List ℕ) (m m′ : ℕ) → Grown p c l m → m < length l → m′ ≡ m + cond has 1 0 → c′ ≡ cond has (set c m v) c
+white-step : (has : Bool) (v : ℕ) (p c c′ l : List ℕ) (m m′ : ℕ) → Grown p c l m → m < length l → m′ ≡ m + digit has → c′ ≡ cond has (set c m v) c
     → Grown (p ++ cond has (v ∷ []) []) c′ l m′
 white-step true v p c c′ l m m′ g h n is =
     subst (λ (z : ℕ). Grown (p ++ (v ∷ [])) c′ l z) (sym n)
@@ -42,10 +44,6 @@ white-step false v p c c′ l m m′ g h n is =
     let s : m ≡ m′ = omega (arith, n) in
     subst (λ (z : ℕ). Grown (p ++ []) c′ l z) s
     (subst (λ (z : List ℕ). Grown (p ++ []) z l m) (sym is) (subst (λ (z : List ℕ). Grown z c l m) (sym (append-nil p)) g))
-
-cond-small : (b : Bool) → cond b 1 0 ≤ 1
-cond-small true = omega arith
-cond-small false = omega arith
 
 module _ (b e n : List Float) (k : ℕ) (q : List Float) (w : List ℕ) where
   pub curbs-none : CurbsTo b e n k 0 0 q w q w
@@ -61,7 +59,7 @@ module _ (b e n : List Float) (k : ℕ) (q : List Float) (w : List ℕ) where
       let rq = quads-step (bordered b k i) (eight (curbQuad (pointAt b e n i) (pointAt b e n (beforeOf k i)))) _ q1 q2 q m m′ gq refl (omega (arith, t .few)) (s .count) (s .quads) in
       let rw′ = white-step (bordered b k i) (whiteOf i) _ w1 w2 w m m′ gw (omega (arith, t .few)) (s .count) (s .white) in
       record {
-        few = omega (arith, t .few, s .count, cond-small (bordered b k i));
+        few = omega (arith, t .few, s .count, digit-le (bordered b k i));
         count = rw′ .long;
         long = rq .long;
         quads = rq .is;
@@ -110,8 +108,8 @@ fits b e n k q w h =
     record {
       some = positive k (p .some);
       few = at-most mostPoints k (p .few);
-      quads = leb-true mostNumbers (length q) (left _ _ (p .room));
-      white = leb-true mostPoints (length w) (right (leb mostNumbers (length q)) _ (p .room));
+      quads = leb-true mostNumbers (length q) (and-left _ _ (p .room));
+      white = leb-true mostPoints (length w) (and-right (leb mostNumbers (length q)) _ (p .room));
       given = given-long b e n k (p .given);
     }
 

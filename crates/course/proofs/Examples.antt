@@ -5,7 +5,8 @@ use mathlib.Core.Bool.{true}
 use lib.Ieee.{nan, binary64, ofInt, add, sub, div, le, lt, neg, ofBits}
 use Rattle.course.specs.Arithmetic.{_⊖_, natural}
 use Rattle.course.specs.Constants.{playfield, scale, gridCell}
-use Rattle.course.specs.Cell.{along, cellOf, count}
+use Rattle.course.specs.Counting.{howMany}
+use Rattle.course.specs.Cell.{along, cellOf}
 use Rattle.course.specs.Root.{sqrtOf}
 -- examples 1 and 2, passed on
 pub use Rattle.rng.proofs.Examples.{marked as draws}
@@ -20,7 +21,7 @@ pub record Marked : Type 0 where
   pub root-below : sqrtOf (neg (natural 1)) ≡ nan
 
 pub marked : Marked
-unfolding cellOf count along natural playfield scale gridCell ofInt add div le neg sqrtOf
+unfolding cellOf howMany along natural playfield scale gridCell ofInt add div le neg sqrtOf
 marked = record {
   cell-nan = refl;
   cell-low = refl;
@@ -33,5 +34,5 @@ marked = record {
 
 -- the float just below 340 − P has cell 34: v ≥ 340 − P would give 33
 pub misread : (lt (ofBits binary64 0x401aaaaaaaaaaabf) (natural 340 ⊖ playfield) ≡ true) × (cellOf (ofBits binary64 0x401aaaaaaaaaaabf) ≡ 34)
-unfolding cellOf count along natural playfield scale gridCell ofInt add sub div le lt ofBits
+unfolding cellOf howMany along natural playfield scale gridCell ofInt add sub div le lt ofBits
 misread = (refl, refl)

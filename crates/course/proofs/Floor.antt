@@ -16,7 +16,8 @@ use borrow.Author.Tests.{ltb-true, ltb-false, lt-ltb, le-ltb}
 use Rattle.course.specs.Arithmetic.{natural}
 use Rattle.course.specs.Steps.{Bounded}
 use Rattle.course.specs.Trig.{floor, quarterOf}
-use Rattle.course.proofs.Naturals.{same-test, natural-val}
+use Rattle.course.proofs.BoolLaws.{same-test}
+use Rattle.course.proofs.Naturals.{natural-val}
 use Rattle.course.proofs.Bounds.{neg-round}
 
 -- ---- quotients of numbers

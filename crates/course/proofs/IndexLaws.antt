@@ -1,7 +1,7 @@
 -- Laws of the index: of `listed`, `start`, `indexOf` and `table`. Assumes nothing.
 use Prim.Native.Nat.{ℕ, zero, suc, _+_, _*_, _-_, _≤_, _<_}
 use mathlib.Core.Path.{_≡_, refl, sym, ap, _∙_, subst}
-use mathlib.Core.Bool.{Bool, true, false, _&&_, false≢true}
+use mathlib.Core.Bool.{Bool, true, false, _&&_}
 use mathlib.Core.List.{List, [], _∷_, _++_, append-assoc, append-nil}
 use mathlib.Core.Logic.{_⊎_, inl, inr, ⊎-elim}
 use native.Mathlib.Decide.{decLt}
@@ -14,7 +14,8 @@ use lib.ListN.{length-take, length-drop}
 use lib.Dec.{leb, ltb}
 use borrow.Author.Tests.{lt-ltb, le-ltb, le-leb, ltb-true, leb-true}
 use Rattle.course.specs.Index.{addIf, listed, start, indexOf, table, offsetsOf, partOk, lookup}
-use Rattle.course.specs.IndexSteps.{one}
+use Rattle.course.specs.Counting.{digit, howMany}
+use Rattle.course.proofs.BoolLaws.{and-left, and-right}
 
 -- two numbers, in order or not
 pub order : (a b : ℕ) → (a < b) ⊎ (b ≤ a)
@@ -24,12 +25,7 @@ order a b = go (decLt a b)
     go (yes p) = inl p
     go (no q) = inr (omega arith)
 
--- a test, with what it says
-pub bool : (b : Bool) → (b ≡ true) ⊎ (b ≡ false)
-bool true = inl refl
-bool false = inr refl
-
-length-addIf : (b : Bool) (i : ℕ) (l : List ℕ) → length (addIf b i l) ≡ length l + one b
+length-addIf : (b : Bool) (i : ℕ) (l : List ℕ) → length (addIf b i l) ≡ length l + digit b
 length-addIf true i l = length-append l (i ∷ [])
 length-addIf false i l = omega arith
 
@@ -48,14 +44,6 @@ table-at f (suc k) i l =
     (eq-or-lt-of-le (le-of-suc-le-suc l))
 
 -- ---- the lookup by its tests
-pub and-left : (a b : Bool) → (a && b) ≡ true → a ≡ true
-and-left true b h = refl
-and-left false b h = h
-
-pub and-right : (a b : Bool) → (a && b) ≡ true → b ≡ true
-and-right true b h = h
-and-right false b h = absurd (false≢true h)
-
 module _ (o l : List ℕ) (c : ℕ) where
   -- the part of a cell, as facts
   pub record Part : Type 0 where
@@ -99,7 +87,7 @@ module _ (h : ℕ → ℕ → Bool) where
   listed-none c = refl
 
   -- one id more
-  pub listed-more : (i c : ℕ) → length (listed h (i + 1) c) ≡ length (listed h i c) + one (h i c)
+  pub listed-more : (i c : ℕ) → length (listed h (i + 1) c) ≡ length (listed h i c) + digit (h i c)
   unfolding listed
   listed-more i c = rw add-one (length-addIf (h i c) i (listed h i c))
 
@@ -237,14 +225,9 @@ module _ (h : ℕ → ℕ → Bool) (n : ℕ) where
         ∙ ap (λ (z : List ℕ). take (getD o (c + 1) 0 - getD o c 0) z) d
         ∙ take-at (listed h n c) rest (getD o (c + 1) 0 - getD o c 0) w
 
--- how many of the cells below q the rectangle of tile i holds
-unfoldable pub heldBelow : (ℕ → Bool) → ℕ → ℕ
-heldBelow g zero = 0
-heldBelow g (suc q) = heldBelow g q + one (g q)
-
 -- one tile more adds the cells that it holds
-pub start-tile : (h : ℕ → ℕ → Bool) (n q : ℕ) → start h (n + 1) q ≡ start h n q + heldBelow (h n) q
-unfolding start heldBelow
+pub start-tile : (h : ℕ → ℕ → Bool) (n q : ℕ) → start h (n + 1) q ≡ start h n q + howMany q (h n)
+unfolding start howMany
 start-tile h n zero = omega arith
 start-tile h n (suc q) = omega (arith, start-tile h n q, listed-more h n q)
 
@@ -254,12 +237,12 @@ start-no-tile h zero = refl
 start-no-tile h (suc q) = omega (arith, start-no-tile h q, listed-none h q)
 
 -- a run of cells of which none, or each, is held
-pub held-none : (g : ℕ → Bool) (p k : ℕ) → ((c : ℕ) → p ≤ c → c < p + k → g c ≡ false) → heldBelow g (p + k) ≡ heldBelow g p
-unfolding heldBelow
-held-none g p zero f = ap (heldBelow g) (add-zero p)
-held-none g p (suc k) f = ap (heldBelow g) (add-suc p k) ∙ omega (arith, held-none g p k (λ c a b. f c a (omega arith)), ap one (f (p + k) (omega arith) (omega arith)))
+pub held-none : (g : ℕ → Bool) (p k : ℕ) → ((c : ℕ) → p ≤ c → c < p + k → g c ≡ false) → howMany (p + k) g ≡ howMany p g
+unfolding howMany
+held-none g p zero f = ap (λ (z : ℕ). howMany z g) (add-zero p)
+held-none g p (suc k) f = ap (λ (z : ℕ). howMany z g) (add-suc p k) ∙ omega (arith, held-none g p k (λ c a b. f c a (omega arith)), ap digit (f (p + k) (omega arith) (omega arith)))
 
-pub held-each : (g : ℕ → Bool) (p k : ℕ) → ((c : ℕ) → p ≤ c → c < p + k → g c ≡ true) → heldBelow g (p + k) ≡ heldBelow g p + k
-unfolding heldBelow
-held-each g p zero f = ap (heldBelow g) (add-zero p) ∙ omega arith
-held-each g p (suc k) f = ap (heldBelow g) (add-suc p k) ∙ omega (arith, held-each g p k (λ c a b. f c a (omega arith)), ap one (f (p + k) (omega arith) (omega arith)))
+pub held-each : (g : ℕ → Bool) (p k : ℕ) → ((c : ℕ) → p ≤ c → c < p + k → g c ≡ true) → howMany (p + k) g ≡ howMany p g + k
+unfolding howMany
+held-each g p zero f = ap (λ (z : ℕ). howMany z g) (add-zero p) ∙ omega arith
+held-each g p (suc k) f = ap (λ (z : ℕ). howMany z g) (add-suc p k) ∙ omega (arith, held-each g p k (λ c a b. f c a (omega arith)), ap digit (f (p + k) (omega arith) (omega arith)))

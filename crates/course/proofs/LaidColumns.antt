@@ -2,7 +2,7 @@
 use Prim.Native.Nat.{ℕ, zero, suc, _*_, _-_, _<_, _≤_}
 use native.Mathlib.Omega.{arith}
 use mathlib.Core.Path.{_≡_, refl, sym, ap, ap₂, _∙_, subst}
-use mathlib.Core.Bool.{Bool, true, false, cond, _&&_, not}
+use mathlib.Core.Bool.{Bool, true, false, cond, not}
 use mathlib.Core.List.{List, [], _++_}
 use lib.ListN.{length, take, drop, replicate}
 use lib.Seq.{take-at, length-take-le}
@@ -12,7 +12,8 @@ use native.Mathlib.Decide.{decLt}
 use lib.Ieee.{Float}
 use Rattle.course.specs.Lengths.{mostPoints, mostNumbers, cellCount, offsetCount}
 use Rattle.course.specs.Rect.{holdsOf, needed}
-use Rattle.course.specs.IndexSteps.{Built, pickList}
+use Rattle.course.specs.IndexSteps.{Built}
+use Rattle.course.proofs.BoolLaws.{and-left, and-right}
 use Rattle.course.specs.Index.{offsetsOf, indexOf}
 use Rattle.course.proofs.IndexLaws.{index-length}
 use Rattle.course.proofs.CourseRects.{needed-start, needed-small}
@@ -129,14 +130,14 @@ module _ {l : Lent} {k : ℕ} {l′ : Lent} {scratch written-tiles : List Float}
 
   offsets-is : (s : Bool) → short ≡ s → l′ .offsets ≡ cond s (l .offsets) (fromPoints (points-in l k) .offsets ++ drop offsetCount (l .offsets))
   unfolding fromPoints
-  offsets-is true h = built .offsets ∙ ap (λ (z : Bool). pickList z (l .offsets) (offsetsOf (holdsOf (tilesOf (points-in l k))) (length (points-in l k)) cellCount ++ drop offsetCount (l .offsets))) (sym (built .too-short) ∙ h)
-  offsets-is false h = built .offsets ∙ ap (λ (z : Bool). pickList z (l .offsets) (offsetsOf (holdsOf (tilesOf (points-in l k))) (length (points-in l k)) cellCount ++ drop offsetCount (l .offsets))) (sym (built .too-short) ∙ h)
+  offsets-is true h = built .offsets ∙ ap (λ (z : Bool). cond z (l .offsets) (offsetsOf (holdsOf (tilesOf (points-in l k))) (length (points-in l k)) cellCount ++ drop offsetCount (l .offsets))) (sym (built .too-short) ∙ h)
+  offsets-is false h = built .offsets ∙ ap (λ (z : Bool). cond z (l .offsets) (offsetsOf (holdsOf (tilesOf (points-in l k))) (length (points-in l k)) cellCount ++ drop offsetCount (l .offsets))) (sym (built .too-short) ∙ h)
 
   list-is : (s : Bool) → short ≡ s → l′ .list ≡ cond s (l .list) (fromPoints (points-in l k) .list ++ drop (length (fromPoints (points-in l k) .list)) (l .list))
   unfolding fromPoints
-  list-is true h = built .entries ∙ ap (λ (z : Bool). pickList z (l .list) (indexOf (holdsOf (tilesOf (points-in l k))) (length (points-in l k)) cellCount ++ drop (needed (tilesOf (points-in l k)) (length (points-in l k))) (l .list))) (sym (built .too-short) ∙ h)
+  list-is true h = built .entries ∙ ap (λ (z : Bool). cond z (l .list) (indexOf (holdsOf (tilesOf (points-in l k))) (length (points-in l k)) cellCount ++ drop (needed (tilesOf (points-in l k)) (length (points-in l k))) (l .list))) (sym (built .too-short) ∙ h)
   list-is false h =
-      built .entries ∙ ap (λ (z : Bool). pickList z (l .list) (indexOf (holdsOf (tilesOf (points-in l k))) (length (points-in l k)) cellCount ++ drop (needed (tilesOf (points-in l k)) (length (points-in l k))) (l .list))) (sym (built .too-short) ∙ h)
+      built .entries ∙ ap (λ (z : Bool). cond z (l .list) (indexOf (holdsOf (tilesOf (points-in l k))) (length (points-in l k)) cellCount ++ drop (needed (tilesOf (points-in l k)) (length (points-in l k))) (l .list))) (sym (built .too-short) ∙ h)
       ∙ ap (λ (j : ℕ). indexOf (holdsOf (tilesOf (points-in l k))) (length (points-in l k)) cellCount ++ drop j (l .list)) (sym list-long)
 
   done : (fallback : Bool) (r : Laid) → r ≡ answered short fallback (points-in l k) → outcome r l′ ≡ layInto fallback (points-in l k) l
@@ -172,28 +173,20 @@ lay-past fallback ps a b e n a′ b′ e′ n′ t o l pa pb pe pn = simp (pa, p
 off-on : false ≡ true → ⊥
 off-on e = subst (λ (z : Bool). cond z ⊥ (Unit {0})) e tt
 
-pub left : (p q : Bool) → p && q ≡ true → p ≡ true
-left true q h = refl
-left false q h = h
-
-pub right : (p q : Bool) → p && q ≡ true → q ≡ true
-right true q h = h
-right false q h = absurd (off-on h)
-
 pub room : {a b e n t : List Float} {o : List ℕ} → roomyOf a b e n t o ≡ true → Roomy a b e n t o
 unfolding roomyOf
 room {a} {b} {e} {n} {t} {o} h =
-    let h1 = right (leb mostPoints (length a)) _ h in
-    let h2 = right (leb mostPoints (length b)) _ h1 in
-    let h3 = right (leb mostPoints (length e)) _ h2 in
-    let h4 = right (leb mostPoints (length n)) _ h3 in
+    let h1 = and-right (leb mostPoints (length a)) _ h in
+    let h2 = and-right (leb mostPoints (length b)) _ h1 in
+    let h3 = and-right (leb mostPoints (length e)) _ h2 in
+    let h4 = and-right (leb mostPoints (length n)) _ h3 in
     record {
-      alpha = leb-true mostPoints (length a) (left _ _ h);
-      beta = leb-true mostPoints (length b) (left _ _ h1);
-      x = leb-true mostPoints (length e) (left _ _ h2);
-      y = leb-true mostPoints (length n) (left _ _ h3);
-      tiles = leb-true mostNumbers (length t) (left _ _ h4);
-      offsets = leb-true offsetCount (length o) (right (leb mostNumbers (length t)) _ h4);
+      alpha = leb-true mostPoints (length a) (and-left _ _ h);
+      beta = leb-true mostPoints (length b) (and-left _ _ h1);
+      x = leb-true mostPoints (length e) (and-left _ _ h2);
+      y = leb-true mostPoints (length n) (and-left _ _ h3);
+      tiles = leb-true mostNumbers (length t) (and-left _ _ h4);
+      offsets = leb-true offsetCount (length o) (and-right (leb mostNumbers (length t)) _ h4);
     }
 
 pub record Given (b e n : List Float) (k : ℕ) : Type 0 where
@@ -204,8 +197,8 @@ pub record Given (b e n : List Float) (k : ℕ) : Type 0 where
 pub given-long : (b e n : List Float) (k : ℕ) → givenOf b e n k ≡ true → Given b e n k
 unfolding givenOf
 given-long b e n k h =
-    let h1 = right (leb k (length b)) _ h in
-    record { beta = leb-true k (length b) (left _ _ h); x = leb-true k (length e) (left _ _ h1); y = leb-true k (length n) (right (leb k (length e)) _ h1) }
+    let h1 = and-right (leb k (length b)) _ h in
+    record { beta = leb-true k (length b) (and-left _ _ h); x = leb-true k (length e) (and-left _ _ h1); y = leb-true k (length n) (and-right (leb k (length e)) _ h1) }
 
 -- where no cause holds
 pub record Passed (p q r s : Bool) : Type 0 where

@@ -1,3 +1,4 @@
+pub mod BoolLaws
 pub mod Naturals
 pub mod Signs
 pub mod Bounds

@@ -2,7 +2,7 @@
 -- Assumes nothing.
 use Prim.Native.Nat.{ℕ, zero, suc, _≤_, _<_}
 use mathlib.Core.Path.{_≡_, refl, sym, ap, _∙_, subst}
-use mathlib.Core.Bool.{Bool, true, false}
+use mathlib.Core.Bool.{Bool, true, false, cond}
 use mathlib.Core.List.{List, [], _∷_, _++_}
 use mathlib.Core.Logic.{_⊎_, inl, inr, ⊎-elim}
 use native.Mathlib.Nat.{not-suc-le-zero}
@@ -15,7 +15,7 @@ use borrow.Author.Tests.{le-ltb}
 use Rattle.course.specs.Lengths.{cellCount, offsetCount}
 use Rattle.course.specs.Index.{addIf, listed, partOk, lookup, offsetsOf, indexOf}
 use Rattle.course.specs.Rect.{holdsOf, needed}
-use Rattle.course.specs.IndexSteps.{Built, pickList}
+use Rattle.course.specs.IndexSteps.{Built}
 use Rattle.course.proofs.IndexLaws.{order, listed-at, offset-at, index-length, part-laid, lookup-laid}
 
 -- what stands at k after one element more
@@ -58,8 +58,8 @@ module _ (h : ℕ → ℕ → Bool) (c : ℕ) where
 pub built-lookup : (tiles : List Float) (n : ℕ) (o l o′ l′ : List ℕ) (short : Bool) (need : ℕ) → Built tiles n o l o′ l′ short need → needed tiles n ≤ length l → (c : ℕ) → c < cellCount → lookup o′ l′ c ≡ listed (holdsOf tiles) n c
 built-lookup tiles n o l o′ l′ short need b a c m =
     let t : ltb (length l) (needed tiles n) ≡ false = le-ltb (length l) (needed tiles n) a in
-    let p : o′ ≡ offsetsOf (holdsOf tiles) n cellCount ++ drop offsetCount o = b .offsets ∙ ap (λ (z : Bool). pickList z o (offsetsOf (holdsOf tiles) n cellCount ++ drop offsetCount o)) t in
-    let q : l′ ≡ indexOf (holdsOf tiles) n cellCount ++ drop (needed tiles n) l = b .entries ∙ ap (λ (z : Bool). pickList z l (indexOf (holdsOf tiles) n cellCount ++ drop (needed tiles n) l)) t in
+    let p : o′ ≡ offsetsOf (holdsOf tiles) n cellCount ++ drop offsetCount o = b .offsets ∙ ap (λ (z : Bool). cond z o (offsetsOf (holdsOf tiles) n cellCount ++ drop offsetCount o)) t in
+    let q : l′ ≡ indexOf (holdsOf tiles) n cellCount ++ drop (needed tiles n) l = b .entries ∙ ap (λ (z : Bool). cond z l (indexOf (holdsOf tiles) n cellCount ++ drop (needed tiles n) l)) t in
     ap (λ (z : List ℕ). lookup z l′ c) p
     ∙ ap (λ (z : List ℕ). lookup (offsetsOf (holdsOf tiles) n cellCount ++ drop offsetCount o) z c) q
     ∙ lookup-laid (holdsOf tiles) n cellCount c (drop offsetCount o) (drop (needed tiles n) l) m

@@ -3,7 +3,7 @@ use mathlib.Core.Path.{_≡_, refl, sym, ap, _∙_, subst}
 use Prim.Native.Nat.{ℕ, zero, suc, _+_, _-_, _*_, _/_, _^_, _≤_, _<_, min}
 use native.Mathlib.Nat.{le-trans, le-of-eq, mul-one, le-div-iff-mul-le, div-lt-iff-lt-mul, lt-of-lt-of-le, mul-le-mul-right, min-zero}
 use native.Mathlib.Omega.{arith}
-use mathlib.Core.Bool.{Bool, true, false, not, cond}
+use mathlib.Core.Bool.{true, false, not, cond}
 use lib.IntN.{ℤ, pos}
 use lib.Dec.{T, leb, ltb, leb→le, le→leb, ltb→lt, lt→ltb, lit≤}
 use lib.Ieee.{Float, nan, inf, fin, binary64, up, down, le, lt, ofInt, toUnsigned}
@@ -14,14 +14,7 @@ use lib.Ieee.Order.{le-of-values}
 use lib.Ieee.Positive.{positive, positive-of-value, above-of-le, values-of-le}
 use borrow.Author.Tests.{le-leb, lt-leb, leb-true, leb-false}
 use Rattle.course.specs.Arithmetic.{natural}
-use Rattle.course.specs.Cell.{count, along, cellOf}
-
--- ---- two tests that imply each other are equal
-pub same-test : (a b : Bool) → (T a → T b) → (T b → T a) → a ≡ b
-same-test true true f g = refl
-same-test true false f g = absurd (f tt)
-same-test false true f g = absurd (g tt)
-same-test false false f g = refl
+use Rattle.course.proofs.BoolLaws.{same-test}
 
 pub natural-val : (k : ℕ) → k ≤ 2 ^ 53 → HasValue (natural k) false k 1
 unfolding natural ofInt

@@ -11,7 +11,8 @@ use Rattle.course.specs.Constants.{gridDim}
 use Rattle.course.specs.declared.index.Rect.{Rect}
 use Rattle.course.specs.Rect.{holds, areaOf}
 use Rattle.course.specs.IndexSteps.{Small}
-use Rattle.course.proofs.IndexLaws.{order, heldBelow, held-none, held-each}
+use Rattle.course.specs.Counting.{howMany}
+use Rattle.course.proofs.IndexLaws.{order, held-none, held-each}
 
 module _ (r : Rect) (c : ℕ) where
   pub holds-in : r .y0 ≤ c / gridDim → c / gridDim ≤ r .y1 → r .x0 ≤ c % gridDim → c % gridDim ≤ r .x1 → holds r c ≡ true
@@ -48,53 +49,53 @@ module _ (g : ℕ → Bool) (w : ℕ) (r : Rect) (s : Fills g w r) where
   in-row y c l = let e : c ≡ y * w + (c - y * w) = omega arith in ap g e
 
   -- a row below or above the rectangle adds nothing, and one of its own a row's width
-  row-out : (y : ℕ) → (y < r .y0) ⊎ (r .y1 < y) → heldBelow g (y * w + w) ≡ heldBelow g (y * w)
+  row-out : (y : ℕ) → (y < r .y0) ⊎ (r .y1 < y) → howMany (y * w + w) g ≡ howMany (y * w) g
   row-out y o = held-none g (y * w) w (λ c a b. in-row y c a ∙ s .off-row y (c - y * w) (omega arith) o)
 
-  row-in : (y : ℕ) → r .y0 ≤ y → y ≤ r .y1 → heldBelow g (y * w + w) ≡ heldBelow g (y * w) + (r .x1 + 1 - r .x0)
+  row-in : (y : ℕ) → r .y0 ≤ y → y ≤ r .y1 → howMany (y * w + w) g ≡ howMany (y * w) g + (r .x1 + 1 - r .x0)
   row-in y l m = ⊎-elim empty full (order (r .x1) (r .x0))
     where
-      empty : r .x1 < r .x0 → heldBelow g (y * w + w) ≡ heldBelow g (y * w) + (r .x1 + 1 - r .x0)
+      empty : r .x1 < r .x0 → howMany (y * w + w) g ≡ howMany (y * w) g + (r .x1 + 1 - r .x0)
       empty k =
           held-none g (y * w) w
           (λ c a b. in-row y c a ∙ s .off-column y (c - y * w) (omega arith) (⊎-elim (λ q. inl q) (λ q. inr (omega arith)) (order (c - y * w) (r .x0))))
           ∙ omega arith
 
-      full : r .x0 ≤ r .x1 → heldBelow g (y * w + w) ≡ heldBelow g (y * w) + (r .x1 + 1 - r .x0)
+      full : r .x0 ≤ r .x1 → howMany (y * w + w) g ≡ howMany (y * w) g + (r .x1 + 1 - r .x0)
       full k =
           let wide = s .wide in
           let n : ℕ = r .x1 + 1 - r .x0 in
           let p : ℕ = y * w + r .x0 in
-          let a : heldBelow g p ≡ heldBelow g (y * w) = held-none g (y * w) (r .x0) (λ c a b. in-row y c a ∙ s .off-column y (c - y * w) (omega arith) (inl (omega arith))) in
-          let b : heldBelow g (p + n) ≡ heldBelow g p + n = held-each g p n (λ c a b. in-row y c (omega arith) ∙ s .inside y (c - y * w) l m (omega arith) (omega arith)) in
-          let d : heldBelow g ((p + n) + (w - 1 - r .x1)) ≡ heldBelow g (p + n) = held-none g (p + n) (w - 1 - r .x1) (λ c a b. in-row y c (omega arith) ∙ s .off-column y (c - y * w) (omega arith) (inr (omega arith))) in
+          let a : howMany p g ≡ howMany (y * w) g = held-none g (y * w) (r .x0) (λ c a b. in-row y c a ∙ s .off-column y (c - y * w) (omega arith) (inl (omega arith))) in
+          let b : howMany (p + n) g ≡ howMany p g + n = held-each g p n (λ c a b. in-row y c (omega arith) ∙ s .inside y (c - y * w) l m (omega arith) (omega arith)) in
+          let d : howMany ((p + n) + (w - 1 - r .x1)) g ≡ howMany (p + n) g = held-none g (p + n) (w - 1 - r .x1) (λ c a b. in-row y c (omega arith) ∙ s .off-column y (c - y * w) (omega arith) (inr (omega arith))) in
           let e : y * w + w ≡ (p + n) + (w - 1 - r .x1) = omega arith in
-          ap (heldBelow g) e ∙ d ∙ b ∙ ap (λ (z : ℕ). z + n) a
+          ap (λ (z : ℕ). howMany z g) e ∙ d ∙ b ∙ ap (λ (z : ℕ). z + n) a
 
-  row-next : (y : ℕ) → heldBelow g (y * w) ≡ (r .x1 + 1 - r .x0) * (min y (r .y1 + 1) - r .y0) → heldBelow g (y * w + w) ≡ (r .x1 + 1 - r .x0) * (min (suc y) (r .y1 + 1) - r .y0)
+  row-next : (y : ℕ) → howMany (y * w) g ≡ (r .x1 + 1 - r .x0) * (min y (r .y1 + 1) - r .y0) → howMany (y * w + w) g ≡ (r .x1 + 1 - r .x0) * (min (suc y) (r .y1 + 1) - r .y0)
   row-next y ih = ⊎-elim below (λ m. ⊎-elim above (between m) (order (r .y1) y)) (order y (r .y0))
     where
-      below : y < r .y0 → heldBelow g (y * w + w) ≡ (r .x1 + 1 - r .x0) * (min (suc y) (r .y1 + 1) - r .y0)
+      below : y < r .y0 → howMany (y * w + w) g ≡ (r .x1 + 1 - r .x0) * (min (suc y) (r .y1 + 1) - r .y0)
       below l =
           let e : min y (r .y1 + 1) - r .y0 ≡ min (suc y) (r .y1 + 1) - r .y0 = omega arith in
           row-out y (inl l) ∙ ih ∙ ap (λ (z : ℕ). (r .x1 + 1 - r .x0) * z) e
 
-      above : r .y1 < y → heldBelow g (y * w + w) ≡ (r .x1 + 1 - r .x0) * (min (suc y) (r .y1 + 1) - r .y0)
+      above : r .y1 < y → howMany (y * w + w) g ≡ (r .x1 + 1 - r .x0) * (min (suc y) (r .y1 + 1) - r .y0)
       above l =
           let e : min y (r .y1 + 1) - r .y0 ≡ min (suc y) (r .y1 + 1) - r .y0 = omega arith in
           row-out y (inr l) ∙ ih ∙ ap (λ (z : ℕ). (r .x1 + 1 - r .x0) * z) e
 
-      between : r .y0 ≤ y → y ≤ r .y1 → heldBelow g (y * w + w) ≡ (r .x1 + 1 - r .x0) * (min (suc y) (r .y1 + 1) - r .y0)
+      between : r .y0 ≤ y → y ≤ r .y1 → howMany (y * w + w) g ≡ (r .x1 + 1 - r .x0) * (min (suc y) (r .y1 + 1) - r .y0)
       between l m =
           let e : suc (min y (r .y1 + 1) - r .y0) ≡ min (suc y) (r .y1 + 1) - r .y0 = omega arith in
           row-in y l m ∙ ap (λ (z : ℕ). z + (r .x1 + 1 - r .x0)) ih ∙ sym (mul-suc (r .x1 + 1 - r .x0) (min y (r .y1 + 1) - r .y0)) ∙ ap (λ (z : ℕ). (r .x1 + 1 - r .x0) * z) e
 
-  rows : (y : ℕ) → heldBelow g (y * w) ≡ (r .x1 + 1 - r .x0) * (min y (r .y1 + 1) - r .y0)
-  unfolding heldBelow
+  rows : (y : ℕ) → howMany (y * w) g ≡ (r .x1 + 1 - r .x0) * (min y (r .y1 + 1) - r .y0)
+  unfolding howMany
   rows zero =
       let e : min 0 (r .y1 + 1) - r .y0 ≡ 0 = omega arith in
-      ap (heldBelow g) (zero-mul w) ∙ sym (ap (λ (z : ℕ). (r .x1 + 1 - r .x0) * z) e ∙ mul-zero (r .x1 + 1 - r .x0))
-  rows (suc y) = ap (heldBelow g) (suc-mul y w) ∙ row-next y (rows y)
+      ap (λ (z : ℕ). howMany z g) (zero-mul w) ∙ sym (ap (λ (z : ℕ). (r .x1 + 1 - r .x0) * z) e ∙ mul-zero (r .x1 + 1 - r .x0))
+  rows (suc y) = ap (λ (z : ℕ). howMany z g) (suc-mul y w) ∙ row-next y (rows y)
 
 -- ---- in the grid
 module _ (r : Rect) (s : Small r) where
@@ -109,7 +110,7 @@ module _ (r : Rect) (s : Small r) where
   }
 
   -- the area is the number of cells held
-  pub held-area : heldBelow (holds r) cellCount ≡ areaOf r
+  pub held-area : howMany cellCount (holds r) ≡ areaOf r
   unfolding areaOf
   held-area =
       let e : min gridDim (r .y1 + 1) - r .y0 ≡ r .y1 + 1 - r .y0 = omega arith in

@@ -11,7 +11,8 @@ use Rattle.course.specs.Rect.{holds}
 use Rattle.course.specs.Constants.{gridDim}
 use Rattle.course.specs.Lengths.{offsetCount}
 use Rattle.course.specs.IndexSteps.{Small}
-use Rattle.course.specs.IndexSteps.{one, Inside, RunCounted, RectCounted, RunPlaced, RectPlaced}
+use Rattle.course.specs.Counting.{digit}
+use Rattle.course.specs.IndexSteps.{Inside, RunCounted, RectCounted, RunPlaced, RectPlaced}
 use Rattle.course.proofs.IndexLaws.{order}
 use Rattle.course.proofs.Rects.{holds-in, out-row, out-column}
 
@@ -19,7 +20,7 @@ use Rattle.course.proofs.Rects.{holds-in, out-row, out-column}
 pub record CountedTo (s : ℕ) (o₀ o : List ℕ) (r : Rect) (p : ℕ) : Type 0 where
   pub same : length o ≡ length o₀
   pub first : (k : ℕ) → k < s → getD o k 0 ≡ getD o₀ k 0
-  pub done : (c : ℕ) → c < p → c + s < offsetCount → getD o (c + s) 0 ≡ getD o₀ (c + s) 0 + one (holds r c)
+  pub done : (c : ℕ) → c < p → c + s < offsetCount → getD o (c + s) 0 ≡ getD o₀ (c + s) 0 + digit (holds r c)
   pub left : (k : ℕ) → p + s ≤ k → getD o k 0 ≡ getD o₀ k 0
 
 pub record PlacedTo (o₀ l₀ o l : List ℕ) (id : ℕ) (r : Rect) (p : ℕ) : Type 0 where
@@ -57,7 +58,7 @@ module _ (r : Rect) (small : Small r) where
         record {
           same = ap length e;
           first = λ k l. ap (λ (z : List ℕ). getD z k 0) e;
-          done = λ c l m. omega (arith, ap (λ (z : List ℕ). getD z (c + s) 0) e, ap one (below-rect c y a l));
+          done = λ c l m. omega (arith, ap (λ (z : List ℕ). getD z (c + s) 0) e, ap digit (below-rect c y a l));
           left = λ k l. ap (λ (z : List ℕ). getD z k 0) e;
         }
 
@@ -70,8 +71,8 @@ module _ (r : Rect) (small : Small r) where
               ⊎-elim
               (λ m. u .kept (c + s) (λ w. omega arith) ∙ t .done c m n)
               (λ m. ⊎-elim
-              (λ w. omega (arith, u .hit (c + s) (omega arith), t .left (c + s) (omega arith), ap one (w .1)))
-              (λ w. omega (arith, u .kept (c + s) (λ v. w .0 (omega arith)), t .left (c + s) (omega arith), ap one (w .1)))
+              (λ w. omega (arith, u .hit (c + s) (omega arith), t .left (c + s) (omega arith), ap digit (w .1)))
+              (λ w. omega (arith, u .kept (c + s) (λ v. w .0 (omega arith)), t .left (c + s) (omega arith), ap digit (w .1)))
               (row-case r y small a b c m (omega arith)))
               (order c (y * gridDim));
           left = λ k l. u .kept k (λ w. omega arith) ∙ t .left k (omega arith);
@@ -82,7 +83,7 @@ module _ (r : Rect) (small : Small r) where
         record {
           same = t .same;
           first = t .first;
-          cells = λ c l. ⊎-elim (λ m. t .done c m l) (λ m. omega (arith, t .left (c + s) (omega arith), ap one (above-rect c y a m))) (order c (y * gridDim));
+          cells = λ c l. ⊎-elim (λ m. t .done c m l) (λ m. omega (arith, t .left (c + s) (omega arith), ap digit (above-rect c y a m))) (order c (y * gridDim));
         }
 
   module _ (o₀ l₀ o l : List ℕ) (id : ℕ) where

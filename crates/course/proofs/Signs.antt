@@ -13,7 +13,7 @@ use lib.Ieee.Fits.{up-pos, and-l}
 use borrow.Author.Tests.{ltb-true, ltb-false, eq-eqb, eqb-true}
 use Rattle.course.specs.Arithmetic.{natural}
 use Rattle.course.specs.Numeric.{signumOf, absOf}
-use Rattle.course.proofs.Naturals.{same-test}
+use Rattle.course.proofs.BoolLaws.{same-test, or-no, or-other}
 use Rattle.course.proofs.Bounds.{plain, plain-round, neg-round}
 use Rattle.course.proofs.OwnValue.{own-value}
 
@@ -133,10 +133,6 @@ both-zero a b h =
     let q : a * 1 ≡ 0 = omega arith in
     rw (eq-eqb _ _ p, eq-eqb _ _ q)
 
-or-else : (a b : Bool) → (a || b) ≡ true → (a ≡ true → ⊥) → b ≡ true
-or-else true b h n = absurd (n refl)
-or-else false b h n = h
-
 -- 0 − x: what is below 0, and both zeros
 pub abs-down : (x : Float) → fits binary64 x ≡ true → le x nought ≡ true → sub binary64 nought x ≡ absOf x
 unfolding le lt sub add sum neg absOf fits
@@ -148,11 +144,7 @@ abs-down (fin true m e) f h =
     ap₂ (round binary64 false) a (one-mul (down e)) ∙ own-value m e (subst T (sym f) tt)
 abs-down (fin false m e) f h =
     let x = fin false m e in
-    subst (λ (y : Float). sub binary64 nought y ≡ absOf y) (abs-zero x f (or-else (lt x nought) (eq x nought) h (none (m * up e * 1) (down e)))) refl
-
-neither : (a b : Bool) → (a || b) ≡ false → (a ≡ false) × (b ≡ false)
-neither true b h = absurd (true≢false h)
-neither false b h = (refl, h)
+    subst (λ (y : Float). sub binary64 nought y ≡ absOf y) (abs-zero x f (or-other (lt x nought) (eq x nought) h (none (m * up e * 1) (down e)))) refl
 
 pub abs-up : (x : Float) → le x nought ≡ false → x ≡ absOf x
 unfolding le lt eq absOf
@@ -161,7 +153,7 @@ abs-up (inf true) h = absurd (true≢false h)
 abs-up (inf false) h = refl
 abs-up (fin false m e) h = refl
 abs-up (fin true m e) h =
-    let n = neither (lt (fin true m e) nought) (eq (fin true m e) nought) h in
+    let n = or-no (lt (fin true m e) nought) (eq (fin true m e) nought) h in
     absurd (true≢false (sym (both-zero (m * up e) (down e) (n .0)) ∙ n .1))
 
 -- ---- the size of n · 2 ^ d · x, n above 0, is told by the side of zero on which x lies

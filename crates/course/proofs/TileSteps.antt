@@ -12,8 +12,10 @@ use Rattle.course.specs.declared.index.Rect.{Rect}
 use Rattle.course.specs.Index.{listed, start, indexOf, offsetsOf}
 use Rattle.course.specs.Rect.{holds}
 use Rattle.course.specs.Lengths.{cellCount, offsetCount}
-use Rattle.course.specs.IndexSteps.{one, RectCounted, Counts, RectPlaced, Placed, Summed, sumBelow}
-use Rattle.course.proofs.IndexLaws.{order, bool, listed-none, listed-more, listed-at, listed-le, listed-small, start-apart, start-more, start-none, index-is, table-length, table-at}
+use Rattle.course.specs.IndexSteps.{RectCounted, Counts, RectPlaced, Placed, Summed, sumBelow}
+use Rattle.course.specs.Counting.{digit}
+use Rattle.course.proofs.BoolLaws.{bool}
+use Rattle.course.proofs.IndexLaws.{order, listed-none, listed-more, listed-at, listed-le, listed-small, start-apart, start-more, start-none, index-is, table-length, table-at}
 use Rattle.course.proofs.CellRuns.{same?, sum-more, sum-none}
 
 module _ (h : ℕ → ℕ → Bool) (i : ℕ) (r : Rect) (is : (c : ℕ) → h i c ≡ holds r c) where
@@ -22,7 +24,7 @@ module _ (h : ℕ → ℕ → Bool) (i : ℕ) (r : Rect) (is : (c : ℕ) → h i
       record {
         size = u .same ∙ t .size;
         first = λ k l. u .first k l ∙ t .first k l;
-        cells = λ c l. omega (arith, u .cells c l, t .cells c l, listed-more h i c, ap one (is c));
+        cells = λ c l. omega (arith, u .cells c l, t .cells c l, listed-more h i c, ap digit (is c));
       }
 
   module _ (n : ℕ) (below : i < n) (o l : List ℕ) (t : Placed h n i o l) where
@@ -49,14 +51,14 @@ module _ (h : ℕ → ℕ → Bool) (i : ℕ) (r : Rect) (is : (c : ℕ) → h i
           size = u .cursors .same ∙ t .size;
           room = u .same-list ∙ t .room;
           first = u .cursors .first 0 (omega arith) ∙ t .first;
-          cells = λ c m. omega (arith, u .cursors .cells c (omega arith), t .cells c m, listed-more h i c, ap one (is c));
-          ids = λ c k m b. ⊎-elim (λ p. u .other (start h n c + k) (apart c k p) ∙ t .ids c k m p) (λ p. ⊎-elim (new c k m b p) (λ e. absurd (omega (arith, listed-more h i c, ap one e))) (bool (h i c))) (order k (length (listed h i c)));
+          cells = λ c m. omega (arith, u .cursors .cells c (omega arith), t .cells c m, listed-more h i c, ap digit (is c));
+          ids = λ c k m b. ⊎-elim (λ p. u .other (start h n c + k) (apart c k p) ∙ t .ids c k m p) (λ p. ⊎-elim (new c k m b p) (λ e. absurd (omega (arith, listed-more h i c, ap digit e))) (bool (h i c))) (order k (length (listed h i c)));
         }
       where
         -- the tile's own entry, after those of the tiles before it
         new : (c k : ℕ) → c < cellCount → k < length (listed h (i + 1) c) → length (listed h i c) ≤ k → h i c ≡ true → getD l′ (start h n c + k) 0 ≡ getD (listed h n c) k 0
         new c k m b p e =
-            let q : k ≡ length (listed h i c) = omega (arith, listed-more h i c, ap one e) in
+            let q : k ≡ length (listed h i c) = omega (arith, listed-more h i c, ap digit e) in
             let a : start h n c + k ≡ getD o (c + 1) 0 = omega (arith, t .cells c m) in
             ap (λ (z : ℕ). getD l′ z 0) a
             ∙ u .placed c m (sym (is c) ∙ e)

@@ -1,14 +1,9 @@
 -- Document 01, "Tiles and index": the cells of the grid. Assumes nothing.
-use Prim.Native.Nat.{ℕ, zero, suc, _+_, _-_, _*_}
-use mathlib.Core.Bool.{Bool, true, false, cond}
+use Prim.Native.Nat.{ℕ, suc, _+_, _-_, _*_}
 use lib.Ieee.{Float, le}
 use Rattle.course.specs.Arithmetic.{_⊕_, _⊘_, natural}
 use Rattle.course.specs.Constants.{playfield, gridCell, gridDim}
-
--- how many k from 1 to n pass the test p
-unfoldable pub count : (ℕ → Bool) → ℕ → ℕ
-count p zero = 0
-count p (suc n) = cond (p (suc n)) 1 0 + count p n
+use Rattle.course.specs.Counting.{howMany}
 
 -- (v + P) / 10
 unfoldable pub along : Float → Float
@@ -16,7 +11,7 @@ along v = (v ⊕ playfield) ⊘ gridCell
 
 -- the count of k from 1 to 66 with k ≤ (v + P) / 10. Every comparison with NaN is false, so NaN gives 0.
 unfoldable pub cellOf : Float → ℕ
-cellOf v = count (λ k. le (natural k) (along v)) (gridDim - 1)
+cellOf v = howMany (gridDim - 1) (λ k. le (natural (suc k)) (along v))
 
 -- the number of a point's cell: row times 67 plus column
 unfoldable pub cellAt : Float → Float → ℕ

@@ -10,6 +10,7 @@ use Rattle.course.specs.Arithmetic.{_⊕_, _⊖_, _⊗_}
 use Rattle.course.specs.Constants.{trackWidth}
 use Rattle.course.specs.Trig.{sineOf, cosineOf}
 use Rattle.course.specs.Tiles.{pair, eight}
+use Rattle.course.specs.Counting.{digit}
 use Rattle.course.specs.Curbs.{quadsTo, whitesTo}
 use Rattle.course.specs.declared.tiles.TrackPoint.{TrackPoint}
 use Rattle.course.specs.declared.tiles.Edges.{Edges}
@@ -42,7 +43,7 @@ pub record Roomy (a b u v t : List Float) (o : List ℕ) : Type 0 where
 
 -- a curb more where the point has one, else as before
 pub record Curbed (has : Bool) (quad : List (List Float)) (mark m : ℕ) (q : List Float) (w : List ℕ) (m′ : ℕ) (q′ : List Float) (w′ : List ℕ) : Type 0 where
-  pub count : m′ ≡ m + cond has 1 0
+  pub count : m′ ≡ m + digit has
   pub quads : q′ ≡ cond has (puts (eight quad) (m * 8) q) q
   pub white : w′ ≡ cond has (set w m mark) w
 

@@ -1,7 +1,7 @@
 -- What the steps of the index's builder do, one cell at a time; only private functions of `index` cite these. `o` and `l` are the offsets
 -- and the list before a step, `o′` and `l′` after it. Assumes nothing.
 use Prim.Native.Nat.{ℕ, zero, suc, _+_, _-_, _/_, _%_, _≤_, _<_}
-use mathlib.Core.Bool.{Bool, true, false, not}
+use mathlib.Core.Bool.{Bool, true, cond, not}
 use mathlib.Core.Path.{_≡_}
 use mathlib.Core.List.{List, _++_}
 use mathlib.Core.Logic.{_⊎_}
@@ -9,14 +9,10 @@ use lib.ListN.{length, getD, drop}
 use lib.Dec.{T, ltb}
 use lib.Ieee.{Float, nan, isNan, binary64, toBits}
 use Rattle.course.specs.Lengths.{cellCount, mostPoints, offsetCount}
+use Rattle.course.specs.Counting.{digit}
 use Rattle.course.specs.Index.{listed, start, offsetsOf, indexOf}
 use Rattle.course.specs.Rect.{rectOf, holds, holdsOf, needed}
 use Rattle.course.specs.declared.index.Rect.{Rect}
-
--- 1 where a test holds, else 0
-abbrev pub one : Bool → ℕ
-one true = 1
-one false = 0
 
 -- a test on places: whether k is from a up to below b
 pub record Inside (a b k : ℕ) : Type 0 where
@@ -33,7 +29,7 @@ pub record RunCounted (o o′ : List ℕ) (a b : ℕ) : Type 0 where
 pub record RectCounted (s : ℕ) (o o′ : List ℕ) (r : Rect) : Type 0 where
   pub same : length o′ ≡ length o
   pub first : (k : ℕ) → k < s → getD o′ k 0 ≡ getD o k 0
-  pub cells : (c : ℕ) → c + s < offsetCount → getD o′ (c + s) 0 ≡ getD o (c + s) 0 + one (holds r c)
+  pub cells : (c : ℕ) → c + s < offsetCount → getD o′ (c + s) 0 ≡ getD o (c + s) 0 + digit (holds r c)
 
 -- the sum of the first k elements
 unfoldable pub sumBelow : List ℕ → ℕ → ℕ
@@ -81,17 +77,12 @@ pub record Small (r : Rect) : Type 0 where
   pub right : r .x1 ≤ 66
   pub top : r .y1 ≤ 66
 
--- the first of two lists where a test holds, else the second
-abbrev pub pickList : Bool → List ℕ → List ℕ → List ℕ
-pickList true a b = a
-pickList false a b = b
-
 -- the columns after the builder: where the list is too short (cause 3), as before; else the index, and what stood past it
 pub record Built (tiles : List Float) (n : ℕ) (o l o′ l′ : List ℕ) (short : Bool) (need : ℕ) : Type 0 where
   pub length-needed : need ≡ needed tiles n
   pub too-short : short ≡ ltb (length l) (needed tiles n)
-  pub offsets : o′ ≡ pickList (ltb (length l) (needed tiles n)) o (offsetsOf (holdsOf tiles) n cellCount ++ drop offsetCount o)
-  pub entries : l′ ≡ pickList (ltb (length l) (needed tiles n)) l (indexOf (holdsOf tiles) n cellCount ++ drop (needed tiles n) l)
+  pub offsets : o′ ≡ cond (ltb (length l) (needed tiles n)) o (offsetsOf (holdsOf tiles) n cellCount ++ drop offsetCount o)
+  pub entries : l′ ≡ cond (ltb (length l) (needed tiles n)) l (indexOf (holdsOf tiles) n cellCount ++ drop (needed tiles n) l)
 
 -- ---- rectangles packed in a column of numbers, one in the bits of each
 

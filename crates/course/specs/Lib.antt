@@ -15,6 +15,8 @@ pub mod Angle
 pub mod Root
 -- what makes a root the nearest, over whole numbers
 pub mod Nearest
+-- how many numbers pass a test
+pub mod Counting
 -- the cells of the grid
 pub mod Cell
 -- ---- tiles and index

@@ -1,28 +1,33 @@
--- Document 01, "Tiles and index": a tile's rectangle of cells. The tiles stand in a column, eight numbers to a tile. Assumes nothing.
+-- Document 01, "Tiles and index": the box of a quad, and a tile's rectangle of cells. The tiles stand in a column, eight numbers to a tile. Assumes nothing.
 use Prim.Native.Nat.{ℕ, zero, suc, _+_, _*_, _-_, _/_, _%_}
 use mathlib.Core.Bool.{Bool, _&&_}
 use mathlib.Core.List.{List}
-use lib.ListN.{getD}
 use lib.Dec.{leb}
-use lib.Ieee.{Float, nan}
+use lib.Ieee.{Float}
 use Rattle.course.specs.Numeric.{leastOf, greatestOf}
 use Rattle.course.specs.Constants.{gridDim}
 use Rattle.course.specs.Cell.{cellOf}
+use Rattle.course.specs.Tiles.{corner, tileOf}
 use Rattle.course.specs.declared.index.Rect.{Rect}
 
--- the k-th number of tile i: the corners' x and y in turn
-abbrev pub coordinate : List Float → ℕ → ℕ → Float
-coordinate tiles i k = getD tiles (i * 8 + k) nan
+-- ---- the box of a quad: its least and greatest coordinates
+unfoldable pub leastX : List (List Float) → Float
+leastX q = leastOf (corner q 0 0) (corner q 1 0) (corner q 2 0) (corner q 3 0)
 
--- from the cells of a tile's least to those of its greatest coordinates
+unfoldable pub leastY : List (List Float) → Float
+leastY q = leastOf (corner q 0 1) (corner q 1 1) (corner q 2 1) (corner q 3 1)
+
+unfoldable pub greatestX : List (List Float) → Float
+greatestX q = greatestOf (corner q 0 0) (corner q 1 0) (corner q 2 0) (corner q 3 0)
+
+unfoldable pub greatestY : List (List Float) → Float
+greatestY q = greatestOf (corner q 0 1) (corner q 1 1) (corner q 2 1) (corner q 3 1)
+
+-- ---- from the cells of a tile's least to those of its greatest coordinates
 unfoldable pub rectOf : List Float → ℕ → Rect
 rectOf tiles i =
-    record {
-      x0 = cellOf (leastOf (coordinate tiles i 0) (coordinate tiles i 2) (coordinate tiles i 4) (coordinate tiles i 6));
-      x1 = cellOf (greatestOf (coordinate tiles i 0) (coordinate tiles i 2) (coordinate tiles i 4) (coordinate tiles i 6));
-      y0 = cellOf (leastOf (coordinate tiles i 1) (coordinate tiles i 3) (coordinate tiles i 5) (coordinate tiles i 7));
-      y1 = cellOf (greatestOf (coordinate tiles i 1) (coordinate tiles i 3) (coordinate tiles i 5) (coordinate tiles i 7));
-    }
+    let q = tileOf tiles i in
+    record { x0 = cellOf (leastX q); x1 = cellOf (greatestX q); y0 = cellOf (leastY q); y1 = cellOf (greatestY q) }
 
 -- cell c stands in row c / 67 and column c % 67: its number is row times 67 plus column
 unfoldable pub holds : Rect → ℕ → Bool

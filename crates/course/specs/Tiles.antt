@@ -1,5 +1,5 @@
 -- Document 01, "Tiles and index": the tiles of a list of points (the Rust's `tile_quad` and `from_points`). Assumes nothing.
-use Prim.Native.Nat.{ℕ, zero, suc, _-_}
+use Prim.Native.Nat.{ℕ, zero, suc, _+_, _*_, _-_}
 use mathlib.Core.List.{List, [], _∷_, _++_, map}
 use lib.ListN.{length, getD}
 use lib.Ieee.{Float, nan}
@@ -7,6 +7,10 @@ use Rattle.course.specs.Arithmetic.{_⊕_, _⊖_, _⊗_}
 use Rattle.course.specs.Constants.{trackWidth}
 use Rattle.course.specs.Trig.{sineOf, cosineOf}
 use Rattle.course.specs.declared.tiles.TrackPoint.{TrackPoint}
+
+-- number i of a column; NaN past its end
+abbrev pub numberAt : List Float → ℕ → Float
+numberAt ns i = getD ns i nan
 
 -- ---- points and their columns
 abbrev pub betas : List TrackPoint → List Float
@@ -20,7 +24,7 @@ ys ps = map (λ (p : TrackPoint). p .y) ps
 
 -- point i of the columns b (beta), x and y
 unfoldable pub pointAt : List Float → List Float → List Float → ℕ → TrackPoint
-pointAt b x y i = record { beta = getD b i nan; x = getD x i nan; y = getD y i nan }
+pointAt b x y i = record { beta = numberAt b i; x = numberAt x i; y = numberAt y i }
 
 -- the first k points of three columns
 unfoldable pub pointsOf : List Float → List Float → List Float → ℕ → List TrackPoint
@@ -56,6 +60,15 @@ corner q c k = getD (getD q c []) k nan
 unfoldable pub eight : List (List Float) → List Float
 eight q =
     corner q 0 0 ∷ corner q 0 1 ∷ corner q 1 0 ∷ corner q 1 1 ∷ corner q 2 0 ∷ corner q 2 1 ∷ corner q 3 0 ∷ corner q 3 1 ∷ []
+
+-- tile t of such a column as a quad
+unfoldable pub tileOf : List Float → ℕ → List (List Float)
+tileOf ts t =
+    pair (numberAt ts (t * 8)) (numberAt ts (t * 8 + 1))
+    ∷ pair (numberAt ts (t * 8 + 2)) (numberAt ts (t * 8 + 3))
+    ∷ pair (numberAt ts (t * 8 + 4)) (numberAt ts (t * 8 + 5))
+    ∷ pair (numberAt ts (t * 8 + 6)) (numberAt ts (t * 8 + 7))
+    ∷ []
 
 -- tile i of a list of points
 unfoldable pub tileAt : List TrackPoint → ℕ → List (List Float)

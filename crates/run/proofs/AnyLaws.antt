@@ -9,7 +9,7 @@ use lib.Dec.{lit<}
 use lib.ListN.{getD}
 use Rattle.run.specs.Below.{anyBelow}
 use Rattle.run.specs.Words.{bitOf, member}
-use Rattle.run.proofs.Tests.{left-false, right-false, not-false}
+use Rattle.course.proofs.BoolLaws.{left-false, right-false, never-false}
 use Rattle.run.proofs.WordLaws.{member-at, word-ext, bit-none}
 
 pub any-none : (n : ℕ) (p : ℕ → Bool) → ((t : ℕ) → t < n → p t ≡ false) → anyBelow n p ≡ false
@@ -29,7 +29,7 @@ any-false (suc n) p t e h =
 -- a word that is not 0 has a bit that stands
 pub any-found : (ws : List ℕ) (n i : ℕ) → i < n → getD ws i 0 < 2 ^ 64 → (getD ws i 0 ≡ 0 → ⊥) → anyBelow (64 * n) (member ws) ≡ true
 any-found ws n i h f z =
-    not-false (anyBelow (64 * n) (member ws))
+    never-false (anyBelow (64 * n) (member ws))
     (λ e. z (word-ext 64 (getD ws i 0) 0 f (lit< tt)
     (λ k l. sym (member-at ws i k l) ∙ any-false (64 * n) (member ws) (64 * i + k) e (omega arith) ∙ sym (bit-none k))))
 

@@ -8,8 +8,9 @@ use native.Mathlib.Omega.{arith}
 use native.Mathlib.Decide.{decLt}
 use lib.Dec.{ltb, eqb, eqb·suc-suc}
 use borrow.Author.Tests.{lt-ltb, le-ltb, ne-eqb}
-use Rattle.run.specs.Below.{anyBelow, everyBelow, digit, howMany}
-use Rattle.run.proofs.Tests.{left-false, right-false}
+use Rattle.course.specs.Counting.{digit, howMany}
+use Rattle.run.specs.Below.{anyBelow, everyBelow}
+use Rattle.course.proofs.BoolLaws.{and-not, left-false, right-false}
 use Rattle.run.proofs.WordLaws.{howMany-add}
 use Rattle.run.proofs.CreditLaws.{few}
 
@@ -72,21 +73,9 @@ all-pass zero p = refl
 all-pass (suc n) p = eqb-digit (howMany n p) n (p n) (few n p) ∙ ap (λ (b : Bool). b && p n) (all-pass n p)
 
 -- ---- what passes now and did not before
-and-not : (a b : Bool) → b ≡ false → (a && not b) ≡ a
-and-not a b h = rw h (and-true a)
-
 -- where none passed before, some passes now that did not exactly where some passes now
 pub any-entered : (k : ℕ) (before now : ℕ → Bool) → anyBelow k before ≡ false → anyBelow k (λ i. now i && not (before i)) ≡ anyBelow k now
 unfolding anyBelow
 any-entered zero before now h = refl
 any-entered (suc k) before now h =
     ap₂ _||_ (any-entered k before now (left-false _ _ h)) (and-not (now k) (before k) (right-false (anyBelow k before) (before k) h))
-
--- two tests that agree where c does not hold
-pub and-else : (c x y : Bool) → (c ≡ false → x ≡ y) → (x && not c) ≡ (y && not c)
-and-else true x y h = and-false x ∙ sym (and-false y)
-and-else false x y h = rw (h refl)
-
-pub or-else : (c x y : Bool) → (c ≡ false → x ≡ y) → (c || x) ≡ (c || y)
-or-else true x y h = refl
-or-else false x y h = h refl

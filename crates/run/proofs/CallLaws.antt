@@ -1,5 +1,5 @@
 -- What start and settle answer, by their causes and by the contact. Assumes nothing.
-use mathlib.Core.Bool.{Bool, true, false, cond, not, _&&_, _||_, true≢false}
+use mathlib.Core.Bool.{Bool, true, false, not, _&&_, _||_}
 use mathlib.Core.List.{List}
 use mathlib.Core.Path.{_≡_, refl, sym, ap, ap₂, _∙_, subst}
 use Prim.Native.Nat.{ℕ, zero, suc, _*_, _≤_, _<_}
@@ -7,7 +7,7 @@ use native.Mathlib.Omega.{arith}
 use lib.Dec.{ltb, leb}
 use lib.ListN.{length}
 use lib.Ieee.{Float}
-use borrow.Author.Tests.{ltb-false, leb-false}
+use borrow.Author.Tests.{ltb-false, leb-false, not-false}
 use Rattle.course.specs.Lengths.{mostPoints, mostNumbers, offsetCount}
 use Rattle.run.specs.State.{State, stateOf, Columns, shortOf, unfit}
 use Rattle.run.specs.Arguments.{posesOk, shortColumns, settingsOk, placesOk}
@@ -15,6 +15,7 @@ use Rattle.run.specs.Touch.{soundPoses, touchedBy}
 use Rattle.run.specs.Wheel.{quadOf}
 use Rattle.run.specs.Words.{member}
 use Rattle.run.specs.Contact.{entered, Contacted, contacted, contactOf}
+use Rattle.course.proofs.BoolLaws.{or-no, cleared}
 use Rattle.run.proofs.CreditLaws.{few}
 use Rattle.run.specs.Lap.{lapOf, offField}
 use Rattle.run.specs.Start.{Settings, startShort, startCause, startAnswer, setupOf, firstProgress, zeroState, begun, firstContact, startedBy, startAt, startOf}
@@ -27,19 +28,6 @@ use Rattle.run.specs.declared.state.Pose.{Pose}
 use Rattle.run.specs.declared.start.StartAnswer.the-variants.{Started, Refused}
 use Rattle.run.specs.declared.settle.SettleAnswer.{SettleAnswer}
 use Rattle.run.specs.declared.settle.SettleAnswer.the-variants.{Settled, Refused as NotSettled}
-
--- ---- no cause: the last test of a chain, and the tests before it
-pub cleared : (b : Bool) (k r : ℕ) → cond b (suc k) r ≡ 0 → (b ≡ false) × (r ≡ 0)
-cleared true k r h = absurd (omega (arith, h))
-cleared false k r h = (refl, h)
-
-pub or-no : (a b : Bool) → (a || b) ≡ false → (a ≡ false) × (b ≡ false)
-or-no true b h = absurd (true≢false h)
-or-no false b h = (refl, h)
-
-pub yes-of : (b : Bool) → not b ≡ false → b ≡ true
-yes-of true h = refl
-yes-of false h = absurd (true≢false h)
 
 -- the lent tiles are long enough for n of them
 long : (tiles offsets n most : ℕ) → shortColumns tiles offsets ≡ false → ltb most n ≡ false → most ≤ mostPoints → n * 8 ≤ tiles
@@ -69,7 +57,7 @@ start-facts most l a m h =
       some = ltb-false (a .n) 1 (v .0);
       few = ltb-false most (a .n) (v .1);
       tiles = long (length (l .tiles)) (length (l .offsets)) (a .n) most (u .0) (v .1) m;
-      sound = yes-of (soundPoses (l .offsets) (l .list) (a .n) (a .poses)) (s .0);
+      sound = not-false (soundPoses (l .offsets) (l .list) (a .n) (a .poses)) (s .0);
     }
 
 pub start-refused : (m most : ℕ) (l : Columns) (a : Settings) (k : ℕ) (s : State) → k ≡ startCause most l a → (k ≡ 0 → ⊥) → s ≡ zeroState m → begun (Refused k) s ≡ startOf m most l a
@@ -113,7 +101,7 @@ settle-facts most u p l x y ps m h =
       count = ltb-false (u .n) (p .«visited_count») (g .1);
       time = leb-false (u .«tick_limit») (p .tick) (c .0);
       tiles = long (length (l .tiles)) (length (l .offsets)) (u .n) most (d .0) (k .1) m;
-      sound = yes-of (soundPoses (l .offsets) (l .list) (u .n) ps) (v .0);
+      sound = not-false (soundPoses (l .offsets) (l .list) (u .n) ps) (v .0);
     }
 
 -- the number of a cause, 0 for none, was found for a settle

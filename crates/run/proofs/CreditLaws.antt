@@ -1,5 +1,5 @@
 -- One turn of the loop that credits what was entered, a word at a time, and what the loop leaves. Assumes nothing.
-use mathlib.Core.Bool.{Bool, true, false, not, _&&_, _||_}
+use mathlib.Core.Bool.{Bool, true, false, not, _&&_, _||_, or-false}
 use mathlib.Core.List.{List}
 use mathlib.Core.Path.{_≡_, refl, sym, ap, ap₂, _∙_, subst}
 use Prim.Native.Nat.{ℕ, zero, suc, _+_, _-_, _*_, _/_, _%_, _^_, _≤_, _<_}
@@ -13,7 +13,7 @@ use lib.Count.{ones}
 use lib.Dec.{lit<}
 use borrow.Author.Count.{below-more}
 use Rattle.run.specs.Words.{bitOf, member, wordOf, setOf}
-use Rattle.run.specs.Below.{digit, howMany}
+use Rattle.course.specs.Counting.{digit, howMany}
 use Rattle.run.proofs.WordLaws.{Fit, word-bit, word-lt, word-ext, ones-word, member-at, is-setOf, bit-none, bit-or, bit-and, bit-not, howMany-add, howMany-cong}
 
 -- the bits of the other value
@@ -52,10 +52,6 @@ pub howMany-false : (n : ℕ) → howMany n (λ t. false) ≡ 0
 unfolding howMany
 howMany-false zero = refl
 howMany-false (suc n) = ap (λ (x : ℕ). x + 0) (howMany-false n)
-
-or-none : (a : Bool) → (a || false) ≡ a
-or-none true = refl
-or-none false = refl
 
 -- ---- word j of three sets: credited before, touched last, touched now
 module _ (c l e : ℕ) (fc : c < 2 ^ 64) (fl : l < 2 ^ 64) (fe : e < 2 ^ 64) where
@@ -164,7 +160,7 @@ module _ (c₀ l e : List ℕ) where
         small = λ j b. elim (decLt j i) [ yes a ↦ h .small j a | no a ↦ subst (λ (x : ℕ). x < 2 ^ 64) (sym (h .kept j (omega arith))) (fit j) ];
         done = λ j b k u. elim (decLt j i) [
           | yes a ↦ h .done j a k u
-          | no a ↦ ap (λ (x : ℕ). bitOf x k) (h .kept j (omega arith)) ∙ sym (or-none (bitOf (getD c₀ j 0) k)) ∙ ap (λ (x : Bool). bitOf (getD c₀ j 0) k || (x && not (bitOf (getD l j 0) k))) (sym (empty j k (omega arith) b u))
+          | no a ↦ ap (λ (x : ℕ). bitOf x k) (h .kept j (omega arith)) ∙ sym (or-false (bitOf (getD c₀ j 0) k)) ∙ ap (λ (x : Bool). bitOf (getD c₀ j 0) k || (x && not (bitOf (getD l j 0) k))) (sym (empty j k (omega arith) b u))
         ];
         kept = λ j b. h .kept j (omega (arith, h .bound));
         count =

@@ -8,7 +8,6 @@ pub mod CallLaws
 pub mod Literals
 pub mod SmallForces
 pub mod MotorLaw
-pub mod Tests
 pub mod AnyLaws
 pub mod DriveLaws
 pub mod RoadLaws

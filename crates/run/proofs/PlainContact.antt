@@ -12,7 +12,8 @@ use Rattle.run.specs.Grip.{onRoad}
 use Rattle.run.proofs.WordLaws.{member-setOf, setOf-cong, howMany-cong}
 use Rattle.run.proofs.ContactLaws.{part-of}
 use Rattle.run.proofs.AnyLaws.{any-none}
-use Rattle.run.proofs.BelowLaws.{any-cong, below, below-in, below-out, by-side, any-within, howMany-within, any-entered, and-else, or-else}
+use Rattle.run.proofs.BelowLaws.{any-cong, below, below-in, below-out, by-side, any-within, howMany-within, any-entered}
+use Rattle.course.proofs.BoolLaws.{and-else, or-else}
 
 pub sets-cong : (m : ℕ) (P Q : ℕ → ℕ → Bool) (k : ℕ) → ((w t : ℕ) → w < k → P w t ≡ Q w t) → wheelSets m P k ≡ wheelSets m Q k
 unfolding wheelSets

@@ -9,12 +9,12 @@ use native.Mathlib.Decide.{ℕ-discrete, decLt}
 use lib.Dec.{eqb}
 use lib.ListN.{getD, set, drop}
 use lib.Seq.{getD-take, getD-drop}
-use borrow.Author.Tests.{eqb-true}
+use borrow.Author.Tests.{eqb-true, not-false}
 use Rattle.run.specs.Below.{anyBelow}
 use Rattle.run.specs.Contact.{wheelPart}
 use Rattle.run.specs.Grip.{onRoad, roadsOf}
 use Rattle.run.specs.DriveSteps.{stands, anyStands, roadsTo}
-use Rattle.run.proofs.Tests.{not-false}
+use Rattle.course.proofs.BoolLaws.{never-false, both-ways}
 use Rattle.run.proofs.AnyLaws.{any-none, any-false, any-found, none-found}
 
 -- no word looked at yet
@@ -30,21 +30,10 @@ stands-more ws from i b e = ap (λ (a : Bool). a || stands ws from i) e ∙ ap (
     one : suc i ≡ i + 1
     one = omega arith
 
--- two tests that fail together
-both-ways : (a b : Bool) → (a ≡ false → b ≡ false) → (b ≡ false → a ≡ false) → a ≡ b
-both-ways true true f g = refl
-both-ways true false f g = g refl
-both-ways false true f g = sym (f refl)
-both-ways false false f g = refl
-
 -- a word that does not stand is 0
 falls : (ws : List ℕ) (from j : ℕ) → stands ws from j ≡ false → getD ws (from + j) 0 ≡ 0
 unfolding stands
-falls ws from j h = eqb-true (getD ws (from + j) 0) 0 (yes-of (eqb (getD ws (from + j) 0) 0) h)
-  where
-    yes-of : (b : Bool) → not b ≡ false → b ≡ true
-    yes-of true h = refl
-    yes-of false h = absurd (true≢false h)
+falls ws from j h = eqb-true (getD ws (from + j) 0) 0 (not-false (eqb (getD ws (from + j) 0) 0) h)
 
 nought : (ws : List ℕ) (from j : ℕ) → getD ws (from + j) 0 ≡ 0 → stands ws from j ≡ false
 unfolding stands
@@ -80,7 +69,7 @@ module _ (m w : ℕ) (ws : List ℕ) where
   -- a word that stands among the first k
   pub first-stands : (k : ℕ) (b : Bool) → k ≤ m → b ≡ anyStands k ws (w * m) → b ≡ true → ((j : ℕ) → j < k → getD ws (w * m + j) 0 < 2 ^ 64) → true ≡ onRoad m ws w
   first-stands k b l e t fits =
-      sym (not-false (onRoad m ws w)
+      sym (never-false (onRoad m ws w)
       (λ o. true≢false (sym t ∙ e ∙ all-none ws (w * m) k (λ j h. off-road o j (omega (arith, l, h)) (fits j h)))))
 
   -- none among the first k: the others decide

@@ -10,7 +10,7 @@ use Rattle.run.specs.State.{unfit}
 use Rattle.run.specs.Reward.{atLeastOne}
 use Rattle.run.specs.declared.state.Setup.{Setup}
 use Rattle.run.specs.declared.state.Progress.{Progress}
-use Rattle.run.proofs.Tests.{left-false, right-false}
+use Rattle.course.proofs.BoolLaws.{left-false, right-false}
 
 pub one-kept : (n : ℕ) → (n ≡ 0 → ⊥) → n ≡ atLeastOne n
 unfolding atLeastOne

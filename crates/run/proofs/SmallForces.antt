@@ -1,17 +1,14 @@
 -- A sum of squares that is not above the limit's square has a root that is not above the limit. Assumes nothing.
 use mathlib.Core.Path.{_≡_, refl, sym, subst}
-use mathlib.Core.Bool.{Bool, true, false}
+use mathlib.Core.Bool.{true, false}
 use lib.Dec.{T}
 use lib.Ieee.{Float, binary64, ofBits, ofInt, round, mul, fits, lt, le}
 use Rattle.course.specs.Arithmetic.{natural, decimal}
 use Rattle.course.specs.Root.{sqrtOf}
+use Rattle.course.proofs.BoolLaws.{no-T}
 use Rattle.course.proofs.RootLaw.{root-within}
 use Rattle.run.specs.Dynamics.{frictionLimit, limitOf}
 use Rattle.run.specs.Wheel.{size}
-
-no-T : (b : Bool) → (T b → ⊥) → b ≡ false
-no-T true h = absurd (h tt)
-no-T false h = refl
 
 -- the limits are 400 and 240
 road-bits : limitOf true ≡ ofBits binary64 0x4079000000000000

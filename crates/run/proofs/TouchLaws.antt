@@ -11,14 +11,15 @@ use lib.Seq.{take-suc}
 use lib.Dec.{eqb, ltb}
 use lib.Ieee.{Float}
 use borrow.Author.Tests.{eq-eqb, ne-eqb, ltb-true}
-use Rattle.course.proofs.IndexLaws.{and-left, and-right}
+use Rattle.course.specs.Tiles.{tileOf}
+use Rattle.course.proofs.BoolLaws.{and-left, and-right}
 use Rattle.run.specs.Below.{someOf, everyOf}
 use Rattle.run.specs.Words.{member, setOf}
 use Rattle.course.specs.Index.{partOk, lookup}
 use Rattle.run.specs.Overlap.{overlapOf}
 use Rattle.run.specs.Wheel.{boxCells}
-use Rattle.run.specs.Touch.{tileOf, lists, listedBy, touchedBy, soundCell}
-use Rattle.run.specs.TouchSteps.{Tested, Tests, Room, Looked}
+use Rattle.run.specs.Touch.{lists, listedBy, touchedBy, soundCell}
+use Rattle.run.specs.TouchSteps.{overlapsTile, Tested, Tests, Room, Looked}
 use Rattle.run.proofs.WordLaws.{member-setOf, setOf-cong, or-chain}
 
 -- ---- tests over lists

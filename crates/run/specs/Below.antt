@@ -1,7 +1,9 @@
 -- Tests over the numbers below a bound, and over the members of a list: some, every, and how many. Assumes nothing.
 use mathlib.Core.Bool.{Bool, true, false, _&&_, _||_}
 use mathlib.Core.List.{List, [], _∷_}
-use Prim.Native.Nat.{ℕ, zero, suc, _+_}
+use Prim.Native.Nat.{ℕ, zero, suc}
+-- how many numbers below n have p: of the crate below, passed on by name
+pub use Rattle.course.specs.Counting.{howMany}
 
 -- some number below n passes
 unfoldable pub anyBelow : ℕ → (ℕ → Bool) → Bool
@@ -22,12 +24,3 @@ someOf p (x ∷ xs) = p x || someOf p xs
 unfoldable pub everyOf : (ℕ → Bool) → List ℕ → Bool
 everyOf p [] = true
 everyOf p (x ∷ xs) = p x && everyOf p xs
-
-abbrev pub digit : Bool → ℕ
-digit true = 1
-digit false = 0
-
--- how many numbers below n have p
-unfoldable pub howMany : ℕ → (ℕ → Bool) → ℕ
-howMany zero p = 0
-howMany (suc n) p = howMany n p + digit (p n)

@@ -1,26 +1,16 @@
 -- Document 01, "Touch", over lent tiles, offsets and list: a wheel touches tile t when the cell of one of the four corners of its box lists t, and the
 -- quads overlap; and cause 10. Assumes nothing.
 use mathlib.Core.Bool.{Bool, _&&_}
-use mathlib.Core.List.{List, [], _∷_}
-use Prim.Native.Nat.{ℕ, _+_, _*_}
+use mathlib.Core.List.{List}
+use Prim.Native.Nat.{ℕ}
 use lib.Dec.{eqb, ltb}
-use lib.ListN.{getD}
-use lib.Ieee.{Float, nan}
-use Rattle.course.specs.Tiles.{pair}
+use lib.Ieee.{Float}
+use Rattle.course.specs.Tiles.{tileOf}
 use Rattle.course.specs.Index.{partOk, lookup}
 use Rattle.run.specs.Below.{everyBelow, someOf, everyOf}
 use Rattle.run.specs.Overlap.{overlapOf}
 use Rattle.run.specs.Wheel.{quadOf, boxCells}
 use Rattle.run.specs.declared.state.Pose.{Pose}
-
--- tile t of the lent tiles, eight numbers to a tile, as a quad
-unfoldable pub tileOf : List Float → ℕ → List (List Float)
-tileOf ts t =
-    pair (getD ts (t * 8) nan) (getD ts (t * 8 + 1) nan)
-    ∷ pair (getD ts (t * 8 + 2) nan) (getD ts (t * 8 + 3) nan)
-    ∷ pair (getD ts (t * 8 + 4) nan) (getD ts (t * 8 + 5) nan)
-    ∷ pair (getD ts (t * 8 + 6) nan) (getD ts (t * 8 + 7) nan)
-    ∷ []
 
 -- the list has t
 abbrev pub lists : List ℕ → ℕ → Bool

@@ -9,11 +9,11 @@ use lib.Dec.{eqb}
 use lib.Ieee.{Float, lt}
 use lib.ListN.{length, getD}
 use Rattle.course.specs.Arithmetic.{_⊖_}
-use Rattle.course.specs.Tiles.{corner}
+use Rattle.course.specs.Tiles.{corner, tileOf}
 use Rattle.run.specs.Overlap.{leastOn, greatestOn, apartAlong, overlapOf}
 use Rattle.run.specs.Wheel.{quadOf, boxCells}
 use Rattle.run.specs.Below.{everyOf, howMany}
-use Rattle.run.specs.Touch.{tileOf, soundCell}
+use Rattle.run.specs.Touch.{soundCell}
 use Rattle.run.specs.Contact.{wheelPart, entered}
 use Rattle.run.specs.Words.{member, setOf}
 use Rattle.run.specs.declared.state.Pose.{Pose}

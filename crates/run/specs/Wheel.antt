@@ -3,9 +3,9 @@ use mathlib.Core.List.{List, [], _∷_}
 use Prim.Native.Nat.{ℕ}
 use lib.Ieee.{Float, neg}
 use Rattle.course.specs.Arithmetic.{_⊕_, _⊖_, _⊗_, natural, decimal}
-use Rattle.course.specs.Numeric.{leastOf, greatestOf}
 use Rattle.course.specs.Cell.{cellAt}
-use Rattle.course.specs.Tiles.{pair, corner}
+use Rattle.course.specs.Tiles.{pair}
+use Rattle.course.specs.Rect.{leastX, leastY, greatestX, greatestY}
 use Rattle.run.specs.Arguments.{poseAt}
 use Rattle.run.specs.declared.state.Pose.{Pose}
 
@@ -36,19 +36,7 @@ wheelQuad p =
 unfoldable pub quadOf : List Pose → ℕ → List (List Float)
 quadOf ps w = wheelQuad (poseAt ps w)
 
--- ---- the box of a quad, and the cells of its four corners
-unfoldable pub leastX : List (List Float) → Float
-leastX q = leastOf (corner q 0 0) (corner q 1 0) (corner q 2 0) (corner q 3 0)
-
-unfoldable pub leastY : List (List Float) → Float
-leastY q = leastOf (corner q 0 1) (corner q 1 1) (corner q 2 1) (corner q 3 1)
-
-unfoldable pub greatestX : List (List Float) → Float
-greatestX q = greatestOf (corner q 0 0) (corner q 1 0) (corner q 2 0) (corner q 3 0)
-
-unfoldable pub greatestY : List (List Float) → Float
-greatestY q = greatestOf (corner q 0 1) (corner q 1 1) (corner q 2 1) (corner q 3 1)
-
+-- the cells of the four corners of a quad's box
 unfoldable pub boxCells : List (List Float) → List ℕ
 boxCells q =
     cellAt (leastX q) (leastY q) ∷ cellAt (greatestX q) (leastY q) ∷ cellAt (leastX q) (greatestY q) ∷ cellAt (greatestX q) (greatestY q) ∷ []

@@ -4,7 +4,7 @@ use mathlib.Core.Bool.{Bool}
 use mathlib.Core.List.{List, [], _∷_}
 use Prim.Native.Nat.{ℕ, zero, suc, _+_, _*_, _/_, _%_, _^_}
 use lib.ListN.{getD}
-use Rattle.run.specs.Below.{digit}
+use Rattle.course.specs.Counting.{digit}
 use lib.Dec.{eqb}
 
 -- bit k of the word w

@@ -1,14 +1,9 @@
 -- `course::index::rect_of` meets its contract. Assumes nothing.
-use Prim.Native.Nat.{ℕ, _+_, _*_}
-use mathlib.Core.Path.{_≡_, sym, ap, _∙_}
-use mathlib.Core.List.{List}
-use lib.ListN.{getD}
-use lib.Ieee.{Float, nan}
+use mathlib.Core.Path.{ap, _∙_}
 use Rattle.course.proofs.CourseRects.{rect-same}
-use Rattle.course.specs.Rect.{rectOf}
-use Rattle.course.specs.Numeric.{leastOf, greatestOf}
+use Rattle.course.specs.Tiles.{tileOf}
+use Rattle.course.specs.Rect.{leastX, leastY, greatestX, greatestY, rectOf}
 use Rattle.course.specs.Cell.{cellOf}
-use native.Mathlib.Nat.{add-zero}
 use borrow.Author.Needs.{needs}
 use Rattle.course.proofs.index.rect_of.Statement.{statement}
 use Rattle.course.proofs.index.rect_of.Tie as tie
@@ -115,15 +110,11 @@ cell-of-requires-4 : tie.Need-cell-of-requires-4
 cell-of-requires-4 c κs = search needs
 
 returns : tie.Need-returns
-unfolding rectOf
+unfolding rectOf tileOf leastX leastY greatestX greatestY
 returns c =
-    let s = c .before .before .before .before .before .before .before .before .before .before .before .before .before .before .before .before .before .args in
-    let t : List Float = s .tiles .now in
-    let q : ℕ = s .i * 8 in
-    let z : getD t q nan ≡ getD t (q + 0) nan = ap (λ (k : ℕ). getD t k nan) (sym (add-zero q)) in
     rect-same
-    (c .before .before .before .before .before .before .cell-of .ensures ∙ ap cellOf (c .before .before .before .before .before .before .before .least .ensures ∙ ap (λ (v : Float). leastOf v (getD t (q + 2) nan) (getD t (q + 4) nan) (getD t (q + 6) nan)) z))
-    (c .before .before .before .before .cell-of2 .ensures ∙ ap cellOf (c .before .before .before .before .before .greatest .ensures ∙ ap (λ (v : Float). greatestOf v (getD t (q + 2) nan) (getD t (q + 4) nan) (getD t (q + 6) nan)) z))
+    (c .before .before .before .before .before .before .cell-of .ensures ∙ ap cellOf (c .before .before .before .before .before .before .before .least .ensures))
+    (c .before .before .before .before .cell-of2 .ensures ∙ ap cellOf (c .before .before .before .before .before .greatest .ensures))
     (c .before .before .cell-of3 .ensures ∙ ap cellOf (c .before .before .before .least2 .ensures))
     (c .cell-of4 .ensures ∙ ap cellOf (c .before .greatest2 .ensures))
 

@@ -5,7 +5,8 @@ use Prim.Native.Nat.{ℕ, _+_, _*_, _≤_}
 use native.Mathlib.Omega.{arith}
 use lib.Ieee.{Float}
 use mathlib.Core.List.{List, [], _∷_}
-use Rattle.run.specs.Wheel.{boxCells, leastX, leastY, greatestX, greatestY}
+use Rattle.course.specs.Rect.{leastX, leastY, greatestX, greatestY}
+use Rattle.run.specs.Wheel.{boxCells}
 use mathlib.Core.Path.{_≡_, sym, ap, ap₂, _∙_, subst}
 use borrow.Author.Needs.{needs}
 use Rattle.run.proofs.quad.box_cells.Statement.{statement}

@@ -1,6 +1,6 @@
 -- `run::touch::cells_sound` meets its contract. Assumes nothing.
 use Rattle.run.proofs.CellLaws.{every-next}
-use Rattle.run.proofs.Tests.{right-false}
+use Rattle.course.proofs.BoolLaws.{right-false}
 use borrow.Author.Tests.{not-true, not-false}
 use Rattle.run.proofs.TouchLaws.{every-none, every-fails}
 use Rattle.run.specs.Below.{everyOf}
