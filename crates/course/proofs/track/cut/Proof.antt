@@ -8,7 +8,7 @@ use borrow.Author.Needs.{needs}
 use Rattle.course.specs.Lengths.{mostPoints}
 use Rattle.course.specs.Track.{earlierPass, laterPass}
 use Rattle.course.specs.LaySteps.{Front}
-use Rattle.course.specs.declared.step.TrackStep.{TrackStep}
+use Rattle.course.specs.Step.{TrackStep}
 use Rattle.course.proofs.TrackParts.{end-below, end-fits, part-within, later-is, earlier-is}
 use Rattle.course.proofs.TrackParts.{cut-no-b, cut-no-a, cut-no-n, cut-good, cut-apart}
 use Rattle.course.proofs.track.cut.Statement.{statement}
