@@ -1,0 +1,3 @@
+pub mod Filling
+pub mod ByteLaws
+pub mod FloatBits

@@ -1,0 +1,6 @@
+-- Definitions in the order in which to read them: the saved form of a table of fields.
+
+-- numbers, words and floats as bytes, and back
+pub mod Bytes
+-- the map, the table of rows, what is written and what is read
+pub mod Form
