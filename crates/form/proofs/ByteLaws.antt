@@ -6,7 +6,7 @@ use mathlib.Core.List.{List, [], _∷_, _++_, append-nil}
 use native.Mathlib.Nat.{pow-suc, pow-le-pow-right}
 use native.Mathlib.Numerals.{add-one}
 use native.Mathlib.Omega.{arith}
-use lib.ListN.{length, getD, take, drop, length-append, length-drop, drop-of-length-le, length-take}
+use lib.ListN.{length, getD, take, drop, length-append, length-drop, drop-of-length-le, length-take, replicate}
 use lib.Seq.{take-at, drop-at, drop-cons, drop-drop, drop-length, take-nil}
 use lib.Dec.{T, leb, eqb}
 use lib.Ieee.{Float, binary64, fits, toBits, ofBits}
@@ -50,6 +50,16 @@ zero-end (b ∷ s) (suc i) h = zero-end s i (omega arith)
 pub zero-step : (s : List ℕ) (i : ℕ) → i < length s → allZero (drop i s) ≡ eqb (getD s i 0) 0 && allZero (drop (i + 1) s)
 unfolding allZero
 zero-step s i h = ap allZero (drop-cons s i 0 h ∙ ap (λ (z : ℕ). getD s i 0 ∷ drop z s) (sym (add-one i)))
+
+-- ---- zeros one after another
+pub zeros-all : (n : ℕ) → replicate {A = ℕ} (n - 0) 0 ≡ replicate {A = ℕ} n 0
+zeros-all n = let e : n - 0 ≡ n = omega arith in ap (λ (j : ℕ). replicate {A = ℕ} j 0) e
+
+pub zeros-more : (n i : ℕ) → i < n → replicate {A = ℕ} (n - i) 0 ≡ 0 ∷ replicate {A = ℕ} (n - (i + 1)) 0
+zeros-more n i h = let e : n - i ≡ suc (n - (i + 1)) = omega arith in ap (λ (j : ℕ). replicate {A = ℕ} j 0) e
+
+pub zeros-none : (n i : ℕ) → n ≤ i → replicate {A = ℕ} (n - i) 0 ≡ []
+zeros-none n i h = let e : n - i ≡ 0 = omega arith in ap (λ (j : ℕ). replicate {A = ℕ} j 0) e
 
 -- ---- what is stored where there is room, and where there is none
 pub store-room : (bs out : List ℕ) → length bs ≤ length out → store bs out ≡ lent true (bs ++ drop (length bs) out)
@@ -105,6 +115,18 @@ byte-more n i v b p h l k =
 pub past-none : (n at : ℕ) (s : List ℕ) → length s ≤ at → 0 ≡ number (take n (drop at s))
 unfolding number
 past-none n at s h = sym (ap (λ (z : List ℕ). number (take n z)) (drop-of-length-le s h) ∙ ap number (take-nil n))
+
+-- ---- bytes say a number that they have room for
+pub power-grows : (k n : ℕ) → k ≤ n → 256 ^ k ≤ 256 ^ n
+power-grows k n h = pow-le-pow-right {n = 256} (omega arith) h
+
+pub power-some : (n : ℕ) → 0 < 256 ^ n
+power-some n = omega (arith, power-grows 0 n (omega arith))
+
+pub number-small : (bs : List ℕ) → ((i : ℕ) → getD bs i 0 < 256) → number bs < 256 ^ length bs
+unfolding number
+number-small [] h = omega arith
+number-small (b ∷ bs) h = omega (arith, h 0, number-small bs (λ i. h (suc i)), pow-suc 256 (length bs))
 
 -- ---- lists of eight bytes an element
 next-eight : (i : ℕ) (bs : List ℕ) → drop 8 (drop (i * 8) bs) ≡ drop ((i + 1) * 8) bs

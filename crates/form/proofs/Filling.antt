@@ -1,10 +1,10 @@
 -- A list that is filled from the front, part after part. Assumes nothing.
 use Prim.Native.Nat.{ℕ, zero, suc, _+_, _-_, _≤_, _<_, min}
 use mathlib.Core.Path.{_≡_, refl, sym, ap, _∙_, subst}
-use mathlib.Core.List.{List, [], _∷_, _++_, append-assoc}
+use mathlib.Core.List.{List, [], _∷_, _++_, append-assoc, append-nil}
 use native.Mathlib.Nat.{add-zero, zero-min, min-zero, suc-min-suc}
 use native.Mathlib.Omega.{arith}
-use lib.ListN.{length, take, drop, set, length-append, length-set, length-drop}
+use lib.ListN.{length, take, drop, set, length-append, length-set, length-drop, drop-of-length-le}
 use lib.Seq.{sets, length-sets, sets-eq, drop-drop, length-take-le}
 
 module _ {A : Type 0} where
@@ -30,6 +30,10 @@ module _ {A : Type 0} where
     same = ap length s ∙ length-sets c i a ∙ f .same;
   }
 
+  -- there is room for the part that comes next
+  pub next-fits : {c l all : List A} {i : ℕ} {rest : List A} (a b : List A) → Filling c l all i rest → rest ≡ a ++ b → length all ≤ length l → i + length a ≤ length c
+  next-fits {c} {l} {all} {i} {rest} a b f e h = omega (arith, f .count, f .same, ap length e, length-append a b, h)
+
   -- one more
   pub steps : {c l all : List A} {i : ℕ} {rest : List A} (x : A) (b : List A)
       → Filling c l all i rest → rest ≡ x ∷ b → Filling (set c i x) l all (i + 1) b
@@ -40,6 +44,11 @@ module _ {A : Type 0} where
       let g : 0 + length all ≤ length l = omega arith in
       let n : 0 + length all ≡ length all = omega arith in
       ap (sets c i) (sym e) ∙ f .stored ∙ sets-eq all l 0 g ∙ ap (λ (k : ℕ). all ++ drop k l) n
+
+  pub ends-whole : {c l all : List A} {i : ℕ} {rest : List A} → Filling c l all i rest → rest ≡ [] → length all ≡ length l → c ≡ all
+  ends-whole {c} {l} {all} {i} {rest} f e h =
+      let k : length l ≤ length all = omega (arith, h) in
+      ends f e (omega (arith, h)) ∙ ap (λ (r : List A). all ++ r) (drop-of-length-le l k) ∙ append-nil all
 
   -- a part lent to a call, and what the call left in it
   pub part-stored : (l p : List A) (i e : ℕ) → i + length p ≡ e → e ≤ length l → take i l ++ (p ++ drop (e - i) (drop i l)) ≡ sets l i p
@@ -55,7 +64,7 @@ module _ {A : Type 0} where
       goes-on _ j a b f r (ap (λ (z : List A). take i c ++ (z ++ drop (e - i) (drop i c))) w ∙ part-stored c a i e n h) (q ∙ sym n)
 
   -- a part that ends where the list does, if not before
-  take-least : (n : ℕ) (l : List A) → take (min n (length l)) l ≡ take n l
+  pub take-least : (n : ℕ) (l : List A) → take (min n (length l)) l ≡ take n l
   take-least zero l = ap (λ (k : ℕ). take k l) (zero-min (length l))
   take-least (suc n) [] = ap (λ (k : ℕ). take k []) (min-zero (suc n))
   take-least (suc n) (x ∷ l) = ap (λ (k : ℕ). take k (x ∷ l)) (suc-min-suc n (length l)) ∙ ap (λ (r : List A). x ∷ r) (take-least n l)
@@ -69,3 +78,17 @@ module _ {A : Type 0} where
   part-length l i n h =
       let e : i + n - i ≡ n = omega arith in
       ap (λ (k : ℕ). length (take k (drop i l))) e ∙ length-take-le n (drop i l) (omega (arith, length-drop i l))
+
+  drop-least : (n : ℕ) (l : List A) → drop (min n (length l)) l ≡ drop n l
+  drop-least zero l = ap (λ (k : ℕ). drop k l) (zero-min (length l))
+  drop-least (suc n) [] = ap (λ (k : ℕ). drop k []) (min-zero (suc n))
+  drop-least (suc n) (x ∷ l) = ap (λ (k : ℕ). drop k (x ∷ l)) (suc-min-suc n (length l)) ∙ drop-least n l
+
+  pub past-least : (at n e : ℕ) (l : List A) → e ≡ at + min n (length l - at) → drop n (drop at l) ≡ drop e l
+  past-least at n e l h =
+      sym (ap (λ (k : ℕ). drop k l) (h ∙ ap (λ (k : ℕ). at + min n k) (sym (length-drop at l)))
+      ∙ sym (drop-drop (min n (length (drop at l))) at l)
+      ∙ drop-least n (drop at l))
+
+  pub part-long : (l : List A) (i e : ℕ) → i ≤ e → e ≤ length l → length (take (e - i) (drop i l)) ≡ e - i
+  part-long l i e h k = length-take-le (e - i) (drop i l) (omega (arith, length-drop i l))

@@ -4,3 +4,6 @@
 pub mod Bytes
 -- the map, the table of rows, what is written and what is read
 pub mod Form
+-- ---- for private functions alone: no public contract reaches these
+-- of reading
+pub mod FormSteps

@@ -6,3 +6,6 @@
 // The definitions that the contracts cite stand in specs/.
 pub mod float;
 pub mod number;
+pub mod pack;
+pub mod table;
+pub mod unpack;

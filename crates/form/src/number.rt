@@ -1,6 +1,6 @@
 // Numbers and words as bytes, the low byte first.
 ghost use mathlib.Core.Path.{_≡_};
-ghost use Prim.Native.Nat.{_≤_, _<_, min};
+ghost use Prim.Native.Nat.{_^_, _≤_, _<_, min};
 ghost use lib.ListN.{length, take, drop};
 ghost use Rattle.form.specs.Bytes.{low, number, allZero, wordBytes, lent, store, fillWords};
 
@@ -55,7 +55,7 @@ pub fn put_number(v: u64, k: usize, out: &mut [u8]) -> bool
 // The number of up to eight bytes, from the high one down.
 fn number_of(bytes: &[u8]) -> u64
     requires { ⌜ length (now bytes) ≤ 8 ⌝ }
-    ensures { λ r. ⌜ r ≡ number (now (bytes .entry)) ⌝ }
+    ensures { λ r. ⌜ (r ≡ number (now (bytes .entry))) × (r < 256 ^ length (now (bytes .entry))) ⌝ }
 {
     let mut v: u64 = 0;
     let mut i = bytes.len();
@@ -66,9 +66,10 @@ fn number_of(bytes: &[u8]) -> u64
     v
 }
 
-// The number of the k bytes from `at` on, or of the eight; a byte past the end counts as none.
+// The number of the k bytes from `at` on, or of eight where k is more; a byte past the end counts as
+// 0. That the number is as small as its bytes says that a caller may cast it.
 pub fn number_at(bytes: &[u8], at: usize, k: usize) -> u64
-    ensures { λ r. ⌜ r ≡ number (take (min k 8) (drop at (now (bytes .entry)))) ⌝ }
+    ensures { λ r. ⌜ (r ≡ number (take (min k 8) (drop at (now (bytes .entry))))) × (r < 256 ^ min k 8) ⌝ }
 {
     if bytes.len() <= at {
         return 0;

@@ -55,7 +55,7 @@ loop-again c =
     let l = c .before .before .before in
     let s = l .before .before .before .before .args in
     let t : l .loop .i < length (s .floats .now) = omega (arith, l .loop .inv .2 .same, c .before .before .loop-test .taken) in
-    (omega arith, l .loop .inv .1, steps _ _ (l .loop .inv .2) (from-more (ofBits binary64) _ _ _ _ t (c .of-bits .ensures ∙ ap (ofBits binary64) (c .before .number-at .ensures))))
+    (omega arith, l .loop .inv .1, steps _ _ (l .loop .inv .2) (from-more (ofBits binary64) _ _ _ _ t (c .of-bits .ensures ∙ ap (ofBits binary64) (c .before .number-at .ensures .0))))
 
 same-length : tie.Need-same-length Inv-loop μ-loop
 same-length c = c .before .loop .inv .2 .same

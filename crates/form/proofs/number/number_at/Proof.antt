@@ -1,4 +1,5 @@
 -- `form::number::number_at` meets its contract. Assumes nothing.
+use Rattle.form.proofs.ByteLaws.{power-some, power-grows}
 use lib.ListN.{length-take}
 use Rattle.form.specs.Bytes.{number}
 use Rattle.form.proofs.Filling.{part-least}
@@ -18,7 +19,7 @@ use Rattle.form.proofs.number.least.Reads as least-reads
 use Rattle.form.proofs.number.number_of.Reads as number-of-reads
 
 returns : tie.Need-returns
-returns c = let s = c .before .before .args in past-none (min (s .k) 8) (s .at) (s .bytes .now) (c .if1 .taken)
+returns c = let s = c .before .before .args in (past-none (min (s .k) 8) (s .at) (s .bytes .now) (c .if1 .taken), power-some (min (s .k) 8))
 
 least-requires : tie.Need-least-requires
 least-requires c κs = search needs
@@ -52,7 +53,9 @@ returns-2 : tie.Need-returns-2
 returns-2 c =
     let m = c .before .before in
     let s = m .before .before .before .before .args in
-    c .number-of .ensures ∙ ap number (part-least (s .at) (min (s .k) 8) _ (s .bytes .now) (ap (λ (j : ℕ). s .at + j) (m .least2 .ensures ∙ ap (λ (j : ℕ). min j (length (s .bytes .now) - s .at)) (m .before .least .ensures))))
+    let e = part-least (s .at) (min (s .k) 8) _ (s .bytes .now) (ap (λ (j : ℕ). s .at + j) (m .least2 .ensures ∙ ap (λ (j : ℕ). min j (length (s .bytes .now) - s .at)) (m .before .least .ensures))) in
+    let d : length (take (min (s .k) 8) (drop (s .at) (s .bytes .now))) ≤ min (s .k) 8 = omega (arith, length-take (min (s .k) 8) (drop (s .at) (s .bytes .now))) in
+    (c .number-of .ensures .0 ∙ ap number e, omega (arith, c .number-of .ensures .1, ap (λ (l : List ℕ). 256 ^ length l) e, power-grows _ _ d))
 
 pub number-at-spec : {M : Type 1} → statement M
 number-at-spec =

@@ -53,8 +53,10 @@ loop-again c =
 returns : tie.Need-returns Inv-loop μ-loop
 returns c =
     let l = c .before .loop in
+    let s = c .before .before .before .args .bytes .now in
     let e : l .i ≡ 0 = omega arith in
-    l .inv .1 ∙ ap (λ (j : ℕ). number (drop j (c .before .before .before .args .bytes .now))) e
+    let d : length s - l .i ≡ length s = omega arith in
+    (l .inv .1 ∙ ap (λ (j : ℕ). number (drop j s)) e, subst (λ (j : ℕ). l .v < 256 ^ j) d (l .inv .2))
 
 pub number-of-spec : {M : Type 1} → statement M
 number-of-spec =

@@ -50,7 +50,7 @@ loop-again c =
     let l = c .before .before in
     let s = l .before .before .before .before .args in
     let t : l .loop .i < length (s .words .now) = omega (arith, l .loop .inv .2 .same, c .before .loop-test .taken) in
-    (omega arith, l .loop .inv .1, steps _ _ (l .loop .inv .2) (from-more (λ (w : ℕ). w) _ _ _ _ t (c .number-at .ensures)))
+    (omega arith, l .loop .inv .1, steps _ _ (l .loop .inv .2) (from-more (λ (w : ℕ). w) _ _ _ _ t (c .number-at .ensures .0)))
 
 same-length : tie.Need-same-length Inv-loop μ-loop
 same-length c = c .before .loop .inv .2 .same
