@@ -3,3 +3,5 @@ pub mod ByteLaws
 pub mod FloatBits
 pub mod TableLaws
 pub mod ReadLaws
+pub mod FormLaws
+pub mod MapLaws
