@@ -6,9 +6,9 @@ use mathlib.Core.List.{List, [], _∷_, _++_, append-nil}
 use native.Mathlib.Nat.{pow-suc, pow-le-pow-right}
 use native.Mathlib.Numerals.{add-one}
 use native.Mathlib.Omega.{arith}
-use lib.ListN.{length, getD, take, drop, length-append, length-drop, drop-of-length-le, length-take, replicate}
+use lib.ListN.{length, getD, take, drop, length-append, drop-of-length-le, replicate}
 use lib.Seq.{take-at, drop-at, drop-cons, drop-drop, drop-length, take-nil}
-use lib.Dec.{T, leb, eqb}
+use lib.Dec.{T, eqb}
 use lib.Ieee.{Float, binary64, fits, toBits, ofBits}
 use lib.Ieee.Bits.{ofBits-toBits, toBits-lt}
 use borrow.Author.Tests.{le-leb, lt-leb}

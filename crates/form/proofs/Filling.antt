@@ -1,10 +1,10 @@
 -- A list that is filled from the front, part after part. Assumes nothing.
-use Prim.Native.Nat.{ℕ, zero, suc, _+_, _-_, _≤_, _<_, min}
-use mathlib.Core.Path.{_≡_, refl, sym, ap, _∙_, subst}
+use Prim.Native.Nat.{ℕ, zero, suc, _+_, _-_, _≤_, min}
+use mathlib.Core.Path.{_≡_, refl, sym, ap, _∙_}
 use mathlib.Core.List.{List, [], _∷_, _++_, append-assoc, append-nil}
 use native.Mathlib.Nat.{add-zero, zero-min, min-zero, suc-min-suc}
 use native.Mathlib.Omega.{arith}
-use lib.ListN.{length, take, drop, set, length-append, length-set, length-drop, drop-of-length-le}
+use lib.ListN.{length, take, drop, set, length-append, length-drop, drop-of-length-le}
 use lib.Seq.{sets, length-sets, sets-eq, drop-drop, length-take-le}
 
 module _ {A : Type 0} where

@@ -1,18 +1,17 @@
 -- The saved form of any table: what is written is read back, and nothing else is read. Assumes nothing.
 use mathlib.Core.Bool.{Bool, true, false, cond, not, _&&_, _||_, true≢false}
-use mathlib.Core.List.{List, [], _∷_, _++_, append-assoc}
+use mathlib.Core.List.{List, [], _∷_, _++_}
 use mathlib.Core.Path.{_≡_, refl, sym, ap, ap₂, _∙_, subst}
-use Prim.Native.Nat.{ℕ, zero, suc, _+_, _*_, _-_, _/_, _%_, _^_, _≤_, _<_}
-use native.Mathlib.Nat.{pow-suc, pow-le-pow-right}
+use Prim.Native.Nat.{ℕ, zero, suc, _+_, _/_, _^_, _≤_, _<_}
+use native.Mathlib.Nat.{pow-suc}
 use native.Mathlib.Omega.{arith}
 use lib.Dec.{leb, eqb}
-use lib.ListN.{length, getD, take, drop, replicate, length-append, length-drop, length-replicate, take-append-drop}
+use lib.ListN.{length, getD, take, drop, replicate, length-append, take-append-drop}
 use lib.Seq.{take-at, drop-at, length-take-le}
-use borrow.Author.Tests.{le-leb, leb-true, ne-eqb, eqb-true}
-use Rattle.form.proofs.ByteLaws.{low-length, number-back}
-use Rattle.form.proofs.ReadLaws.{parsed-long, stand-within}
-use Rattle.form.specs.Bytes.{low, number, allZero}
-use Rattle.form.specs.Form.{Row, rowsOf, sum, cut, joined, odd, bit, mapOf, standing, packed, Parsed, before, mayStand, parse, mapIn, parsed, read, readFields, unpackInto}
+use borrow.Author.Tests.{le-leb, ne-eqb, eqb-true}
+use Rattle.form.proofs.ReadLaws.{stand-within}
+use Rattle.form.specs.Bytes.{allZero}
+use Rattle.form.specs.Form.{Row, odd, standing, Parsed, before, mayStand, parse, read}
 use Rattle.form.specs.Form.Parsed.{fields, broken}
 
 -- ---- a map fits the fields of a table: what stands may stand, what does not is zeros, and no bit is past the last field

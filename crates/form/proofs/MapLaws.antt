@@ -2,10 +2,10 @@
 use mathlib.Core.Bool.{Bool, true, false, cond, not, _&&_, _||_, true≢false}
 use mathlib.Core.List.{List, [], _∷_, _++_, append-assoc}
 use mathlib.Core.Path.{_≡_, refl, sym, ap, ap₂, _∙_, subst}
-use Prim.Native.Nat.{ℕ, zero, suc, _+_, _*_, _-_, _/_, _%_, _^_, _≤_, _<_}
+use Prim.Native.Nat.{ℕ, zero, suc, _+_, _*_, _/_, _%_, _^_, _≤_}
 use native.Mathlib.Nat.{pow-le-pow-right}
 use native.Mathlib.Omega.{arith}
-use lib.Dec.{leb, eqb}
+use lib.Dec.{eqb}
 use lib.ListN.{length, getD, take, drop, replicate, length-append, length-drop}
 use lib.Seq.{take-at, drop-at, take-add, length-take-le}
 use borrow.Author.Tests.{le-leb, eqb-true}
@@ -14,7 +14,7 @@ use Rattle.form.proofs.ReadLaws.{parsed-long}
 use Rattle.form.proofs.FormLaws.{Fits, none, shown, hidden, parse-back, fits-small, stands}
 use Rattle.form.specs.Bytes.{low, number, allZero}
 use Rattle.form.specs.Form.{Row, rowsOf, sum, cut, joined, mostRows, odd, bit, mapOf, standing, packed, Parsed, parse, mapIn, parsed, read, readFields, unpackInto}
-use Rattle.form.specs.Form.Parsed.{fields, broken}
+use Rattle.form.specs.Form.Parsed.{fields}
 
 -- ---- the map's bits
 low-bit : (b : Bool) (m : ℕ) → odd (bit b + 2 * m) ≡ b

@@ -2,7 +2,7 @@
 -- Orders 3, 6 and 8 add rows. Assumes nothing.
 use mathlib.Core.Bool.{Bool, true, false, not, cond, _&&_, _||_}
 use mathlib.Core.List.{List, [], _∷_, _++_}
-use Prim.Native.Nat.{ℕ, zero, suc, _+_, _*_, _/_, _%_}
+use Prim.Native.Nat.{ℕ, _+_, _*_, _/_, _%_}
 use lib.Dec.{eqb, ltb, leb}
 use lib.ListN.{length, getD, take, drop, replicate}
 use Rattle.form.specs.Bytes.{low, number, allZero}

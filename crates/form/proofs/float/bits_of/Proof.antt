@@ -2,17 +2,10 @@
 use lib.Dec.{T}
 use lib.Ieee.Compare.{differs-from-itself}
 use Rattle.form.proofs.FloatBits.{no-nan, nan-bits}
-use lib.ListN.{length, getD, take, drop, set, replicate}
-use Prim.Native.Nat.{ℕ, zero, suc, _+_, _*_, _-_, _/_, _%_, _^_, _≤_, _<_, min}
-use mathlib.Core.Path.{_≡_, refl, sym, ap, ap₂, _∙_, subst}
-use mathlib.Core.List.{List, [], _∷_, _++_}
-use mathlib.Core.Bool.{Bool, true, false, cond, not, _&&_, _||_}
-use native.Mathlib.Omega.{arith}
+use mathlib.Core.Path.{sym, subst}
 use borrow.Author.Needs.{needs}
 use Rattle.form.proofs.float.bits_of.Statement.{statement}
 use Rattle.form.proofs.float.bits_of.Tie as tie
-use Rattle.form.proofs.float.bits_of.Reads as reads
-use Rattle.form.proofs.float.bits_of.Lts as lts
 
 returns : tie.Need-returns
 returns c = nan-bits (c .before .args .x) (differs-from-itself (c .before .args .x) (subst T (sym (c .if1 .taken)) tt))

@@ -1,16 +1,9 @@
 -- `form::float::of_bits` meets its contract. Assumes nothing.
 use Rattle.form.proofs.FloatBits.{makes-nan, of-nan-bits, plain-bits}
-use lib.ListN.{length, getD, take, drop, set, replicate}
-use Prim.Native.Nat.{ℕ, zero, suc, _+_, _*_, _-_, _/_, _%_, _^_, _≤_, _<_, min}
-use mathlib.Core.Path.{_≡_, refl, sym, ap, ap₂, _∙_, subst}
-use mathlib.Core.List.{List, [], _∷_, _++_}
-use mathlib.Core.Bool.{Bool, true, false, cond, not, _&&_, _||_}
-use native.Mathlib.Omega.{arith}
+use mathlib.Core.Path.{sym, _∙_}
 use borrow.Author.Needs.{needs}
 use Rattle.form.proofs.float.of_bits.Statement.{statement}
 use Rattle.form.proofs.float.of_bits.Tie as tie
-use Rattle.form.proofs.float.of_bits.Reads as reads
-use Rattle.form.proofs.float.of_bits.Lts as lts
 
 returns : tie.Need-returns
 returns c = makes-nan ∙ sym (of-nan-bits (c .before .args .bits) (c .if1 .taken))

@@ -1,22 +1,15 @@
 -- `form::float::put_floats` meets its contract. Assumes nothing.
-use Rattle.form.proofs.ByteLaws.{eight-on}
-use Rattle.form.specs.Bytes.{low, floatBytes}
-use Rattle.form.proofs.Filling.{Filling, begins, ends, part-on, part-length}
-use Rattle.form.proofs.ByteLaws.{each-length, each-more, each-none, low-length, stored, stored-whole, store-short}
-use lib.Ieee.{Float, nan, binary64, toBits}
-use lib.ListN.{length, getD, take, drop, set, replicate}
-use Prim.Native.Nat.{ℕ, zero, suc, _+_, _*_, _-_, _/_, _%_, _^_, _≤_, _<_, min}
-use mathlib.Core.Path.{_≡_, refl, sym, ap, ap₂, _∙_, subst}
-use mathlib.Core.List.{List, [], _∷_, _++_}
-use mathlib.Core.Bool.{Bool, true, false, cond, not, _&&_, _||_}
+use Rattle.form.proofs.ByteLaws.{eight-on, each-length, each-none, stored, store-short}
+use Rattle.form.specs.Bytes.{floatBytes}
+use Rattle.form.proofs.Filling.{Filling, begins, ends}
+use lib.Ieee.{nan, binary64, toBits}
+use lib.ListN.{length, drop}
+use Prim.Native.Nat.{_*_, _-_, _≤_}
+use mathlib.Core.Path.{refl, sym}
 use borrow.Author.Needs.{needs}
 use native.Mathlib.Omega.{arith}
 use Rattle.form.proofs.float.put_floats.Statement.{statement}
 use Rattle.form.proofs.float.put_floats.Tie as tie
-use Rattle.form.proofs.float.put_floats.Reads as reads
-use Rattle.form.proofs.float.put_floats.Lts as lts
-use Rattle.form.proofs.float.bits_of.Reads as bits-of-reads
-use Rattle.form.proofs.number.put_number.Reads as put-number-reads
 
 abbrev Inv-loop : tie.InvT-loop
 Inv-loop floats out₀ i₀ out i = (i ≤ length floats) × (8 * length floats ≤ length out₀) × Filling out out₀ (floatBytes floats) (i * 8) (floatBytes (drop i floats))

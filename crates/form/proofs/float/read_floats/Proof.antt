@@ -2,20 +2,14 @@
 use Rattle.form.specs.Bytes.{floatsFrom}
 use Rattle.form.proofs.Filling.{Filling, begins, steps, ends}
 use Rattle.form.proofs.ByteLaws.{from-none, from-all, from-more, fill-short, fill-room, from-length}
-use lib.Ieee.{Float, nan, binary64, ofBits}
-use lib.ListN.{length, getD, take, drop, set, replicate}
-use Prim.Native.Nat.{ℕ, zero, suc, _+_, _*_, _-_, _/_, _%_, _^_, _≤_, _<_, min}
-use mathlib.Core.Path.{_≡_, refl, sym, ap, ap₂, _∙_, subst}
-use mathlib.Core.List.{List, [], _∷_, _++_}
-use mathlib.Core.Bool.{Bool, true, false, cond, not, _&&_, _||_}
+use lib.Ieee.{binary64, ofBits}
+use lib.ListN.{length, drop}
+use Prim.Native.Nat.{_*_, _-_, _≤_, _<_}
+use mathlib.Core.Path.{sym, ap, _∙_}
 use borrow.Author.Needs.{needs}
 use native.Mathlib.Omega.{arith}
 use Rattle.form.proofs.float.read_floats.Statement.{statement}
 use Rattle.form.proofs.float.read_floats.Tie as tie
-use Rattle.form.proofs.float.read_floats.Reads as reads
-use Rattle.form.proofs.float.read_floats.Lts as lts
-use Rattle.form.proofs.float.of_bits.Reads as of-bits-reads
-use Rattle.form.proofs.number.number_at.Reads as number-at-reads
 
 abbrev Inv-loop : tie.InvT-loop
 Inv-loop bytes floats₀ i₀ floats i = (i ≤ length floats₀) × (8 * length floats₀ ≤ length bytes) × Filling floats floats₀ (floatsFrom (length floats₀) bytes) i (floatsFrom (length floats₀ - i) (drop (i * 8) bytes))

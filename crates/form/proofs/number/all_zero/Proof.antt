@@ -2,17 +2,14 @@
 use borrow.Author.Tests.{eq-eqb, ne-eqb}
 use Rattle.form.specs.Bytes.{allZero}
 use Rattle.form.proofs.ByteLaws.{zero-end, zero-step}
-use lib.ListN.{length, getD, take, drop, set, replicate}
-use Prim.Native.Nat.{ℕ, zero, suc, _+_, _*_, _-_, _/_, _%_, _^_, _≤_, _<_, min}
-use mathlib.Core.Path.{_≡_, refl, sym, ap, ap₂, _∙_, subst}
-use mathlib.Core.List.{List, [], _∷_, _++_}
-use mathlib.Core.Bool.{Bool, true, false, cond, not, _&&_, _||_}
+use lib.ListN.{length, drop}
+use Prim.Native.Nat.{_+_, _-_, _≤_}
+use mathlib.Core.Path.{_≡_, refl, sym, ap, _∙_}
+use mathlib.Core.Bool.{Bool, _&&_}
 use borrow.Author.Needs.{needs}
 use native.Mathlib.Omega.{arith}
 use Rattle.form.proofs.number.all_zero.Statement.{statement}
 use Rattle.form.proofs.number.all_zero.Tie as tie
-use Rattle.form.proofs.number.all_zero.Reads as reads
-use Rattle.form.proofs.number.all_zero.Lts as lts
 
 abbrev Inv-loop : tie.InvT-loop
 Inv-loop bytes i₀ i = (i ≤ length bytes) × (allZero bytes ≡ allZero (drop i bytes))

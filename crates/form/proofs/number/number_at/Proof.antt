@@ -1,22 +1,15 @@
 -- `form::number::number_at` meets its contract. Assumes nothing.
-use Rattle.form.proofs.ByteLaws.{power-some, power-grows}
-use lib.ListN.{length-take}
+use Rattle.form.proofs.ByteLaws.{power-some, power-grows, past-none}
+use lib.ListN.{length-take, length, take, drop}
 use Rattle.form.specs.Bytes.{number}
 use Rattle.form.proofs.Filling.{part-least}
-use Rattle.form.proofs.ByteLaws.{past-none}
-use lib.ListN.{length, getD, take, drop, set, replicate}
-use Prim.Native.Nat.{ℕ, zero, suc, _+_, _*_, _-_, _/_, _%_, _^_, _≤_, _<_, min}
-use mathlib.Core.Path.{_≡_, refl, sym, ap, ap₂, _∙_, subst}
-use mathlib.Core.List.{List, [], _∷_, _++_}
-use mathlib.Core.Bool.{Bool, true, false, cond, not, _&&_, _||_}
+use Prim.Native.Nat.{ℕ, _+_, _-_, _^_, _≤_, min}
+use mathlib.Core.Path.{ap, _∙_}
+use mathlib.Core.List.{List}
 use borrow.Author.Needs.{needs}
 use native.Mathlib.Omega.{arith}
 use Rattle.form.proofs.number.number_at.Statement.{statement}
 use Rattle.form.proofs.number.number_at.Tie as tie
-use Rattle.form.proofs.number.number_at.Reads as reads
-use Rattle.form.proofs.number.number_at.Lts as lts
-use Rattle.form.proofs.number.least.Reads as least-reads
-use Rattle.form.proofs.number.number_of.Reads as number-of-reads
 
 returns : tie.Need-returns
 returns c = let s = c .before .before .args in (past-none (min (s .k) 8) (s .at) (s .bytes .now) (c .if1 .taken), power-some (min (s .k) 8))

@@ -1,19 +1,13 @@
 -- `form::number::number_of` meets its contract. Assumes nothing.
-use Rattle.form.proofs.ByteLaws.{power-none}
+use Rattle.form.proofs.ByteLaws.{power-none, number-none, number-step, eight-bytes, byte-more}
 use Rattle.form.specs.Bytes.{number}
-use Rattle.form.proofs.ByteLaws.{number-none, number-step, eight-bytes, byte-more}
-use lib.ListN.{length, getD, take, drop, set, replicate}
-use Prim.Native.Nat.{ℕ, zero, suc, _+_, _*_, _-_, _/_, _%_, _^_, _≤_, _<_, min}
-use mathlib.Core.Path.{_≡_, refl, sym, ap, ap₂, _∙_, subst}
-use mathlib.Core.List.{List, [], _∷_, _++_}
-use mathlib.Core.Bool.{Bool, true, false, cond, not, _&&_, _||_}
+use lib.ListN.{length, drop}
+use Prim.Native.Nat.{ℕ, _-_, _^_, _≤_, _<_}
+use mathlib.Core.Path.{_≡_, ap, _∙_, subst}
 use borrow.Author.Needs.{needs}
 use native.Mathlib.Omega.{arith}
 use Rattle.form.proofs.number.number_of.Statement.{statement}
 use Rattle.form.proofs.number.number_of.Tie as tie
-use Rattle.form.proofs.number.number_of.Reads as reads
-use Rattle.form.proofs.number.number_of.Lts as lts
-use Rattle.form.proofs.number.wide.Reads as wide-reads
 
 abbrev Inv-loop : tie.InvT-loop
 Inv-loop bytes v₀ i₀ v i = (i ≤ length bytes) × (v ≡ number (drop i bytes)) × (v < 256 ^ (length bytes - i))

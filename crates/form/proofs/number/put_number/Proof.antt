@@ -1,20 +1,14 @@
 -- `form::number::put_number` meets its contract. Assumes nothing.
-use Rattle.form.proofs.ByteLaws.{low-all}
-use Rattle.form.proofs.ByteLaws.{stored}
+use Rattle.form.proofs.ByteLaws.{low-all, stored, low-length, low-none, low-more, store-short}
 use Rattle.form.specs.Bytes.{low}
 use Rattle.form.proofs.Filling.{Filling, begins, steps, ends}
-use Rattle.form.proofs.ByteLaws.{low-length, low-none, low-more, store-room, store-short}
-use lib.ListN.{length, getD, take, drop, set, replicate}
-use Prim.Native.Nat.{ℕ, zero, suc, _+_, _*_, _-_, _/_, _%_, _^_, _≤_, _<_, min}
-use mathlib.Core.Path.{_≡_, refl, sym, ap, ap₂, _∙_, subst}
-use mathlib.Core.List.{List, [], _∷_, _++_}
-use mathlib.Core.Bool.{Bool, true, false, cond, not, _&&_, _||_}
+use lib.ListN.{length}
+use Prim.Native.Nat.{_-_, _≤_}
+use mathlib.Core.Path.{sym}
 use borrow.Author.Needs.{needs}
 use native.Mathlib.Omega.{arith}
 use Rattle.form.proofs.number.put_number.Statement.{statement}
 use Rattle.form.proofs.number.put_number.Tie as tie
-use Rattle.form.proofs.number.put_number.Reads as reads
-use Rattle.form.proofs.number.put_number.Lts as lts
 
 abbrev Inv-loop : tie.InvT-loop
 Inv-loop v k out₀ rest₀ i₀ out rest i = (i ≤ k) × (k ≤ length out₀) × Filling out out₀ (low k v) i (low (k - i) rest)

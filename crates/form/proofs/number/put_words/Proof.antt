@@ -1,22 +1,14 @@
 -- `form::number::put_words` meets its contract. Assumes nothing.
-use Rattle.form.proofs.ByteLaws.{eight-on}
-use Rattle.form.proofs.ByteLaws.{stored-whole}
-use Rattle.form.proofs.Filling.{part-on, part-length}
-use Rattle.form.specs.Bytes.{low, wordBytes, lent, store}
-use Rattle.form.proofs.Filling.{Filling, begins, goes-on, ends, part-stored}
-use Rattle.form.proofs.ByteLaws.{each-length, each-more, each-none, low-length, stored, store-short, store-room}
-use lib.ListN.{length, getD, take, drop, set, replicate}
-use Prim.Native.Nat.{ℕ, zero, suc, _+_, _*_, _-_, _/_, _%_, _^_, _≤_, _<_, min}
-use mathlib.Core.Path.{_≡_, refl, sym, ap, ap₂, _∙_, subst}
-use mathlib.Core.List.{List, [], _∷_, _++_}
-use mathlib.Core.Bool.{Bool, true, false, cond, not, _&&_, _||_}
+use Rattle.form.proofs.ByteLaws.{eight-on, each-length, each-none, stored, store-short}
+use Rattle.form.proofs.Filling.{Filling, begins, ends}
+use Rattle.form.specs.Bytes.{wordBytes}
+use lib.ListN.{length, drop}
+use Prim.Native.Nat.{ℕ, _*_, _-_, _≤_}
+use mathlib.Core.Path.{refl, sym}
 use borrow.Author.Needs.{needs}
 use native.Mathlib.Omega.{arith}
 use Rattle.form.proofs.number.put_words.Statement.{statement}
 use Rattle.form.proofs.number.put_words.Tie as tie
-use Rattle.form.proofs.number.put_words.Reads as reads
-use Rattle.form.proofs.number.put_words.Lts as lts
-use Rattle.form.proofs.number.put_number.Reads as put-number-reads
 
 abbrev Inv-loop : tie.InvT-loop
 Inv-loop words out₀ i₀ out i = (i ≤ length words) × (8 * length words ≤ length out₀) × Filling out out₀ (wordBytes words) (i * 8) (wordBytes (drop i words))

@@ -2,18 +2,13 @@
 use Rattle.form.specs.Bytes.{wordsFrom}
 use Rattle.form.proofs.Filling.{Filling, begins, steps, ends}
 use Rattle.form.proofs.ByteLaws.{from-none, from-all, from-more, fill-short, fill-room, from-length}
-use lib.ListN.{length, getD, take, drop, set, replicate}
-use Prim.Native.Nat.{ℕ, zero, suc, _+_, _*_, _-_, _/_, _%_, _^_, _≤_, _<_, min}
-use mathlib.Core.Path.{_≡_, refl, sym, ap, ap₂, _∙_, subst}
-use mathlib.Core.List.{List, [], _∷_, _++_}
-use mathlib.Core.Bool.{Bool, true, false, cond, not, _&&_, _||_}
+use lib.ListN.{length, drop}
+use Prim.Native.Nat.{ℕ, _*_, _-_, _≤_, _<_}
+use mathlib.Core.Path.{sym}
 use borrow.Author.Needs.{needs}
 use native.Mathlib.Omega.{arith}
 use Rattle.form.proofs.number.read_words.Statement.{statement}
 use Rattle.form.proofs.number.read_words.Tie as tie
-use Rattle.form.proofs.number.read_words.Reads as reads
-use Rattle.form.proofs.number.read_words.Lts as lts
-use Rattle.form.proofs.number.number_at.Reads as number-at-reads
 
 abbrev Inv-loop : tie.InvT-loop
 Inv-loop bytes words₀ i₀ words i = (i ≤ length words₀) × (8 * length words₀ ≤ length bytes) × Filling words words₀ (wordsFrom (length words₀) bytes) i (wordsFrom (length words₀ - i) (drop (i * 8) bytes))

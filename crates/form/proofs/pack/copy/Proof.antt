@@ -1,20 +1,13 @@
 -- `form::pack::copy` meets its contract. Assumes nothing.
-use Rattle.form.proofs.Filling.{ends-whole}
-use mathlib.Core.List.{append-nil}
-use lib.ListN.{drop-of-length-le}
-use Rattle.form.proofs.Filling.{Filling, begins, steps, ends}
+use Rattle.form.proofs.Filling.{ends-whole, Filling, begins, steps}
+use lib.ListN.{drop-of-length-le, length, drop}
 use Rattle.form.proofs.TableLaws.{row-at}
-use lib.ListN.{length, getD, take, drop, set, replicate}
-use Prim.Native.Nat.{ℕ, zero, suc, _+_, _*_, _-_, _/_, _%_, _^_, _≤_, _<_, min}
-use mathlib.Core.Path.{_≡_, refl, sym, ap, ap₂, _∙_, subst}
-use mathlib.Core.List.{List, [], _∷_, _++_}
-use mathlib.Core.Bool.{Bool, true, false, cond, not, _&&_, _||_}
+use Prim.Native.Nat.{_-_, _≤_}
+use mathlib.Core.Path.{refl}
 use borrow.Author.Needs.{needs}
 use native.Mathlib.Omega.{arith}
 use Rattle.form.proofs.pack.copy.Statement.{statement}
 use Rattle.form.proofs.pack.copy.Tie as tie
-use Rattle.form.proofs.pack.copy.Reads as reads
-use Rattle.form.proofs.pack.copy.Lts as lts
 
 abbrev Inv-loop : tie.InvT-loop
 Inv-loop from to₀ i₀ to i = (i ≤ length from) × Filling to to₀ from i (drop i from)

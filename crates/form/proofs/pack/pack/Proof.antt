@@ -1,20 +1,11 @@
 -- `form::pack::pack` meets its contract. Assumes nothing.
-use Rattle.form.specs.Form.{cut, standing, packed}
-use Rattle.form.proofs.TableLaws.{packed-length, pack-short, pack-done, pack-part, pack-same}
-use lib.ListN.{length, getD, take, drop, set, replicate}
-use Prim.Native.Nat.{ℕ, zero, suc, _+_, _*_, _-_, _/_, _%_, _^_, _≤_, _<_, min}
-use mathlib.Core.Path.{_≡_, refl, sym, ap, ap₂, _∙_, subst}
-use mathlib.Core.List.{List, [], _∷_, _++_}
-use mathlib.Core.Bool.{Bool, true, false, cond, not, _&&_, _||_}
-use native.Mathlib.Omega.{arith}
+use Rattle.form.specs.Form.{cut, packed}
+use Rattle.form.proofs.TableLaws.{packed-length, pack-short, pack-done}
+use Prim.Native.Nat.{ℕ, _+_}
+use mathlib.Core.Path.{sym, ap, _∙_}
 use borrow.Author.Needs.{needs}
 use Rattle.form.proofs.pack.pack.Statement.{statement}
 use Rattle.form.proofs.pack.pack.Tie as tie
-use Rattle.form.proofs.pack.pack.Reads as reads
-use Rattle.form.proofs.pack.pack.Lts as lts
-use Rattle.form.proofs.number.put_number.Reads as put-number-reads
-use Rattle.form.proofs.pack.put_standing.Reads as put-standing-reads
-use Rattle.form.proofs.pack.standing_length.Reads as standing-length-reads
 
 standing-length-requires : tie.Need-standing-length-requires
 standing-length-requires c κs = search needs

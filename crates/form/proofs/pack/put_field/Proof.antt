@@ -1,18 +1,15 @@
 -- `form::pack::put_field` meets its contract. Assumes nothing.
 use lib.Seq.{sets}
 use Rattle.form.proofs.Filling.{part-stored}
-use lib.ListN.{length, getD, take, drop, set, replicate}
-use Prim.Native.Nat.{ℕ, zero, suc, _+_, _*_, _-_, _/_, _%_, _^_, _≤_, _<_, min}
-use mathlib.Core.Path.{_≡_, refl, sym, ap, ap₂, _∙_, subst}
-use mathlib.Core.List.{List, [], _∷_, _++_}
-use mathlib.Core.Bool.{Bool, true, false, cond, not, _&&_, _||_}
+use lib.ListN.{length, take, drop}
+use Prim.Native.Nat.{ℕ, _+_, _-_, _≤_}
+use mathlib.Core.Path.{_≡_, refl, sym, ap, _∙_, subst}
+use mathlib.Core.List.{List, [], _++_}
+use mathlib.Core.Bool.{Bool, cond}
 use native.Mathlib.Omega.{arith}
 use borrow.Author.Needs.{needs}
 use Rattle.form.proofs.pack.put_field.Statement.{statement}
 use Rattle.form.proofs.pack.put_field.Tie as tie
-use Rattle.form.proofs.pack.put_field.Reads as reads
-use Rattle.form.proofs.pack.put_field.Lts as lts
-use Rattle.form.proofs.pack.copy.Reads as copy-reads
 
 add-end : tie.Need-add-end
 add-end c = search needs

@@ -1,22 +1,16 @@
 -- `form::pack::put_standing` meets its contract. Assumes nothing.
-use Rattle.form.proofs.Filling.{ends-whole}
-use Rattle.form.proofs.Filling.{next-fits}
+use Rattle.form.proofs.Filling.{ends-whole, next-fits, Filling, begins, goes-on}
 use Rattle.form.specs.Form.{cut, standing, odd}
-use Rattle.form.proofs.Filling.{Filling, begins, goes-on, ends}
 use Rattle.form.proofs.TableLaws.{standing-more, standing-none, end-within}
-use lib.ListN.{length, getD, take, drop, set, replicate}
-use Prim.Native.Nat.{ℕ, zero, suc, _+_, _*_, _-_, _/_, _%_, _^_, _≤_, _<_, min}
-use mathlib.Core.Path.{_≡_, refl, sym, ap, ap₂, _∙_, subst}
-use mathlib.Core.List.{List, [], _∷_, _++_}
-use mathlib.Core.Bool.{Bool, true, false, cond, not, _&&_, _||_}
+use lib.ListN.{length, take, drop}
+use Prim.Native.Nat.{_+_, _-_, _/_, _≤_}
+use mathlib.Core.Path.{refl}
+use mathlib.Core.List.{[]}
+use mathlib.Core.Bool.{cond}
 use borrow.Author.Needs.{needs}
 use native.Mathlib.Omega.{arith}
 use Rattle.form.proofs.pack.put_standing.Statement.{statement}
 use Rattle.form.proofs.pack.put_standing.Tie as tie
-use Rattle.form.proofs.pack.put_standing.Reads as reads
-use Rattle.form.proofs.pack.put_standing.Lts as lts
-use Rattle.form.proofs.pack.put_field.Reads as put-field-reads
-use Rattle.form.proofs.table.field_end.Reads as field-end-reads
 
 abbrev Inv-loop : tie.InvT-loop
 Inv-loop widths full map out₀ rest₀ at₀ from₀ k₀ out rest at from k = (k ≤ length widths) × (from ≤ length full) × (length (standing map (cut widths full)) ≤ length out₀)

@@ -1,21 +1,15 @@
 -- `form::pack::standing_length` meets its contract. Assumes nothing.
 use Rattle.form.proofs.Filling.{part-long}
-use Rattle.form.proofs.TableLaws.{end-within, counted}
+use Rattle.form.proofs.TableLaws.{end-within, counted, standing-more, standing-none, shown-small}
 use Rattle.form.specs.Form.{cut, standing, odd}
-use Rattle.form.proofs.TableLaws.{standing-more, standing-none, shown-length, shown-small}
-use lib.ListN.{length, getD, take, drop, set, replicate}
-use Prim.Native.Nat.{ℕ, zero, suc, _+_, _*_, _-_, _/_, _%_, _^_, _≤_, _<_, min}
-use mathlib.Core.Path.{_≡_, refl, sym, ap, ap₂, _∙_, subst}
-use mathlib.Core.List.{List, [], _∷_, _++_}
-use mathlib.Core.Bool.{Bool, true, false, cond, not, _&&_, _||_}
+use lib.ListN.{length, take, drop}
+use Prim.Native.Nat.{ℕ, _+_, _-_, _≤_}
+use mathlib.Core.Path.{_≡_, sym, ap, _∙_}
+use mathlib.Core.List.{List}
 use borrow.Author.Needs.{needs}
 use native.Mathlib.Omega.{arith}
 use Rattle.form.proofs.pack.standing_length.Statement.{statement}
 use Rattle.form.proofs.pack.standing_length.Tie as tie
-use Rattle.form.proofs.pack.standing_length.Reads as reads
-use Rattle.form.proofs.pack.standing_length.Lts as lts
-use Rattle.form.proofs.pack.shown.Reads as shown-reads
-use Rattle.form.proofs.table.field_end.Reads as field-end-reads
 
 abbrev Inv-loop : tie.InvT-loop
 Inv-loop widths full map rest₀ n₀ from₀ k₀ rest n from k = (k ≤ length widths) × (from ≤ length full) × (n ≤ from)

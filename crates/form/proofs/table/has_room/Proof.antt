@@ -1,18 +1,13 @@
 -- `form::table::has_room` meets its contract. Assumes nothing.
-use Rattle.form.proofs.TableLaws.{less-room}
+use Rattle.form.proofs.TableLaws.{less-room, no-room, some-room}
 use Rattle.form.specs.Form.{sum}
-use Rattle.form.proofs.TableLaws.{no-room, some-room, sum-at}
-use lib.ListN.{length, getD, take, drop, set, replicate}
-use Prim.Native.Nat.{ℕ, zero, suc, _+_, _*_, _-_, _/_, _%_, _^_, _≤_, _<_, min}
-use mathlib.Core.Path.{_≡_, refl, sym, ap, ap₂, _∙_, subst}
-use mathlib.Core.List.{List, [], _∷_, _++_}
-use mathlib.Core.Bool.{Bool, true, false, cond, not, _&&_, _||_}
+use lib.ListN.{length, drop}
+use Prim.Native.Nat.{_+_, _-_, _≤_}
+use mathlib.Core.Path.{_≡_, refl}
 use borrow.Author.Needs.{needs}
 use native.Mathlib.Omega.{arith}
 use Rattle.form.proofs.table.has_room.Statement.{statement}
 use Rattle.form.proofs.table.has_room.Tie as tie
-use Rattle.form.proofs.table.has_room.Reads as reads
-use Rattle.form.proofs.table.has_room.Lts as lts
 
 abbrev Inv-loop : tie.InvT-loop
 Inv-loop widths room left₀ k₀ left k = (k ≤ length widths) × (left ≤ room) × (left + sum widths ≡ room + sum (drop k widths))

@@ -1,22 +1,16 @@
 -- `form::table::map_of` meets its contract. Assumes nothing.
 use lib.Seq.{length-take-le}
-use lib.ListN.{length-take}
+use lib.ListN.{length-take, length, take}
 use Rattle.form.specs.Form.{cut, mapOf}
 use Rattle.form.proofs.Filling.{take-least}
 use Rattle.form.proofs.TableLaws.{map-small, power-small}
-use lib.ListN.{length, getD, take, drop, set, replicate}
-use Prim.Native.Nat.{ℕ, zero, suc, _+_, _*_, _-_, _/_, _%_, _^_, _≤_, _<_, min}
-use mathlib.Core.Path.{_≡_, refl, sym, ap, ap₂, _∙_, subst}
-use mathlib.Core.List.{List, [], _∷_, _++_}
-use mathlib.Core.Bool.{Bool, true, false, cond, not, _&&_, _||_}
+use Prim.Native.Nat.{ℕ, _≤_}
+use mathlib.Core.Path.{sym, ap, _∙_}
+use mathlib.Core.List.{List}
 use native.Mathlib.Omega.{arith}
 use borrow.Author.Needs.{needs}
 use Rattle.form.proofs.table.map_of.Statement.{statement}
 use Rattle.form.proofs.table.map_of.Tie as tie
-use Rattle.form.proofs.table.map_of.Reads as reads
-use Rattle.form.proofs.table.map_of.Lts as lts
-use Rattle.form.proofs.number.least.Reads as least-reads
-use Rattle.form.proofs.table.map_rows.Reads as map-rows-reads
 
 least-requires : tie.Need-least-requires
 least-requires c κs = search needs

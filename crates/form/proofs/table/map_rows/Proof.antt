@@ -1,21 +1,14 @@
 -- `form::table::map_rows` meets its contract. Assumes nothing.
-use Rattle.form.proofs.TableLaws.{end-within}
+use Rattle.form.proofs.TableLaws.{end-within, map-more, map-none, gathered, gathered-all, power-small, power-more, value-small}
 use Rattle.form.specs.Form.{cut, mapOf, bit}
-use Rattle.form.proofs.TableLaws.{map-more, map-none, gathered, gathered-all, power-small, power-more, value-small}
-use lib.ListN.{length, getD, take, drop, set, replicate}
-use Prim.Native.Nat.{ℕ, zero, suc, _+_, _*_, _-_, _/_, _%_, _^_, _≤_, _<_, min}
-use mathlib.Core.Path.{_≡_, refl, sym, ap, ap₂, _∙_, subst}
-use mathlib.Core.List.{List, [], _∷_, _++_}
-use mathlib.Core.Bool.{Bool, true, false, cond, not, _&&_, _||_}
+use lib.ListN.{length, drop}
+use Prim.Native.Nat.{ℕ, _+_, _*_, _-_, _^_, _≤_, _<_}
+use mathlib.Core.Path.{_≡_, refl, sym, ap, _∙_}
+use mathlib.Core.Bool.{Bool, not}
 use borrow.Author.Needs.{needs}
 use native.Mathlib.Omega.{arith}
 use Rattle.form.proofs.table.map_rows.Statement.{statement}
 use Rattle.form.proofs.table.map_rows.Tie as tie
-use Rattle.form.proofs.table.map_rows.Reads as reads
-use Rattle.form.proofs.table.map_rows.Lts as lts
-use Rattle.form.proofs.number.all_zero.Reads as all-zero-reads
-use Rattle.form.proofs.table.bit_value.Reads as bit-value-reads
-use Rattle.form.proofs.table.field_end.Reads as field-end-reads
 
 abbrev Inv-loop : tie.InvT-loop
 Inv-loop widths full map₀ value₀ from₀ k₀ map value from k = (k ≤ length widths) × (from ≤ length full) × (map < value) × (value ≡ 2 ^ k)

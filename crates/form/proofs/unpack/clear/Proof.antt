@@ -1,20 +1,12 @@
 -- `form::unpack::clear` meets its contract. Assumes nothing.
-use Rattle.form.proofs.Filling.{ends-whole}
-use mathlib.Core.List.{append-nil}
-use lib.ListN.{drop-of-length-le, length-replicate}
-use Rattle.form.proofs.Filling.{Filling, begins, steps, ends}
+use Rattle.form.proofs.Filling.{ends-whole, Filling, begins, steps}
+use lib.ListN.{length-replicate, length, replicate}
 use Rattle.form.proofs.ByteLaws.{zeros-all, zeros-more, zeros-none}
-use lib.ListN.{length, getD, take, drop, set, replicate}
-use Prim.Native.Nat.{ℕ, zero, suc, _+_, _*_, _-_, _/_, _%_, _^_, _≤_, _<_, min}
-use mathlib.Core.Path.{_≡_, refl, sym, ap, ap₂, _∙_, subst}
-use mathlib.Core.List.{List, [], _∷_, _++_}
-use mathlib.Core.Bool.{Bool, true, false, cond, not, _&&_, _||_}
+use Prim.Native.Nat.{ℕ, _-_, _≤_}
 use borrow.Author.Needs.{needs}
 use native.Mathlib.Omega.{arith}
 use Rattle.form.proofs.unpack.clear.Statement.{statement}
 use Rattle.form.proofs.unpack.clear.Tie as tie
-use Rattle.form.proofs.unpack.clear.Reads as reads
-use Rattle.form.proofs.unpack.clear.Lts as lts
 
 abbrev Inv-loop : tie.InvT-loop
 Inv-loop to₀ i₀ to i = (i ≤ length to₀) × Filling to to₀ (replicate (length to₀) 0) i (replicate (length to₀ - i) 0)

@@ -1,18 +1,14 @@
 -- `form::unpack::fill` meets its contract. Assumes nothing.
 use Rattle.form.proofs.Filling.{part-length}
-use lib.ListN.{length, getD, take, drop, set, replicate}
-use Prim.Native.Nat.{ℕ, zero, suc, _+_, _*_, _-_, _/_, _%_, _^_, _≤_, _<_, min}
-use mathlib.Core.Path.{_≡_, refl, sym, ap, ap₂, _∙_, subst}
-use mathlib.Core.List.{List, [], _∷_, _++_}
-use mathlib.Core.Bool.{Bool, true, false, cond, not, _&&_, _||_}
+use lib.ListN.{length, take, drop, replicate}
+use Prim.Native.Nat.{ℕ, _+_, _-_, _≤_}
+use mathlib.Core.Path.{_≡_, sym, ap, _∙_, subst}
+use mathlib.Core.List.{List}
+use mathlib.Core.Bool.{Bool, cond}
 use native.Mathlib.Omega.{arith}
 use borrow.Author.Needs.{needs}
 use Rattle.form.proofs.unpack.fill.Statement.{statement}
 use Rattle.form.proofs.unpack.fill.Tie as tie
-use Rattle.form.proofs.unpack.fill.Reads as reads
-use Rattle.form.proofs.unpack.fill.Lts as lts
-use Rattle.form.proofs.pack.copy.Reads as copy-reads
-use Rattle.form.proofs.unpack.clear.Reads as clear-reads
 
 add-end : tie.Need-add-end
 add-end c = search needs

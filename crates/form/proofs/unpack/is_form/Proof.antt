@@ -2,19 +2,13 @@
 use Rattle.form.specs.FormSteps.{whole}
 use Rattle.form.specs.Form.{parse, rowsOf}
 use Rattle.form.proofs.ReadLaws.{on-within, form-on, form-off, form-end}
-use lib.ListN.{length, getD, take, drop, set, replicate}
-use Prim.Native.Nat.{ℕ, zero, suc, _+_, _*_, _-_, _/_, _%_, _^_, _≤_, _<_, min}
-use mathlib.Core.Path.{_≡_, refl, sym, ap, ap₂, _∙_, subst}
-use mathlib.Core.List.{List, [], _∷_, _++_}
-use mathlib.Core.Bool.{Bool, true, false, cond, not, _&&_, _||_}
+use lib.ListN.{length, drop}
+use Prim.Native.Nat.{_-_, _≤_}
+use mathlib.Core.Path.{_≡_, refl, sym, _∙_}
 use borrow.Author.Needs.{needs}
 use native.Mathlib.Omega.{arith}
 use Rattle.form.proofs.unpack.is_form.Statement.{statement}
 use Rattle.form.proofs.unpack.is_form.Tie as tie
-use Rattle.form.proofs.unpack.is_form.Reads as reads
-use Rattle.form.proofs.unpack.is_form.Lts as lts
-use Rattle.form.proofs.unpack.mark.Reads as mark-reads
-use Rattle.form.proofs.unpack.one_field.Reads as one-field-reads
 
 abbrev Inv-loop : tie.InvT-loop
 Inv-loop widths zeros map bytes rest₀ at₀ k₀ rest at k = (k ≤ length widths) × (at ≤ length bytes)

@@ -1,16 +1,10 @@
 -- `form::unpack::mark` meets its contract. Assumes nothing.
 use lib.ListN.{List·getD-eq-default}
-use lib.ListN.{length, getD, take, drop, set, replicate}
-use Prim.Native.Nat.{ℕ, zero, suc, _+_, _*_, _-_, _/_, _%_, _^_, _≤_, _<_, min}
-use mathlib.Core.Path.{_≡_, refl, sym, ap, ap₂, _∙_, subst}
-use mathlib.Core.List.{List, [], _∷_, _++_}
-use mathlib.Core.Bool.{Bool, true, false, cond, not, _&&_, _||_}
-use native.Mathlib.Omega.{arith}
+use mathlib.Core.Path.{sym}
+use mathlib.Core.Bool.{false}
 use borrow.Author.Needs.{needs}
 use Rattle.form.proofs.unpack.mark.Statement.{statement}
 use Rattle.form.proofs.unpack.mark.Tie as tie
-use Rattle.form.proofs.unpack.mark.Reads as reads
-use Rattle.form.proofs.unpack.mark.Lts as lts
 
 shared-slice-read-result : tie.Need-shared-slice-read-result
 shared-slice-read-result c = search needs

@@ -1,19 +1,13 @@
 -- `form::unpack::may_stand` meets its contract. Assumes nothing.
 use Rattle.form.specs.Bytes.{allZero}
-use lib.ListN.{length-drop}
+use lib.ListN.{length-drop, take, drop}
 use Rattle.form.proofs.ReadLaws.{stand-short, stand-zeros, stand-full}
-use lib.ListN.{length, getD, take, drop, set, replicate}
-use Prim.Native.Nat.{ℕ, zero, suc, _+_, _*_, _-_, _/_, _%_, _^_, _≤_, _<_, min}
-use mathlib.Core.Path.{_≡_, refl, sym, ap, ap₂, _∙_, subst}
-use mathlib.Core.List.{List, [], _∷_, _++_}
-use mathlib.Core.Bool.{Bool, true, false, cond, not, _&&_, _||_}
+use Prim.Native.Nat.{ℕ, _+_, _-_}
+use mathlib.Core.Path.{_≡_, ap, _∙_}
 use native.Mathlib.Omega.{arith}
 use borrow.Author.Needs.{needs}
 use Rattle.form.proofs.unpack.may_stand.Statement.{statement}
 use Rattle.form.proofs.unpack.may_stand.Tie as tie
-use Rattle.form.proofs.unpack.may_stand.Reads as reads
-use Rattle.form.proofs.unpack.may_stand.Lts as lts
-use Rattle.form.proofs.number.all_zero.Reads as all-zero-reads
 
 sub-if1 : tie.Need-sub-if1
 sub-if1 c = search needs

@@ -1,19 +1,12 @@
 -- `form::unpack::one_field` meets its contract. Assumes nothing.
 use Rattle.form.specs.FormSteps.{rowOf}
-use lib.ListN.{length-drop}
+use lib.ListN.{length-drop, drop}
 use Rattle.form.proofs.ReadLaws.{step-taken, step-bad, step-left, stand-within}
-use lib.ListN.{length, getD, take, drop, set, replicate}
-use Prim.Native.Nat.{ℕ, zero, suc, _+_, _*_, _-_, _/_, _%_, _^_, _≤_, _<_, min}
-use mathlib.Core.Path.{_≡_, refl, sym, ap, ap₂, _∙_, subst}
-use mathlib.Core.List.{List, [], _∷_, _++_}
-use mathlib.Core.Bool.{Bool, true, false, cond, not, _&&_, _||_}
+use mathlib.Core.Path.{sym, _∙_}
 use native.Mathlib.Omega.{arith}
 use borrow.Author.Needs.{needs}
 use Rattle.form.proofs.unpack.one_field.Statement.{statement}
 use Rattle.form.proofs.unpack.one_field.Tie as tie
-use Rattle.form.proofs.unpack.one_field.Reads as reads
-use Rattle.form.proofs.unpack.one_field.Lts as lts
-use Rattle.form.proofs.unpack.may_stand.Reads as may-stand-reads
 
 may-stand-requires : tie.Need-may-stand-requires
 may-stand-requires c κs = search needs

@@ -1,22 +1,16 @@
 -- `form::unpack::spread` meets its contract. Assumes nothing.
-use Rattle.form.proofs.ReadLaws.{spread-room, spread-enough, spread-more, joined-length}
+use Rattle.form.proofs.ReadLaws.{spread-room, spread-enough, spread-more, joined-length, fields-none}
 use Rattle.form.specs.FormSteps.{standingSum, fieldsIn}
-use Rattle.form.specs.Form.{sum, joined, odd}
-use Rattle.form.proofs.ReadLaws.{fields-more, fields-none, field-length, needs-more}
-use Rattle.form.proofs.Filling.{Filling, begins, part-on, part-length, ends}
-use Rattle.form.proofs.TableLaws.{sum-at}
-use lib.ListN.{length, getD, take, drop, set, replicate}
-use Prim.Native.Nat.{ℕ, zero, suc, _+_, _*_, _-_, _/_, _%_, _^_, _≤_, _<_, min}
-use mathlib.Core.Path.{_≡_, refl, sym, ap, ap₂, _∙_, subst}
-use mathlib.Core.List.{List, [], _∷_, _++_}
-use mathlib.Core.Bool.{Bool, true, false, cond, not, _&&_, _||_}
+use Rattle.form.specs.Form.{sum, joined}
+use Rattle.form.proofs.Filling.{Filling, begins, ends}
+use lib.ListN.{length, drop}
+use Prim.Native.Nat.{_+_, _-_, _≤_}
+use mathlib.Core.Path.{refl}
+use mathlib.Core.List.{[]}
 use borrow.Author.Needs.{needs}
 use native.Mathlib.Omega.{arith}
 use Rattle.form.proofs.unpack.spread.Statement.{statement}
 use Rattle.form.proofs.unpack.spread.Tie as tie
-use Rattle.form.proofs.unpack.spread.Reads as reads
-use Rattle.form.proofs.unpack.spread.Lts as lts
-use Rattle.form.proofs.unpack.fill.Reads as fill-reads
 
 abbrev Inv-loop : tie.InvT-loop
 Inv-loop widths map bytes full₀ rest₀ at₀ from₀ k₀ full rest at from k = (k ≤ length widths) × (at + standingSum (drop k widths) rest ≤ length bytes) × (from + sum (drop k widths) ≤ length full₀)

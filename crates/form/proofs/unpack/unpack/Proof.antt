@@ -3,22 +3,15 @@ use Rattle.form.specs.FormSteps.{whole, fieldsIn}
 use Rattle.form.specs.Form.{rowsOf, parse, joined, mapIn}
 use borrow.Author.Tests.{leb-true}
 use Rattle.form.proofs.ReadLaws.{parsed-short, parsed-long, not-whole, unpack-broken, unpack-short, unpack-whole, form-enough, rest-whole, not-true, not-false}
-use lib.ListN.{length, getD, take, drop, set, replicate}
-use Prim.Native.Nat.{ℕ, zero, suc, _+_, _*_, _-_, _/_, _%_, _^_, _≤_, _<_, min}
-use mathlib.Core.Path.{_≡_, refl, sym, ap, ap₂, _∙_, subst}
-use mathlib.Core.List.{List, [], _∷_, _++_}
-use mathlib.Core.Bool.{Bool, true, false, cond, not, _&&_, _||_}
+use lib.ListN.{length, take, drop}
+use Prim.Native.Nat.{ℕ, _-_}
+use mathlib.Core.Path.{_≡_, sym, ap, _∙_}
+use mathlib.Core.List.{List, _++_}
+use mathlib.Core.Bool.{true}
 use native.Mathlib.Omega.{arith}
 use borrow.Author.Needs.{needs}
 use Rattle.form.proofs.unpack.unpack.Statement.{statement}
 use Rattle.form.proofs.unpack.unpack.Tie as tie
-use Rattle.form.proofs.unpack.unpack.Reads as reads
-use Rattle.form.proofs.unpack.unpack.Lts as lts
-use Rattle.form.proofs.number.number_at.Reads as number-at-reads
-use Rattle.form.proofs.table.has_room.Reads as has-room-reads
-use Rattle.form.proofs.unpack.is_form.Reads as is-form-reads
-use Rattle.form.proofs.unpack.refused.Reads as refused-reads
-use Rattle.form.proofs.unpack.spread.Reads as spread-reads
 
 refused-requires : tie.Need-refused-requires
 refused-requires c κs = search needs
