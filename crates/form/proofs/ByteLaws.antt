@@ -13,7 +13,7 @@ use lib.Ieee.{Float, binary64, fits, toBits, ofBits}
 use lib.Ieee.Bits.{ofBits-toBits, toBits-lt}
 use borrow.Author.Tests.{le-leb, lt-leb}
 use Rattle.form.proofs.Filling.{Filling, part-on, part-length}
-use Rattle.form.specs.Bytes.{low, number, allZero, eachBytes, eachFrom, wordBytes, wordsFrom, floatBytes, floatsFrom, Lent, lent, store, fillEach}
+use Rattle.form.specs.Bytes.{low, number, allZero, eachBytes, eachFrom, wordBytes, wordsFrom, floatBytes, floatsFrom, Leaves, leaves, store, fillEach}
 
 -- ---- numbers
 pub low-length : (k v : ℕ) → length (low k v) ≡ k
@@ -62,23 +62,23 @@ pub zeros-none : (n i : ℕ) → n ≤ i → replicate {A = ℕ} (n - i) 0 ≡ [
 zeros-none n i h = let e : n - i ≡ 0 = omega arith in ap (λ (j : ℕ). replicate {A = ℕ} j 0) e
 
 -- ---- what is stored where there is room, and where there is none
-pub store-room : (bs out : List ℕ) → length bs ≤ length out → store bs out ≡ lent true (bs ++ drop (length bs) out)
+pub store-room : (bs out : List ℕ) → length bs ≤ length out → store bs out ≡ leaves true (bs ++ drop (length bs) out)
 unfolding store
-store-room bs out h = ap (λ (b : Bool). cond b (lent true (bs ++ drop (length bs) out)) (lent false out)) (le-leb _ _ h)
+store-room bs out h = ap (λ (b : Bool). cond b (leaves true (bs ++ drop (length bs) out)) (leaves false out)) (le-leb _ _ h)
 
-pub stored : (bs out out′ : List ℕ) → length bs ≤ length out → out′ ≡ bs ++ drop (length bs) out → lent true out′ ≡ store bs out
-stored bs out out′ h e = ap (lent true) e ∙ sym (store-room bs out h)
+pub stored : (bs out out′ : List ℕ) → length bs ≤ length out → out′ ≡ bs ++ drop (length bs) out → leaves true out′ ≡ store bs out
+stored bs out out′ h e = ap (leaves true) e ∙ sym (store-room bs out h)
 
 -- an output that is just long enough
-pub stored-whole : (bs out out′ : List ℕ) (r : Bool) → length bs ≡ length out → lent r out′ ≡ store bs out → out′ ≡ bs
+pub stored-whole : (bs out out′ : List ℕ) (r : Bool) → length bs ≡ length out → leaves r out′ ≡ store bs out → out′ ≡ bs
 stored-whole bs out out′ r n e =
     let k : length out ≤ length bs = omega (arith, n) in
-    ap (λ (l : Lent ℕ). l .list) (e ∙ store-room bs out (omega (arith, n)))
+    ap (λ (l : Leaves ℕ). l .list) (e ∙ store-room bs out (omega (arith, n)))
     ∙ ap (λ (l : List ℕ). bs ++ l) (drop-of-length-le out k) ∙ append-nil bs
 
-pub store-short : (bs out : List ℕ) → length out < length bs → store bs out ≡ lent false out
+pub store-short : (bs out : List ℕ) → length out < length bs → store bs out ≡ leaves false out
 unfolding store
-store-short bs out h = ap (λ (b : Bool). cond b (lent true (bs ++ drop (length bs) out)) (lent false out)) (lt-leb _ _ h)
+store-short bs out h = ap (λ (b : Bool). cond b (leaves true (bs ++ drop (length bs) out)) (leaves false out)) (lt-leb _ _ h)
 
 -- ---- a number gathered from its high byte down
 pub number-none : (s : List ℕ) → 0 ≡ number (drop (length s) s)
@@ -123,10 +123,22 @@ power-grows k n h = pow-le-pow-right {n = 256} (omega arith) h
 pub power-some : (n : ℕ) → 0 < 256 ^ n
 power-some n = omega (arith, power-grows 0 n (omega arith))
 
-pub number-small : (bs : List ℕ) → ((i : ℕ) → getD bs i 0 < 256) → number bs < 256 ^ length bs
+abbrev pub Bytes : List ℕ → Type 0
+Bytes bs = (i : ℕ) → getD bs i 0 < 256
+
+pub number-small : (bs : List ℕ) → Bytes bs → number bs < 256 ^ length bs
 unfolding number
 number-small [] h = omega arith
 number-small (b ∷ bs) h = omega (arith, h 0, number-small bs (λ i. h (suc i)), pow-suc 256 (length bs))
+
+-- and they are the bytes of that number
+pub bytes-back : (bs : List ℕ) → Bytes bs → low (length bs) (number bs) ≡ bs
+unfolding number low
+bytes-back [] h = refl
+bytes-back (b ∷ bs) h =
+    let l : (b + 256 * number bs) % 256 ≡ b = omega (arith, h 0) in
+    let r : (b + 256 * number bs) / 256 ≡ number bs = omega (arith, h 0) in
+    ap₂ (λ (x y : ℕ). x ∷ low (length bs) y) l r ∙ ap (λ (t : List ℕ). b ∷ t) (bytes-back bs (λ i. h (suc i)))
 
 -- ---- lists of eight bytes an element
 next-eight : (i : ℕ) (bs : List ℕ) → drop 8 (drop (i * 8) bs) ≡ drop ((i + 1) * 8) bs
@@ -148,7 +160,7 @@ module _ {A : Type 0} (f : A → ℕ) where
 
   -- one element more is put, by a call that was lent its eight bytes
   pub eight-on : (out out₀ p : List ℕ) (xs : List A) (i b : ℕ) (d : A) (r : Bool) → Filling out out₀ (eachBytes f xs) (i * 8) (eachBytes f (drop i xs))
-      → i < length xs → 8 * length xs ≤ length out₀ → b ≡ f (getD xs i d) → lent r p ≡ store (low 8 b) (take (i * 8 + 8 - i * 8) (drop (i * 8) out))
+      → i < length xs → 8 * length xs ≤ length out₀ → b ≡ f (getD xs i d) → leaves r p ≡ store (low 8 b) (take (i * 8 + 8 - i * 8) (drop (i * 8) out))
       → Filling (take (i * 8) out ++ (p ++ drop (i * 8 + 8 - i * 8) (drop (i * 8) out))) out₀ (eachBytes f xs) ((i + 1) * 8) (eachBytes f (drop (i + 1) xs))
   eight-on out out₀ p xs i b d r k t h q e =
       let room : i * 8 + 8 ≤ length out = omega (arith, k .same, h, t) in
@@ -177,17 +189,17 @@ module _ {A : Type 0} (g : ℕ → A) where
   from-length zero bs = refl
   from-length (suc n) bs = ap suc (from-length n (drop 8 bs))
 
-  pub fill-short : (bs : List ℕ) (xs : List A) → length bs < 8 * length xs → fillEach g bs xs ≡ lent false xs
+  pub fill-short : (bs : List ℕ) (xs : List A) → length bs < 8 * length xs → fillEach g bs xs ≡ leaves false xs
   unfolding fillEach
-  fill-short bs xs h = ap (λ (b : Bool). cond b (lent true (eachFrom g (length xs) bs)) (lent false xs)) (lt-leb _ _ h)
+  fill-short bs xs h = ap (λ (b : Bool). cond b (leaves true (eachFrom g (length xs) bs)) (leaves false xs)) (lt-leb _ _ h)
 
   pub fill-room : (bs : List ℕ) (xs xs′ : List A) → 8 * length xs ≤ length bs → xs′ ≡ eachFrom g (length xs) bs ++ drop (length (eachFrom g (length xs) bs)) xs
-      → lent true xs′ ≡ fillEach g bs xs
+      → leaves true xs′ ≡ fillEach g bs xs
   unfolding fillEach
   fill-room bs xs xs′ h e =
       let k : length xs ≤ length (eachFrom g (length xs) bs) = omega (arith, from-length (length xs) bs) in
-      ap (lent true) (e ∙ ap (λ (l : List A). eachFrom g (length xs) bs ++ l) (drop-of-length-le xs k) ∙ append-nil _)
-      ∙ sym (ap (λ (b : Bool). cond b (lent true (eachFrom g (length xs) bs)) (lent false xs)) (le-leb _ _ h))
+      ap (leaves true) (e ∙ ap (λ (l : List A). eachFrom g (length xs) bs ++ l) (drop-of-length-le xs k) ∙ append-nil _)
+      ∙ sym (ap (λ (b : Bool). cond b (leaves true (eachFrom g (length xs) bs)) (leaves false xs)) (le-leb _ _ h))
 
 -- what is written is read back, where each element is that of its number and the number fits eight bytes
 abbrev pub All : {A : Type 0} → (A → Type 0) → List A → Type 0

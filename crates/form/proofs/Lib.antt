@@ -5,3 +5,4 @@ pub mod TableLaws
 pub mod ReadLaws
 pub mod FormLaws
 pub mod MapLaws
+pub mod Examples

@@ -6,12 +6,12 @@ use Prim.Native.Nat.{ℕ, zero, suc, _+_, _*_, _/_, _%_, _^_, _≤_}
 use native.Mathlib.Nat.{pow-le-pow-right}
 use native.Mathlib.Omega.{arith}
 use lib.Dec.{eqb}
-use lib.ListN.{length, getD, take, drop, replicate, length-append, length-drop}
+use lib.ListN.{length, getD, take, drop, replicate, length-append, length-drop, take-append-drop}
 use lib.Seq.{take-at, drop-at, take-add, length-take-le}
 use borrow.Author.Tests.{le-leb, eqb-true}
-use Rattle.form.proofs.ByteLaws.{low-length, number-back}
+use Rattle.form.proofs.ByteLaws.{Bytes, low-length, number-back, bytes-back}
 use Rattle.form.proofs.ReadLaws.{parsed-long}
-use Rattle.form.proofs.FormLaws.{Fits, none, shown, hidden, parse-back, fits-small, stands}
+use Rattle.form.proofs.FormLaws.{Fits, none, shown, hidden, parse-back, fits-small, stands, parse-only}
 use Rattle.form.specs.Bytes.{low, number, allZero}
 use Rattle.form.specs.Form.{Row, rowsOf, sum, cut, joined, mostRows, odd, bit, mapOf, standing, packed, Parsed, parse, mapIn, parsed, read, readFields, unpackInto}
 use Rattle.form.specs.Form.Parsed.{fields}
@@ -133,3 +133,18 @@ saved-back ws zs m full to few h room k =
     ∙ ap₂ (λ (p : Parsed) (j : ℕ). readFields p j to) (form-back (rowsOf ws zs) m fs f k) (map-back (rowsOf ws zs) m fs f k)
     ∙ ap (λ (l : List ℕ). read true m (l ++ drop (length l) to)) (joined-cut ws full)
     ∙ ap (λ (j : ℕ). read true m (take (sum ws) full ++ drop j to)) n
+
+-- a saved form is the one that its map and fields have: no other bytes are read
+first-bytes : (n : ℕ) (bs : List ℕ) → Bytes bs → Bytes (take n bs)
+first-bytes zero bs h i = omega arith
+first-bytes (suc n) [] h i = h i
+first-bytes (suc n) (b ∷ bs) h zero = h 0
+first-bytes (suc n) (b ∷ bs) h (suc i) = first-bytes n bs (λ j. h (suc j)) i
+
+pub one-form : (rs : List Row) (bs : List ℕ) (fs : List (List ℕ)) → Bytes bs → 2 ≤ length bs → parsed rs bs ≡ fields fs → bs ≡ packed (mapIn bs) fs
+unfolding packed mapIn
+one-form rs bs fs h l e =
+    let o = parse-only rs (mapIn bs) (drop 2 bs) fs (sym (parsed-long rs bs l) ∙ e) in
+    let n : length (take 2 bs) ≡ 2 = length-take-le 2 bs l in
+    sym (take-append-drop 2 bs)
+    ∙ ap₂ (λ (p q : List ℕ). p ++ q) (sym (bytes-back (take 2 bs) (first-bytes 2 bs h)) ∙ ap (λ (k : ℕ). low k (number (take 2 bs))) n) (o .bytes)

@@ -13,7 +13,7 @@ use Rattle.form.proofs.TableLaws.{row-at, sum-at}
 use Rattle.form.specs.Bytes.{allZero}
 use Rattle.form.specs.Form.{Row, rowsOf, sum, joined, odd, mayStand, Parsed, before, parse, mapIn, parsed, read, readFields, unpackInto}
 use Rattle.form.specs.Form.Parsed.{fields, broken}
-use Rattle.form.specs.FormSteps.{rowOf, stepOf, whole, standingSum, fieldsIn}
+use Rattle.form.specs.FormSteps.{rowOf, fieldStep, whole, standingSum, fieldsIn}
 use Rattle.form.specs.declared.unpack.Step.{Step}
 
 -- ---- whether a field may stand
@@ -41,16 +41,16 @@ stand-within r bs e = leb-true _ _ (and-left _ _ e)
 abbrev stepped : Bool → ℕ → Step
 stepped b n = record { ok = b; at = n }
 
-pub step-taken : (on : Bool) (r : Row) (at : ℕ) (bs : List ℕ) → on ≡ true → mayStand r bs ≡ true → stepped true (at + r .bytes) ≡ stepOf on r at bs
-unfolding stepOf
+pub step-taken : (on : Bool) (r : Row) (at : ℕ) (bs : List ℕ) → on ≡ true → mayStand r bs ≡ true → stepped true (at + r .bytes) ≡ fieldStep on r at bs
+unfolding fieldStep
 step-taken on r at bs e h = sym (ap₂ (λ (a b : Bool). cond a (cond b (stepped true (at + r .bytes)) (stepped false at)) (stepped true at)) e h)
 
-pub step-bad : (on : Bool) (r : Row) (at : ℕ) (bs : List ℕ) → on ≡ true → mayStand r bs ≡ false → stepped false at ≡ stepOf on r at bs
-unfolding stepOf
+pub step-bad : (on : Bool) (r : Row) (at : ℕ) (bs : List ℕ) → on ≡ true → mayStand r bs ≡ false → stepped false at ≡ fieldStep on r at bs
+unfolding fieldStep
 step-bad on r at bs e h = sym (ap₂ (λ (a b : Bool). cond a (cond b (stepped true (at + r .bytes)) (stepped false at)) (stepped true at)) e h)
 
-pub step-left : (on : Bool) (r : Row) (at : ℕ) (bs : List ℕ) → on ≡ false → stepped true at ≡ stepOf on r at bs
-unfolding stepOf
+pub step-left : (on : Bool) (r : Row) (at : ℕ) (bs : List ℕ) → on ≡ false → stepped true at ≡ fieldStep on r at bs
+unfolding fieldStep
 step-left on r at bs e = sym (ap (λ (a : Bool). cond a (cond (mayStand r bs) (stepped true (at + r .bytes)) (stepped false at)) (stepped true at)) e)
 
 -- ---- the rows from one on
@@ -94,26 +94,26 @@ at-small true false w at n h g = h
 at-small false may w at n h g = h
 
 module _ (ws : List ℕ) (zs : List Bool) (bytes : List ℕ) (k rest at : ℕ) (z : Bool) (s : Step) (h : k < length ws) (b : at ≤ length bytes)
-    (e : s ≡ stepOf (odd rest) (rowOf (getD ws k 0) z) at (drop at bytes)) (m : z ≡ getD zs k false) where
+    (e : s ≡ fieldStep (odd rest) (rowOf (getD ws k 0) z) at (drop at bytes)) (m : z ≡ getD zs k false) where
   abbrev row : Row
   row = rowOf (getD ws k 0) (getD zs k false)
 
-  own : s ≡ stepOf (odd rest) row at (drop at bytes)
-  own = e ∙ ap (λ (y : Bool). stepOf (odd rest) (rowOf (getD ws k 0) y) at (drop at bytes)) m
+  own : s ≡ fieldStep (odd rest) row at (drop at bytes)
+  own = e ∙ ap (λ (y : Bool). fieldStep (odd rest) (rowOf (getD ws k 0) y) at (drop at bytes)) m
 
   good : s .ok ≡ cond (odd rest) (cond (mayStand row (drop at bytes)) true false) true
-  unfolding stepOf
+  unfolding fieldStep
   good = ap (λ (t : Step). t .ok) own ∙ ok-is (odd rest) (mayStand row (drop at bytes)) _ at
 
   pub on-within : s .at ≤ length bytes
-  unfolding stepOf
+  unfolding fieldStep
   on-within =
       subst (λ (t : Step). t .at ≤ length bytes) (sym own)
       (at-small (odd rest) (mayStand row (drop at bytes)) (getD ws k 0) at (length bytes) b (λ t. omega (arith, stand-within row (drop at bytes) t, length-drop at bytes)))
 
   pub form-on : s .ok ≡ true → whole (parse (rowsOf (drop k ws) (drop k zs)) rest (drop at bytes))
       ≡ whole (parse (rowsOf (drop (k + 1) ws) (drop (k + 1) zs)) (rest / 2) (drop (s .at) bytes))
-  unfolding parse stepOf
+  unfolding parse fieldStep
   form-on t =
       let g = sym good ∙ t in
       ap (λ (rs : List Row). whole (parse rs rest (drop at bytes))) (rows-at ws zs k h)

@@ -11,9 +11,9 @@ use lib.Seq.{drop-cons, sets-eq}
 use lib.Dec.{leb}
 use borrow.Author.Tests.{le-leb, lt-leb}
 use Rattle.form.proofs.ByteLaws.{low-length, store-room}
-use Rattle.form.proofs.Filling.{Filling, begins, goes-on, ends, part-on, part-long, part-least, past-least}
-use Rattle.form.specs.Bytes.{low, allZero, Lent, lent, store}
-use Rattle.form.specs.Form.{sum, cut, odd, bit, mapOf, standing, packed, written, packInto}
+use Rattle.form.proofs.Filling.{Filling, begins, goes-on, ends, part-on, part-least, past-least}
+use Rattle.form.specs.Bytes.{low, allZero, Leaves, leaves, store}
+use Rattle.form.specs.Form.{sum, cut, odd, bit, mapOf, standing, packed, wrote, packInto}
 
 pub row-at : (ws : List ℕ) (k : ℕ) → k < length ws → drop k ws ≡ getD ws k 0 ∷ drop (k + 1) ws
 row-at ws k h = drop-cons ws k 0 h ∙ ap (λ (j : ℕ). getD ws k 0 ∷ drop j ws) (sym (add-one k))
@@ -132,20 +132,20 @@ pub packed-length : (m : ℕ) (fs : List (List ℕ)) → length (packed m fs) �
 unfolding packed
 packed-length m fs = omega (arith, length-append (low 2 m) (standing m fs), low-length 2 m)
 
-pub pack-short : (bs out : List ℕ) (n : ℕ) → n ≡ length bs → length out < n → written n out ≡ packInto bs out
+pub pack-short : (bs out : List ℕ) (n : ℕ) → n ≡ length bs → length out < n → wrote n out ≡ packInto bs out
 unfolding packInto
 pack-short bs out n e h =
     let g : length out < length bs = omega (arith, e, h) in
-    ap₂ written e (sym (ap (λ (b : Bool). cond b (bs ++ drop (length bs) out) out) (lt-leb _ _ g)))
+    ap₂ wrote e (sym (ap (λ (b : Bool). cond b (bs ++ drop (length bs) out) out) (lt-leb _ _ g)))
 
-pub pack-room : (bs out out′ : List ℕ) (n : ℕ) → n ≡ length bs → n ≤ length out → out′ ≡ bs ++ drop (length bs) out → written n out′ ≡ packInto bs out
+pub pack-room : (bs out out′ : List ℕ) (n : ℕ) → n ≡ length bs → n ≤ length out → out′ ≡ bs ++ drop (length bs) out → wrote n out′ ≡ packInto bs out
 unfolding packInto
 pack-room bs out out′ n e h q =
     let g : length bs ≤ length out = omega (arith, e, h) in
-    ap₂ written e (q ∙ sym (ap (λ (b : Bool). cond b (bs ++ drop (length bs) out) out) (le-leb _ _ g)))
+    ap₂ wrote e (q ∙ sym (ap (λ (b : Bool). cond b (bs ++ drop (length bs) out) out) (le-leb _ _ g)))
 
 -- the map's two bytes, then what stands
-module _ (m n : ℕ) (fs : List (List ℕ)) (out out′ p : List ℕ) (r : Bool) (q : n ≡ length (packed m fs)) (h : n ≤ length out) (e : lent r out′ ≡ store (low 2 m) out) where
+module _ (m n : ℕ) (fs : List (List ℕ)) (out out′ p : List ℕ) (r : Bool) (q : n ≡ length (packed m fs)) (h : n ≤ length out) (e : leaves r out′ ≡ store (low 2 m) out) where
   map-put : Filling out′ out (packed m fs) 2 (standing m fs)
   unfolding packed
   map-put =
@@ -153,15 +153,9 @@ module _ (m n : ℕ) (fs : List (List ℕ)) (out out′ p : List ℕ) (r : Bool)
       let i : 0 + length (low 2 m) ≤ length out = omega (arith, k) in
       let j : 0 + length (low 2 m) ≡ length (low 2 m) = omega arith in
       goes-on out′ 2 (low 2 m) (standing m fs) (begins out (packed m fs) (packed m fs) refl) refl
-      (ap (λ (l : Lent ℕ). l .list) (e ∙ store-room (low 2 m) out k) ∙ sym (sets-eq (low 2 m) out 0 i ∙ ap (λ (z : ℕ). low 2 m ++ drop z out) j)) (sym (ap (λ (z : ℕ). 0 + z) (low-length 2 m)))
+      (ap (λ (l : Leaves ℕ). l .list) (e ∙ store-room (low 2 m) out k) ∙ sym (sets-eq (low 2 m) out 0 i ∙ ap (λ (z : ℕ). low 2 m ++ drop z out) j)) (sym (ap (λ (z : ℕ). 0 + z) (low-length 2 m)))
 
-  pub pack-part : length (standing m fs) ≡ length (take (n - 2) (drop 2 out′))
-  pack-part = sym (part-long out′ 2 n (omega (arith, q, packed-length m fs)) (omega (arith, h, map-put .same)) ∙ omega (arith, q, packed-length m fs))
-
-  pub pack-same : length out′ ≡ length out
-  pack-same = map-put .same
-
-  pub pack-done : p ≡ standing m fs → written n (take 2 out′ ++ (p ++ drop (n - 2) (drop 2 out′))) ≡ packInto (packed m fs) out
+  pub pack-done : p ≡ standing m fs → wrote n (take 2 out′ ++ (p ++ drop (n - 2) (drop 2 out′))) ≡ packInto (packed m fs) out
   pack-done d =
       pack-room (packed m fs) out _ n q h
       (ends (part-on p (standing m fs) [] n n map-put (sym (append-nil (standing m fs))) d (omega (arith, q, packed-length m fs)) (omega (arith, h, map-put .same)) refl) refl (omega (arith, q, h)))

@@ -35,7 +35,7 @@ wordBytes = eachBytes (λ (w : ℕ). w)
 abbrev pub wordsFrom : ℕ → List ℕ → List ℕ
 wordsFrom = eachFrom (λ (w : ℕ). w)
 
--- floats by their bits; `toBits` has one pattern for NaN, 7ff8000000000000, and `ofBits` reads NaN from every pattern of one
+-- floats by their bits: `toBits` has one pattern for NaN, 7ff8000000000000, and `ofBits` reads NaN from all of them
 abbrev pub floatBytes : List Float → List ℕ
 floatBytes = eachBytes (toBits binary64)
 
@@ -43,23 +43,23 @@ abbrev pub floatsFrom : ℕ → List ℕ → List Float
 floatsFrom = eachFrom (ofBits binary64)
 
 -- what a call leaves in the list lent to it, and whether there was room
-pub record Lent (A : Type 0) : Type 0 where
+pub record Leaves (A : Type 0) : Type 0 where
   pub ok : Bool
   pub list : List A
 
-abbrev pub lent : {A : Type 0} → Bool → List A → Lent A
-lent b l = record { ok = b; list = l }
+abbrev pub leaves : {A : Type 0} → Bool → List A → Leaves A
+leaves b l = record { ok = b; list = l }
 
 -- bytes go to the front of an output and the rest stays; where they have no room, all of it stays
-unfoldable pub store : List ℕ → List ℕ → Lent ℕ
-store bs out = cond (leb (length bs) (length out)) (lent true (bs ++ drop (length bs) out)) (lent false out)
+unfoldable pub store : List ℕ → List ℕ → Leaves ℕ
+store bs out = cond (leb (length bs) (length out)) (leaves true (bs ++ drop (length bs) out)) (leaves false out)
 
 -- a list is filled from the front of bytes; where these are too few, it stays
-unfoldable pub fillEach : {A : Type 0} → (ℕ → A) → List ℕ → List A → Lent A
-fillEach g bs xs = cond (leb (8 * length xs) (length bs)) (lent true (eachFrom g (length xs) bs)) (lent false xs)
+unfoldable pub fillEach : {A : Type 0} → (ℕ → A) → List ℕ → List A → Leaves A
+fillEach g bs xs = cond (leb (8 * length xs) (length bs)) (leaves true (eachFrom g (length xs) bs)) (leaves false xs)
 
-abbrev pub fillWords : List ℕ → List ℕ → Lent ℕ
+abbrev pub fillWords : List ℕ → List ℕ → Leaves ℕ
 fillWords = fillEach (λ (w : ℕ). w)
 
-abbrev pub fillFloats : List ℕ → List Float → Lent Float
+abbrev pub fillFloats : List ℕ → List Float → Leaves Float
 fillFloats = fillEach (ofBits binary64)

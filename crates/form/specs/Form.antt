@@ -1,5 +1,5 @@
--- Document 02, order 1: the saved form. A map of two bytes, then the fields whose bit stands, in bit order; for any table of fields.
--- Orders 3, 6 and 8 add rows. Assumes nothing.
+-- Document 02, order 1: the saved form, for any table of fields: a map of two bytes, then the fields whose bit stands,
+-- in bit order. Orders 3, 6 and 8 add rows; order 6 has one that stands at zero too. Assumes nothing.
 use mathlib.Core.Bool.{Bool, true, false, not, cond, _&&_, _||_}
 use mathlib.Core.List.{List, [], _∷_, _++_}
 use Prim.Native.Nat.{ℕ, _+_, _*_, _/_, _%_}
@@ -17,7 +17,7 @@ unfoldable pub rowsOf : List ℕ → List Bool → List Row
 rowsOf [] zs = []
 rowsOf (w ∷ ws) zs = record { bytes = w; zeros = getD zs 0 false } ∷ rowsOf ws (drop 1 zs)
 
--- the bytes of all fields, and the fields of bytes that lie end to end
+-- the fields lie end to end: how many bytes all of them have, the fields cut apart, and joined again
 unfoldable pub sum : List ℕ → ℕ
 sum [] = 0
 sum (w ∷ ws) = w + sum ws
@@ -57,15 +57,15 @@ unfoldable pub packed : ℕ → List (List ℕ) → List ℕ
 packed m fs = low 2 m ++ standing m fs
 
 -- what is written: the form's length, and the output with the form at its front; one that is too short stays as it is
-pub record Written : Type 0 where
+pub record Wrote : Type 0 where
   pub length : ℕ
   pub out : List ℕ
 
-abbrev pub written : ℕ → List ℕ → Written
-written n l = record { length = n; out = l }
+abbrev pub wrote : ℕ → List ℕ → Wrote
+wrote n l = record { length = n; out = l }
 
-unfoldable pub packInto : List ℕ → List ℕ → Written
-packInto bs out = written (length bs) (cond (leb (length bs) (length out)) (bs ++ drop (length bs) out) out)
+unfoldable pub packInto : List ℕ → List ℕ → Wrote
+packInto bs out = wrote (length bs) (cond (leb (length bs) (length out)) (bs ++ drop (length bs) out) out)
 
 -- ---- reading
 
@@ -97,8 +97,8 @@ mapIn bs = number (take 2 bs)
 unfoldable pub parsed : List Row → List ℕ → Parsed
 parsed rs bs = cond (ltb (length bs) 2) broken (parse rs (mapIn bs) (drop 2 bs))
 
--- what is read: the map, and the fields end to end at the front of the lent bytes; where there is no saved form, or no room for its
--- fields, the lent bytes stay
+-- what is read: the map, and the fields end to end at the front of the lent bytes; where there is no saved form, or no
+-- room for its fields, the lent bytes stay
 pub record Read : Type 0 where
   pub ok : Bool
   pub map : ℕ
@@ -112,4 +112,5 @@ readFields (fields fs) m full = read true m (joined fs ++ drop (length (joined f
 readFields broken m full = read false 0 full
 
 unfoldable pub unpackInto : List ℕ → List Bool → List ℕ → List ℕ → Read
-unpackInto ws zs bs full = cond (leb (sum ws) (length full)) (readFields (parsed (rowsOf ws zs) bs) (mapIn bs) full) (read false 0 full)
+unpackInto ws zs bs full =
+    cond (leb (sum ws) (length full)) (readFields (parsed (rowsOf ws zs) bs) (mapIn bs) full) (read false 0 full)

@@ -11,8 +11,11 @@ abbrev pub rowOf : ℕ → Bool → Row
 rowOf w z = record { bytes = w; zeros = z }
 
 -- one field: whether it is as it must be, and the place after it
-unfoldable pub stepOf : Bool → Row → ℕ → List ℕ → Step
-stepOf on r at bs = cond on (cond (mayStand r bs) (record { ok = true; at = at + r .bytes }) (record { ok = false; at = at })) (record { ok = true; at = at })
+unfoldable pub fieldStep : Bool → Row → ℕ → List ℕ → Step
+fieldStep on r at bs =
+    cond on
+    (cond (mayStand r bs) (record { ok = true; at = at + r .bytes }) (record { ok = false; at = at }))
+    (record { ok = true; at = at })
 
 -- whether there is a saved form
 abbrev pub whole : Parsed → Bool
@@ -27,4 +30,5 @@ standingSum (w ∷ ws) m = cond (odd m) w 0 + standingSum ws (m / 2)
 -- the fields, where the bytes are a saved form
 unfoldable pub fieldsIn : List ℕ → ℕ → List ℕ → List (List ℕ)
 fieldsIn [] m bs = []
-fieldsIn (w ∷ ws) m bs = cond (odd m) (take w bs) (replicate w 0) ∷ fieldsIn ws (m / 2) (cond (odd m) (drop w bs) bs)
+fieldsIn (w ∷ ws) m bs =
+    cond (odd m) (take w bs) (replicate w 0) ∷ fieldsIn ws (m / 2) (cond (odd m) (drop w bs) bs)

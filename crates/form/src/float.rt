@@ -1,7 +1,7 @@
 // Floats as bytes: their IEEE bits, the low byte first, with one pattern for every NaN.
 ghost use mathlib.Core.Path.{_≡_};
 ghost use lib.Ieee.{binary64, toBits, ofBits};
-ghost use Rattle.form.specs.Bytes.{floatBytes, lent, store, fillFloats};
+ghost use Rattle.form.specs.Bytes.{floatBytes, leaves, store, fillFloats};
 use crate::number;
 
 // The bits of a float; `to_bits` is left open at NaN.
@@ -26,7 +26,7 @@ fn of_bits(bits: u64) -> f64
 
 // Floats go to the front of the output, eight bytes each; whether they have room.
 pub fn put_floats(floats: &[f64], out: &mut [u8]) -> bool
-    ensures { λ r. ⌜ lent r (now (out .exit)) ≡ store (floatBytes (now (floats .entry))) (now (out .entry)) ⌝ }
+    ensures { λ r. ⌜ leaves r (now (out .exit)) ≡ store (floatBytes (now (floats .entry))) (now (out .entry)) ⌝ }
 {
     if out.len() / 8 < floats.len() {
         return false;
@@ -42,7 +42,7 @@ pub fn put_floats(floats: &[f64], out: &mut [u8]) -> bool
 
 // Floats are read from the front of the bytes; whether these are enough.
 pub fn read_floats(bytes: &[u8], floats: &mut [f64]) -> bool
-    ensures { λ r. ⌜ lent r (now (floats .exit)) ≡ fillFloats (now (bytes .entry)) (now (floats .entry)) ⌝ }
+    ensures { λ r. ⌜ leaves r (now (floats .exit)) ≡ fillFloats (now (bytes .entry)) (now (floats .entry)) ⌝ }
 {
     if bytes.len() / 8 < floats.len() {
         return false;

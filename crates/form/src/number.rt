@@ -2,7 +2,7 @@
 ghost use mathlib.Core.Path.{_≡_};
 ghost use Prim.Native.Nat.{_^_, _≤_, _<_, min};
 ghost use lib.ListN.{length, take, drop};
-ghost use Rattle.form.specs.Bytes.{low, number, allZero, wordBytes, lent, store, fillWords};
+ghost use Rattle.form.specs.Bytes.{low, number, allZero, wordBytes, leaves, store, fillWords};
 
 // The smaller of two.
 pub(crate) fn least(a: usize, b: usize) -> usize
@@ -37,7 +37,7 @@ pub fn all_zero(bytes: &[u8]) -> bool
 
 // The k low bytes of v go to the front of the output; whether they have room.
 pub fn put_number(v: u64, k: usize, out: &mut [u8]) -> bool
-    ensures { λ r. ⌜ lent r (now (out .exit)) ≡ store (low k v) (now (out .entry)) ⌝ }
+    ensures { λ r. ⌜ leaves r (now (out .exit)) ≡ store (low k v) (now (out .entry)) ⌝ }
 {
     if out.len() < k {
         return false;
@@ -80,7 +80,7 @@ pub fn number_at(bytes: &[u8], at: usize, k: usize) -> u64
 
 // Words go to the front of the output, eight bytes each; whether they have room.
 pub fn put_words(words: &[u64], out: &mut [u8]) -> bool
-    ensures { λ r. ⌜ lent r (now (out .exit)) ≡ store (wordBytes (now (words .entry))) (now (out .entry)) ⌝ }
+    ensures { λ r. ⌜ leaves r (now (out .exit)) ≡ store (wordBytes (now (words .entry))) (now (out .entry)) ⌝ }
 {
     if out.len() / 8 < words.len() {
         return false;
@@ -95,7 +95,7 @@ pub fn put_words(words: &[u64], out: &mut [u8]) -> bool
 
 // Words are read from the front of the bytes; whether these are enough.
 pub fn read_words(bytes: &[u8], words: &mut [u64]) -> bool
-    ensures { λ r. ⌜ lent r (now (words .exit)) ≡ fillWords (now (bytes .entry)) (now (words .entry)) ⌝ }
+    ensures { λ r. ⌜ leaves r (now (words .exit)) ≡ fillWords (now (bytes .entry)) (now (words .entry)) ⌝ }
 {
     if bytes.len() / 8 < words.len() {
         return false;

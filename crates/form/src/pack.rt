@@ -5,7 +5,7 @@ ghost use mathlib.Core.List.{[]};
 ghost use Prim.Native.Nat.{_+_, _≤_};
 ghost use lib.ListN.{length};
 ghost use lib.Seq.{sets};
-ghost use Rattle.form.specs.Form.{cut, standing, packed, written, packInto};
+ghost use Rattle.form.specs.Form.{cut, standing, packed, wrote, packInto};
 use crate::number;
 use crate::table;
 
@@ -22,7 +22,8 @@ fn shown(stands: bool, n: usize) -> usize
 // The length of the fields that stand.
 fn standing_length(widths: &[usize], full: &[u8], map: u64) -> usize
     ensures { λ r. ⌜
-        (r ≡ length (standing map (cut (now (widths .entry)) (now (full .entry))))) × (r ≤ length (now (full .entry)))
+        (r ≡ length (standing map (cut (now (widths .entry)) (now (full .entry)))))
+        × (r ≤ length (now (full .entry)))
         ⌝ }
 {
     let mut rest = map;
@@ -89,7 +90,7 @@ fn put_standing(widths: &[usize], full: &[u8], map: u64, out: &mut [u8])
 // output that is shorter stays as it is.
 pub fn pack(widths: &[usize], full: &[u8], map: u16, out: &mut [u8]) -> usize
     ensures { λ r. ⌜
-        written r (now (out .exit))
+        wrote r (now (out .exit))
         ≡ packInto (packed map (cut (now (widths .entry)) (now (full .entry)))) (now (out .entry))
         ⌝ }
 {

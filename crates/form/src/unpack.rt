@@ -5,7 +5,7 @@ ghost use mathlib.Core.List.{_++_};
 ghost use Prim.Native.Nat.{_+_, _≤_};
 ghost use lib.ListN.{length, getD, take, drop, replicate};
 ghost use Rattle.form.specs.Form.{sum, joined, rowsOf, mayStand, parse, read, unpackInto};
-ghost use Rattle.form.specs.FormSteps.{rowOf, stepOf, whole, standingSum, fieldsIn};
+ghost use Rattle.form.specs.FormSteps.{rowOf, fieldStep, whole, standingSum, fieldsIn};
 use crate::number;
 use crate::pack;
 use crate::table;
@@ -50,7 +50,7 @@ fn may_stand(bytes: &[u8], at: usize, w: usize, zeros: bool) -> bool
 // One field, whose bit stands or not.
 fn one_field(stands: bool, bytes: &[u8], at: usize, w: usize, zeros: bool) -> Step
     requires { ⌜ at ≤ length (now bytes) ⌝ }
-    ensures { λ r. ⌜ r ≡ stepOf stands (rowOf w zeros) at (drop at (now (bytes .entry))) ⌝ }
+    ensures { λ r. ⌜ r ≡ fieldStep stands (rowOf w zeros) at (drop at (now (bytes .entry))) ⌝ }
 {
     if stands {
         if may_stand(bytes, at, w, zeros) {
