@@ -11,7 +11,7 @@ use lib.Seq.{take-take, take-length}
 use lib.Ieee.{Float}
 use borrow.Author.Tests.{ltb-false, leb-true}
 use Rattle.course.specs.Constants.{maxAttempts}
-use Rattle.course.specs.Lengths.{mostNumbers, offsetCount, mostPoints}
+use Rattle.course.specs.Lengths.{mostPoints, columnLength, quadNumbers, offsetCount}
 use Rattle.course.specs.Course.{cellsOf}
 use Rattle.course.specs.Lent as course
 use Rattle.course.specs.Lent.{Outcome, layInto, laidFigures, laidAnswer, laidCauseOf, laidValuesOf}
@@ -22,7 +22,7 @@ use Rattle.course.specs.declared.points.LaidCourse.{LaidCourse}
 use Rattle.course.specs.declared.points.Laid.the-variants.{Course as Made, Short, Refused as NotLaid}
 use Rattle.course.proofs.BoolLaws.{and-left, and-right, or-no}
 use Rattle.course.proofs.CourseSizes.{course-sized}
-use Rattle.course.proofs.LayLaws.{roomy, lay-cause, lay-course}
+use Rattle.course.proofs.LayLaws.{roomy, lay-cause, lay-columns}
 use Rattle.run.specs.Arguments.{settingsOk, shortColumns}
 use Rattle.run.specs.Widths.{fullWords, mostTiles}
 use Rattle.run.specs.State.{State, Columns, columns, shortOf, unfit}
@@ -41,7 +41,7 @@ use Rattle.certificate.specs.ReplaySteps.{lentTo, callFrom, callsTo}
 use Rattle.certificate.specs.Batch.{toldFrom, toldsTo, plainStart, plainAnswers, sheetOn, plainSheet, laidCourse, replayOn, roomFor, replayOf}
 use Rattle.run.specs.declared.start.StartAnswer.{StartAnswer}
 use Rattle.run.specs.declared.sheet.SheetAnswer.{SheetAnswer}
-use Rattle.certificate.proofs.LentColumns.{laid-whole, count}
+use Rattle.certificate.proofs.LentColumns.{laid-whole, count, ownLength}
 use Rattle.certificate.proofs.Simulation.{Holds, stateOf, fits-state}
 use Rattle.certificate.proofs.Certificate.{zeros-stay, zeros-after, replies-are, after-is, begins, start-same, start-accepted, lent-holds, no-cause}
 
@@ -60,31 +60,31 @@ module _ (o : Outcome) where
   abbrev pub columnsOf : Columns
   columnsOf = columns (o .lent .tiles) (o .lent .offsets) (o .lent .list)
 
-  short-is : (l : Columns) (e : shortOf l ≡ true) → lentBy o (short l e) ≡ l
+  short-is : (t : ℕ) (l : Columns) (e : shortOf t l ≡ true) → lentBy {n = t} o (short l e) ≡ l
   unfolding lentBy
-  short-is l e = refl
+  short-is t l e = refl
 
-  laid-is : (kt ko : ℕ) → shortOf (lentTo columnsOf kt ko) ≡ false
-      → lentBy o (laid (drop mostNumbers (take kt (o .lent .tiles))) (drop offsetCount (take ko (o .lent .offsets))) (drop (laidValuesOf (o .answer) .entries) (o .lent .list))) ≡ lentTo columnsOf kt ko
+  laid-is : (t kt ko : ℕ) → shortOf t (lentTo columnsOf kt ko) ≡ false
+      → lentBy {n = t} o (laid (drop (quadNumbers (columnLength t)) (take kt (o .lent .tiles))) (drop offsetCount (take ko (o .lent .offsets))) (drop (laidValuesOf (o .answer) .entries) (o .lent .list))) ≡ lentTo columnsOf kt ko
   unfolding lentBy lentTo shortOf shortColumns
-  laid-is kt ko e =
-      let p = or-no (ltb (length (take kt (o .lent .tiles))) mostNumbers) (ltb (length (take ko (o .lent .offsets))) offsetCount) e in
-      λ i. columns (front-of mostNumbers kt (o .lent .tiles) (ltb-false _ _ (p .0)) i) (front-of offsetCount ko (o .lent .offsets) (ltb-false _ _ (p .1)) i)
+  laid-is t kt ko e =
+      let p = or-no (ltb (length (take kt (o .lent .tiles))) (quadNumbers (columnLength t))) (ltb (length (take ko (o .lent .offsets))) offsetCount) e in
+      λ i. columns (front-of (quadNumbers (columnLength t)) kt (o .lent .tiles) (ltb-false _ _ (p .0)) i) (front-of offsetCount ko (o .lent .offsets) (ltb-false _ _ (p .1)) i)
       (take-append-drop (laidValuesOf (o .answer) .entries) (o .lent .list) i)
 
-  -- parts of the laid columns are the course's with what stands beyond, or too short
-  parts : (kt ko : ℕ) → (by : Lending) × (lentBy o by ≡ lentTo columnsOf kt ko)
-  parts kt ko = go (shortOf (lentTo columnsOf kt ko)) refl
+  -- parts of the laid columns, lent with a course of t points, are the course's with what stands beyond, or too short
+  parts : (t kt ko : ℕ) → (by : Lending t) × (lentBy o by ≡ lentTo columnsOf kt ko)
+  parts t kt ko = go (shortOf t (lentTo columnsOf kt ko)) refl
     where
-      go : (b : Bool) → shortOf (lentTo columnsOf kt ko) ≡ b → (by : Lending) × (lentBy o by ≡ lentTo columnsOf kt ko)
-      go true e = (short (lentTo columnsOf kt ko) e, short-is (lentTo columnsOf kt ko) e)
+      go : (b : Bool) → shortOf t (lentTo columnsOf kt ko) ≡ b → (by : Lending t) × (lentBy o by ≡ lentTo columnsOf kt ko)
+      go true e = (short (lentTo columnsOf kt ko) e, short-is t (lentTo columnsOf kt ko) e)
       go false e = (
-        laid (drop mostNumbers (take kt (o .lent .tiles))) (drop offsetCount (take ko (o .lent .offsets))) (drop (laidValuesOf (o .answer) .entries) (o .lent .list)),
-        laid-is kt ko e,
+        laid (drop (quadNumbers (columnLength t)) (take kt (o .lent .tiles))) (drop offsetCount (take ko (o .lent .offsets))) (drop (laidValuesOf (o .answer) .entries) (o .lent .list)),
+        laid-is t kt ko e,
       )
 
   -- the lengths that the plain scorer is told
-  module _ (k : Lengths) (same-tiles : length (o .lent .tiles) ≡ k .tiles) (same-offsets : length (o .lent .offsets) ≡ k .offsets) where
+  module _ (t : ℕ) (k : Lengths) (same-tiles : length (o .lent .tiles) ≡ k .tiles) (same-offsets : length (o .lent .offsets) ≡ k .offsets) where
     lengths-are : (kt ko : ℕ) → lengthsOf (lentTo columnsOf kt ko) ≡ record { tiles = min kt (k .tiles); offsets = min ko (k .offsets) }
     unfolding lengthsOf lentTo
     lengths-are kt ko = λ i.
@@ -95,14 +95,14 @@ module _ (o : Outcome) where
 
     -- a call of the list, as grader and scorer meet it
     abbrev Meant : List ℕ → List Float → Type 0
-    Meant ws ns = (g : Given) × (callOf o g ≡ callFrom columnsOf ws ns) × (toldOf o g ≡ toldFrom k ws ns)
+    Meant ws ns = (g : Given t) × (callOf o g ≡ callFrom columnsOf ws ns) × (toldOf o g ≡ toldFrom k ws ns)
 
     meant : (ws : List ℕ) (ns : List Float) → Meant ws ns
     unfolding callOf toldOf callFrom toldFrom
     meant ws ns = go (eqb (getD ws 0 0) 0) refl
       where
-        by-parts : (by : Lending) × (lentBy o by ≡ lentTo columnsOf (getD ws 2 0) (getD ws 3 0))
-        by-parts = parts (getD ws 2 0) (getD ws 3 0)
+        by-parts : (by : Lending t) × (lentBy o by ≡ lentTo columnsOf (getD ws 2 0) (getD ws 3 0))
+        by-parts = parts t (getD ws 2 0) (getD ws 3 0)
 
         go : (b : Bool) → eqb (getD ws 0 0) 0 ≡ b → Meant ws ns
         go true e = (Given.drive (getD ws 1 0) (motionsFrom ns), sym (simp e), sym (simp e))
@@ -112,7 +112,7 @@ module _ (o : Outcome) where
           ap (λ (l : Lengths). Told.settle l (numberAt ns 0) (numberAt ns 1) (posesFrom ns)) (ap lengthsOf (by-parts .1) ∙ lengths-are (getD ws 2 0) (getD ws 3 0)) ∙ sym (simp e),
         )
 
-    pub all-meant : (ws : List ℕ) (ns : List Float) (n : ℕ) → (cs : List Given) × (callsOf o cs ≡ callsTo columnsOf ws ns n) × (toldsOf o cs ≡ toldsTo k ws ns n)
+    pub all-meant : (ws : List ℕ) (ns : List Float) (n : ℕ) → (cs : List (Given t)) × (callsOf o cs ≡ callsTo columnsOf ws ns n) × (toldsOf o cs ≡ toldsTo k ws ns n)
     unfolding callsTo toldsTo
     all-meant ws ns zero = ([], refl, refl)
     all-meant ws ns (suc n) =
@@ -175,11 +175,11 @@ module _ (b : Opening) (k : Lengths) (n : ℕ) (calls : List ℕ) (given : List 
 
   none-number : startNumber [] mostTiles k b ≡ cond (not (settingsOk (b .share) (b .limit))) 1 2
   unfolding startNumber
-  none-number = rw (or-true (shortColumns (k .tiles) (k .offsets)))
+  none-number = rw (or-true (shortColumns 0 (k .tiles) (k .offsets)))
 
   none-cause : (l : Columns) (fb : Bool) → startCause mostTiles l (settingsFor 0 fb b) ≡ cond (not (settingsOk (b .share) (b .limit))) 1 2
   unfolding startCause startShort
-  none-cause l fb = rw (or-true (shortOf l))
+  none-cause l fb = rw (or-true (shortOf 0 l))
 
   never-none : (p : Bool) → _≡_ {A = ℕ} (cond p 1 2) 0 → ⊥
   never-none true e = omega (arith, e)
@@ -202,7 +202,7 @@ module _ (b : Opening) (k : Lengths) (n : ℕ) (calls : List ℕ) (given : List 
   module _ (c : List TrackPoint) (some : 0 < length c) (fits : length c ≤ mostTiles) (fallback : Bool) (l : course.Lent)
       (whole : ltb (length (l .list)) (cellsOf c) ≡ false) where
     abbrev o : Outcome
-    o = layInto fallback c l
+    o = layInto (ownLength c) fallback c l
 
     abbrev room : mostTiles ≤ 64 * fullWords
     room = omega arith
@@ -210,21 +210,21 @@ module _ (b : Opening) (k : Lengths) (n : ℕ) (calls : List ℕ) (given : List 
     abbrev small : mostTiles ≤ mostPoints
     small = omega arith
 
-    holds : (by : Lending) → shortOf (lentBy o by) ≡ false → Holds fullWords mostTiles c room some fits (lentBy o by)
+    holds : (by : Lending (length c)) → shortOf (length c) (lentBy o by) ≡ false → Holds fullWords mostTiles c room some fits (lentBy o by)
     holds = lent-holds fullWords mostTiles c room some fits small fallback l whole
 
     counted : laidValuesOf (o .answer) .n ≡ length c
-    counted = count fallback c l whole fits
+    counted = count (ownLength c) fallback c l whole
 
     same-fallback : laidValuesOf (o .answer) .fallback ≡ fallback
     unfolding laidValuesOf laidAnswer laidFigures
-    same-fallback = ap (λ (x : Outcome). laidValuesOf (x .answer) .fallback) (laid-whole fallback c l whole fits)
+    same-fallback = ap (λ (x : Outcome). laidValuesOf (x .answer) .fallback) (laid-whole (ownLength c) fallback c l whole)
 
     -- the whole columns, as they are lent to start
-    whole-lent : (by : Lending) × (lentBy o by ≡ columnsOf o)
+    whole-lent : (by : Lending (length c)) × (lentBy o by ≡ columnsOf o)
     unfolding lentTo
     whole-lent =
-        let p = parts o (length (o .lent .tiles)) (length (o .lent .offsets)) in
+        let p = parts o (length c) (length (o .lent .tiles)) (length (o .lent .offsets)) in
         (p .0, p .1 ∙ (λ i. columns (take-length (o .lent .tiles) i) (take-length (o .lent .offsets) i) (o .lent .list)))
 
     figures : (h : History) → sheetIn (stateOf fullWords mostTiles c room some fits fallback h) ≡ sheetOn c fallback h
@@ -232,7 +232,7 @@ module _ (b : Opening) (k : Lengths) (n : ℕ) (calls : List ℕ) (given : List 
     figures h = rw (fits-state fullWords mostTiles c room some fits fallback h)
 
     module _ (same-tiles : length (o .lent .tiles) ≡ k .tiles) (same-offsets : length (o .lent .offsets) ≡ k .offsets) where
-      abbrev by : Lending
+      abbrev by : Lending (length c)
       by = whole-lent .0
 
       told-lengths : lengthsOf (lentBy o by) ≡ k
@@ -245,7 +245,7 @@ module _ (b : Opening) (k : Lengths) (n : ℕ) (calls : List ℕ) (given : List 
       unfolding plainStart plainAnswers plainSheet
       accepted-plain sa s e =
           let es = ap (λ (x : Begun). x .state) e in
-          let m = all-meant o k same-tiles same-offsets calls given n in
+          let m = all-meant o (length c) k same-tiles same-offsets calls given n in
           let first = begins fullWords mostTiles c room some fits o counted holds b in
           record {
             start = ap (λ (x : Begun). x .answer) e;
@@ -311,7 +311,7 @@ module _ (seed : ℕ) (l : course.Lent) (b : Opening) (n : ℕ) (calls : List �
       subst (λ (x : Outcome). length (x .lent .tiles) ≡ length (l .tiles) → length (x .lent .offsets) ≡ length (l .offsets)
       → begun sa s ≡ startOf fullWords mostTiles (columnsOf x) (settingsOn x (laidValuesOf (x .answer) .fallback) b)
       → Plain b lengths n calls given (startNumber (courseOf seed .points) mostTiles lengths b) (courseOf seed) (columnsOf x) sa s)
-      (sym (eo ∙ lay-course seed l (p .0)))
+      (sym (eo ∙ lay-columns seed l (p .0)))
       (λ t f e. course-plain b lengths n calls given (courseOf seed .points) (course-sized seed .some) (few-points seed) (courseOf seed .fallback) l (p .1) t f sa s e) et ef es
   replay-plain (suc j) q o eo et ef sa s es =
       no-course b lengths n calls given (columnsOf o) (laidValuesOf (o .answer) .fallback) sa s

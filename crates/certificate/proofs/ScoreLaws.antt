@@ -143,29 +143,29 @@ module _ (c : List TrackPoint) where
   ended-over h l = rw (lt-ltb 0 (settles h) l)
 
   -- ---- no call is refused by 10, and no settle by 6
-  drive-occurs : (k : ℕ) (h : History) (a : ℕ) (ms : List Motion) → not (eqb k 10) ≡ true → occurs (Given.drive a ms) (driveScore c k h a ms .answer) ≡ true
+  drive-occurs : (n k : ℕ) (h : History) (a : ℕ) (ms : List Motion) → not (eqb k 10) ≡ true → occurs {n = n} (Given.drive a ms) (driveScore c k h a ms .answer) ≡ true
   unfolding driveScore occurs
-  drive-occurs zero h a ms e = refl
-  drive-occurs (suc k) h a ms e = e
+  drive-occurs n zero h a ms e = refl
+  drive-occurs n (suc k) h a ms e = e
 
-  settle-occurs : (k : ℕ) (h : History) (g : Given) (x y : Float) (ps : List Pose) → (not (eqb k 10) && not (eqb k 6)) ≡ true
+  settle-occurs : {n : ℕ} (k : ℕ) (h : History) (g : Given n) (x y : Float) (ps : List Pose) → (not (eqb k 10) && not (eqb k 6)) ≡ true
       → ((r : Answer) → r ≡ refused k → occurs g r ≡ (not (eqb k 10) && not (eqb k 6))) → occurs g (settleScore c k h x y ps .answer) ≡ true
   unfolding settleScore occurs
   settle-occurs zero h g x y ps e f = refl
   settle-occurs (suc k) h g x y ps e f = f (refused (suc k)) refl ∙ e
 
-  one-occurs : (o : Outcome) (g : Given) (h : History) → occurs g (score c h (toldOf o g) .answer) ≡ true
+  one-occurs : {n : ℕ} (o : Outcome) (g : Given n) (h : History) → occurs g (score c h (toldOf o g) .answer) ≡ true
   unfolding score toldOf driveNumber settleNumber occurs
-  one-occurs o (Given.drive a ms) h =
-      drive-occurs (driveNumber c h a ms) h a ms
+  one-occurs {n} o (Given.drive a ms) h =
+      drive-occurs n (driveNumber c h a ms) h a ms
       (no-ten (ended c h) (ltb (settles h) (drives h)) (leb (opening h .limit) (settles h)) (ltb 4 a) (not (motionsOk ms)))
-  one-occurs o (Given.settle by x y ps) h =
+  one-occurs {n} o (Given.settle by x y ps) h =
       let l : Lengths = lengthsOf (lentBy o by) in
       settle-occurs (settleNumber c h l x y ps) h (Given.settle by x y ps) x y ps
-      (no-ten-six (ended c h) (not (ltb (settles h) (drives h))) (shortColumns (l .tiles) (l .offsets)) (not (placesOk x y ps)))
+      (no-ten-six (ended c h) (not (ltb (settles h) (drives h))) (shortColumns (length c) (l .tiles) (l .offsets)) (not (placesOk x y ps)))
       (λ r e. ap (occurs (Given.settle by x y ps)) e)
 
-  pub all-occur : (o : Outcome) (cs : List Given) (h : History) → allOccur cs (scores c h (toldsOf o cs)) ≡ true
+  pub all-occur : {n : ℕ} (o : Outcome) (cs : List (Given n)) (h : History) → allOccur cs (scores c h (toldsOf o cs)) ≡ true
   unfolding allOccur scores
   all-occur o [] h = refl
   all-occur o (g ∷ cs) h = both _ _ (one-occurs o g h) (all-occur o cs (score c h (toldOf o g) .kept))

@@ -172,7 +172,7 @@ module _ (m most : ℕ) (c : List TrackPoint) (room : most ≤ 64 * m) (some : 0
   drive-at fb h v a ms roads (suc k) e = refl
 
   -- ---- settle
-  settle-number : (fb : Bool) (h : History) → InTurn h → (l : Columns) (x y : Float) (ps : List Pose) → (shortOf l ≡ false → Holds l)
+  settle-number : (fb : Bool) (h : History) → InTurn h → (l : Columns) (x y : Float) (ps : List Pose) → (shortOf (length c) l ≡ false → Holds l)
       → settleCause most (setupOf (settingsFor (length c) fb (opening h))) (progressBy c h) l x y ps ≡ settleNumber c h (lengthsOf l) x y ps
   unfolding settleCause settleNumber shortOf lengthsOf setupOf
   settle-number fb h v l x y ps w =
@@ -180,7 +180,7 @@ module _ (m most : ℕ) (c : List TrackPoint) (room : most ≤ 64 * m) (some : 0
       (cond-else (ended c h) 4 _ _ (λ e₁.
       cond-else (not (ltb (settles h) (drives h))) 5 _ _ (λ e₂.
       cond-skip (leb (opening h .limit) (settles h)) 6 _ (lt-leb (opening h .limit) (settles h) (v .time (ltb-true _ _ (not-false _ e₂))))
-      ∙ cond-else (shortOf l) 2 _ _ (λ e₃.
+      ∙ cond-else (shortOf (length c) l) 2 _ _ (λ e₃.
       cond-else (not (placesOk x y ps)) 8 _ _ (λ e₄. cond-skip (not (soundPoses (l .offsets) (l .list) (length c) ps)) 10 0 (ap not (w e₃ .sound ps)))))))
 
   count-is : (h : History) (x y : Float) (ps : List Pose) → touchedCount c h + newTiles c h ps ≡ touchedCount c (thenSettle h x y ps)
@@ -233,9 +233,9 @@ module _ (m most : ℕ) (c : List TrackPoint) (room : most ≤ 64 * m) (some : 0
   settle-at fb h v l x y ps (suc k) w = refl
 
   -- an accepted settle was lent columns that are long enough
-  long-enough : (h : History) (l : Columns) (x y : Float) (ps : List Pose) → settleNumber c h (lengthsOf l) x y ps ≡ 0 → shortOf l ≡ false
+  long-enough : (h : History) (l : Columns) (x y : Float) (ps : List Pose) → settleNumber c h (lengthsOf l) x y ps ≡ 0 → shortOf (length c) l ≡ false
   unfolding settleNumber lengthsOf shortOf
-  long-enough h l x y ps e = cleared (shortOf l) 1 _ (cleared (not (ltb (settles h) (drives h))) 4 _ (cleared (ended c h) 3 _ e .1) .1) .0
+  long-enough h l x y ps e = cleared (shortOf (length c) l) 1 _ (cleared (not (ltb (settles h) (drives h))) 4 _ (cleared (ended c h) 3 _ e .1) .1) .0
 
   -- ---- one call
   -- the call as the plain scorer is told of it
@@ -246,7 +246,7 @@ module _ (m most : ℕ) (c : List TrackPoint) (room : most ≤ 64 * m) (some : 0
   -- a settle is lent the course, or too short a column
   abbrev pub Lent : Call → Type 0
   Lent (Call.drive a ms) = Unit
-  Lent (Call.settle l x y ps) = shortOf l ≡ false → Holds l
+  Lent (Call.settle l x y ps) = shortOf (length c) l ≡ false → Holds l
 
   pub reply-is : (fb : Bool) (h : History) → InTurn h → (g : Call) → Lent g → replyOf m most (stateOf fb h) g ≡ withState fb (score c h (toldBy g))
   unfolding replyOf score driveOf drivePartsOf settleOf settlePartsOf

@@ -2,13 +2,12 @@
 use mathlib.Core.Path.{_≡_, refl, ap, _∙_}
 use mathlib.Core.Bool.{true, false}
 use mathlib.Core.List.{List, [], _∷_, _++_, append-nil}
-use Prim.Native.Nat.{_-_}
 use native.Mathlib.Omega.{arith}
 use lib.Dec.{ltb}
-use lib.ListN.{length, replicate}
+use lib.ListN.{length}
 use lib.Ieee.{Float, ofInt, round, add, sub, mul, div, neg, lt, le, isNan, ofBits}
-use Rattle.course.specs.Arithmetic.{natural, decimal, nought}
-use Rattle.course.specs.Lengths.{mostNumbers}
+use Rattle.course.specs.Arithmetic.{natural, decimal}
+use Rattle.course.specs.Lengths.{quadNumbers, offsetCount}
 use Rattle.course.specs.Course.{fromPoints, cellsOf}
 use Rattle.course.specs.Lent.{Lent, Outcome, layInto}
 use Rattle.course.specs.Constants.{scale, playfield, trackWidth, gridCell, halfPi, f64Max, f64Min}
@@ -33,7 +32,7 @@ use Rattle.run.specs.State.{columns, shortOf}
 use Rattle.certificate.specs.Calls.{repliesOf}
 use Rattle.certificate.specs.Certificate.{Given, lentBy, lengthsOf, toldOf, callsOf, toldsOf, startOn}
 use Rattle.certificate.specs.Certificate.Lending.{laid, short}
-use Rattle.certificate.proofs.LentColumns.{tiles-few, own-long, offsets-long, lent-laid}
+use Rattle.certificate.proofs.LentColumns.{tiles-few, own-long, offsets-long, ownLength, zerosPast, lent-laid}
 use Rattle.certificate.proofs.Certificate.{laid-demand3}
 use Rattle.run.specs.declared.state.Pose.{Pose}
 
@@ -65,7 +64,7 @@ still =
     m ∷ m ∷ m ∷ m ∷ []
 
 abbrev enough : Lengths
-enough = record { tiles = 20000; offsets = 4490 }
+enough = record { tiles = quadNumbers (ownLength points); offsets = offsetCount }
 
 -- what the plain scorer is told: a settle out of turn, a drive, a settle with no columns, a settle on the strip, and a drive after the end
 abbrev told : List Told
@@ -89,21 +88,21 @@ unfolding touches touched newTiles lapDone meetsLap touchedCount over ended off 
 plain = refl
 
 -- the start beside the strip is accepted
-accepted : startNumber points 2500 enough beside ≡ 0
+accepted : startNumber points mostTiles enough beside ≡ 0
 unfolding touches touched newTiles lapDone meetsLap touchedCount over ended off opening settles drives lastPoses driveNumber settleNumber startNumber driveScore settleScore score scores anyBelow everyBelow howMany offField absOf shortColumns settingsOk posesOk poseOk inRange placesOk motionsOk motionOk touch someOf holds rectOf tileOf tilesTo eight tileAt tileQuad beforeOf boxCells quadOf wheelQuad placed size wheelW wheelR leastX leastY greatestX greatestY cellAt cellOf along overlapOf apartByEdges apartAlong apartOn leastOn greatestOn leastOf greatestOf minOf maxOf within cosineOf sineOf pick quarterOf restOf turnsOf wholeBelow floor cosinePoly sinePoly cosineTerms sineTerms horner minus plus factorial scale playfield trackWidth gridCell halfPi f64Max f64Min natural decimal ofInt round add sub mul div neg lt le isNan ofBits
 accepted = refl
 
-pub no-columns : shortOf (columns [] [] []) ≡ true
+pub no-columns : shortOf (length points) (columns [] [] []) ≡ true
 unfolding shortOf shortColumns
 no-columns = refl
 
 -- ---- the grader, lent the course of these points as it was laid into any columns with room for the list
 module _ (l : Lent) (whole : ltb (length (l .list)) (cellsOf points) ≡ false) where
   abbrev o : Outcome
-  o = layInto false points l
+  o = layInto (ownLength points) false points l
 
   -- the same calls: the first and the fourth are lent the course as laid, the third is lent nothing
-  abbrev pub given : List Given
+  abbrev pub given : List (Given (length points))
   given =
       Given.settle (laid [] [] []) (natural 0) (natural 10) on
       ∷ Given.drive 3 still
@@ -112,12 +111,12 @@ module _ (l : Lent) (whole : ltb (length (l .list)) (cellsOf points) ≡ false) 
       ∷ Given.drive 0 still
       ∷ []
 
-  lent-enough : lengthsOf (lentBy o (laid [] [] [])) ≡ enough
+  lent-enough : lengthsOf (lentBy {n = length points} o (laid [] [] [])) ≡ enough
   unfolding lengthsOf
   lent-enough =
       ap lengthsOf (lent-laid false points l whole (omega arith) [] [] [])
       ∙ (λ i. record {
-        tiles = (ap (λ (z : List Float). length (tilesOf points ++ z)) (append-nil (replicate (mostNumbers - length (tilesOf points)) nought)) ∙ own-long mostNumbers (tilesOf points) (tiles-few points (omega arith))) i;
+        tiles = (ap (λ (z : List Float). length (tilesOf points ++ z)) (append-nil (zerosPast points)) ∙ own-long (quadNumbers (ownLength points)) (tilesOf points) (tiles-few (ownLength points) points (omega arith))) i;
         offsets = (ap length (append-nil (fromPoints points .offsets)) ∙ offsets-long points) i;
       })
 
@@ -131,7 +130,7 @@ module _ (l : Lent) (whole : ltb (length (l .list)) (cellsOf points) ≡ false) 
       ∷ Told.drive 0 still
       ∷ []
 
-  pub graded : repliesOf fullWords mostTiles (startOn fullWords mostTiles o (laid [] [] []) false beside .state) (callsOf o given)
+  pub graded : repliesOf fullWords mostTiles (startOn {n = length points} fullWords mostTiles o (laid [] [] []) false beside .state) (callsOf o given)
       ≡ refused 5
       ∷ drove (passed points (thenDrive (begun beside) 3 still) .forces)
       ∷ refused 2

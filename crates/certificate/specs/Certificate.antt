@@ -8,7 +8,7 @@ use Prim.Native.Nat.{ℕ, _+_, _<_}
 use lib.Dec.{eqb, ltb}
 use lib.ListN.{length, take, replicate}
 use lib.Ieee.{Float}
-use Rattle.course.specs.Lengths.{mostNumbers, offsetCount}
+use Rattle.course.specs.Lengths.{laidLength, columnLength, quadNumbers, offsetCount}
 use Rattle.course.specs.Constants.{maxAttempts}
 use Rattle.course.specs.Course.{fromPoints, cellsOf}
 use Rattle.course.specs.Lent.{Lent, Outcome, outcome, roomyOf, written, laidFigures, laidAnswer, laidCauseOf, laidValuesOf}
@@ -30,39 +30,41 @@ use Rattle.run.specs.declared.dynamics.Motion.{Motion}
 
 -- ---- what the calls are lent
 
--- the tiles, offsets and all index entries that were laid, unaltered, with anything beyond them; or columns of which one is too short, whatever they hold
-pub data Lending : Type 0 where
-  laid : List Float → List ℕ → List ℕ → Lending
-  short : (l : Columns) → shortOf l ≡ true → Lending
+-- of a course of n points: the tiles, offsets and all index entries that were laid, unaltered, with anything beyond them; or columns of which one is
+-- too short, whatever they hold
+pub data Lending (n : ℕ) : Type 0 where
+  laid : List Float → List ℕ → List ℕ → Lending n
+  short : (l : Columns) → shortOf n l ≡ true → Lending n
 
 -- the columns of a lending, where `o` is what laying left and answered
-unfoldable pub lentBy : Outcome → Lending → Columns
-lentBy o (laid ts offs l) =
-    columns (take mostNumbers (o .lent .tiles) ++ ts) (take offsetCount (o .lent .offsets) ++ offs) (take (laidValuesOf (o .answer) .entries) (o .lent .list) ++ l)
-lentBy o (short l is) = l
+unfoldable pub lentBy : {n : ℕ} → Outcome → Lending n → Columns
+lentBy {n} o (laid ts offs l) =
+    columns (take (quadNumbers (columnLength n)) (o .lent .tiles) ++ ts) (take offsetCount (o .lent .offsets) ++ offs)
+    (take (laidValuesOf (o .answer) .entries) (o .lent .list) ++ l)
+lentBy {n} o (short l is) = l
 
 unfoldable pub lengthsOf : Columns → Lengths
 lengthsOf l = record { tiles = length (l .tiles); offsets = length (l .offsets) }
 
--- a call of the list, whatever action, motions, hull and poses it carries
-pub data Given : Type 0 where
-  drive : ℕ → List Motion → Given
-  settle : Lending → Float → Float → List Pose → Given
+-- a call of the list on a course of n points, whatever action, motions, hull and poses it carries
+pub data Given (n : ℕ) : Type 0 where
+  drive : ℕ → List Motion → Given n
+  settle : Lending n → Float → Float → List Pose → Given n
 
 -- as the grader gets it
-unfoldable pub callOf : Outcome → Given → Call
+unfoldable pub callOf : {n : ℕ} → Outcome → Given n → Call
 callOf o (drive a ms) = Call.drive a ms
 callOf o (settle by x y ps) = Call.settle (lentBy o by) x y ps
 
 -- as the plain scorer is told of it: of lent columns the lengths alone
-unfoldable pub toldOf : Outcome → Given → Told
+unfoldable pub toldOf : {n : ℕ} → Outcome → Given n → Told
 toldOf o (drive a ms) = Told.drive a ms
 toldOf o (settle by x y ps) = Told.settle (lengthsOf (lentBy o by)) x y ps
 
-abbrev pub callsOf : Outcome → List Given → List Call
+abbrev pub callsOf : {n : ℕ} → Outcome → List (Given n) → List Call
 callsOf o cs = map (callOf o) cs
 
-abbrev pub toldsOf : Outcome → List Given → List Told
+abbrev pub toldsOf : {n : ℕ} → Outcome → List (Given n) → List Told
 toldsOf o cs = map (toldOf o) cs
 
 -- ---- what a list of answers says
@@ -82,13 +84,13 @@ endedBy before (settled v ∷ r) = endedBy (v .ended) r
 endedBy before (refused k ∷ r) = endedBy before r
 
 -- an answer that can occur here: 10 and a settle's 6 cannot
-unfoldable pub occurs : Given → Answer → Bool
+unfoldable pub occurs : {n : ℕ} → Given n → Answer → Bool
 occurs c (drove fs) = true
 occurs c (settled v) = true
 occurs (drive a ms) (refused k) = not (eqb k 10)
 occurs (settle by x y ps) (refused k) = not (eqb k 10) && not (eqb k 6)
 
-unfoldable pub allOccur : List Given → List Answer → Bool
+unfoldable pub allOccur : {n : ℕ} → List (Given n) → List Answer → Bool
 allOccur [] rs = true
 allOccur (c ∷ cs) [] = true
 allOccur (c ∷ cs) (r ∷ rs) = occurs c r && allOccur cs rs
@@ -103,17 +105,17 @@ settingsFor n fallback b = record { n = n; fallback = fallback; share = b .share
 abbrev pub settingsOn : Outcome → Bool → Opening → Settings
 settingsOn o fallback b = settingsFor (laidValuesOf (o .answer) .n) fallback b
 
-abbrev pub startOn : ℕ → ℕ → Outcome → Lending → Bool → Opening → Begun
+abbrev pub startOn : {n : ℕ} → ℕ → ℕ → Outcome → Lending n → Bool → Opening → Begun
 startOn m most o by fallback b = startOf m most (lentBy o by) (settingsOn o fallback b)
 
 -- after the list: the calls that the plain scorer keeps, what the grader answered, and the state that it returned
-abbrev pub keptBy : List TrackPoint → Outcome → Opening → List Given → History
+abbrev pub keptBy : {n : ℕ} → List TrackPoint → Outcome → Opening → List (Given n) → History
 keptBy c o b cs = keptOf c (begun b) (toldsOf o cs)
 
-abbrev pub answeredBy : ℕ → ℕ → Outcome → Begun → List Given → List Answer
+abbrev pub answeredBy : {n : ℕ} → ℕ → ℕ → Outcome → Begun → List (Given n) → List Answer
 answeredBy m most o s cs = repliesOf m most (s .state) (callsOf o cs)
 
-abbrev pub stateBy : ℕ → ℕ → Outcome → Begun → List Given → State
+abbrev pub stateBy : {n : ℕ} → ℕ → ℕ → Outcome → Begun → List (Given n) → State
 stateBy m most o s cs = stateAfter m most (s .state) (callsOf o cs)
 
 -- the progress that the kept calls make
@@ -121,7 +123,7 @@ abbrev pub progressBy : List TrackPoint → History → Progress
 progressBy c h = record { «visited_count» = touchedCount c h; tick = settles h; lap = lapDone c h; ended = ended c h; driven = ltb (settles h) (drives h) }
 
 -- after a start s that is accepted on the course of the points c, with opening b: the list of calls cs
-pub record Graded (m most : ℕ) (c : List TrackPoint) (o : Outcome) (s : Begun) (fallback : Bool) (b : Opening) (cs : List Given) : Type 0 where
+pub record Graded (m most : ℕ) (c : List TrackPoint) (o : Outcome) (s : Begun) (fallback : Bool) (b : Opening) (cs : List (Given (length c))) : Type 0 where
   -- start's credited count and lap
   pub start : s .answer ≡ startAnswer 0 (record { count = touchedCount c (begun b); lap = lapDone c (begun b) })
   -- which calls are refused and by what number, and each accepted drive's and settle's whole answer
@@ -141,7 +143,7 @@ pub record Graded (m most : ℕ) (c : List TrackPoint) (o : Outcome) (s : Begun)
   pub state-wheels : (w t : ℕ) → w < 4 → member (wheelPart m (stateBy m most o s cs .wheels) w) t ≡ (ltb t (length c) && touch c (lastPoses (keptBy c o b cs)) w t)
 
 -- the course of the points c as laying left it in o, a start on it and a list of calls
-pub record Demand3 (m most : ℕ) (c : List TrackPoint) (o : Outcome) (by : Lending) (fallback : Bool) (b : Opening) (cs : List Given) : Type 0 where
+pub record Demand3 (m most : ℕ) (c : List TrackPoint) (o : Outcome) (by : Lending (length c)) (fallback : Bool) (b : Opening) (cs : List (Given (length c))) : Type 0 where
   -- start refuses exactly when document 01 has a cause for it
   pub starts : startCauseOf (startOn m most o by fallback b .answer) ≡ startNumber c most (lengthsOf (lentBy o by)) b
   -- an accepted start and any list of calls after it
@@ -151,13 +153,17 @@ pub record Demand3 (m most : ℕ) (c : List TrackPoint) (o : Outcome) (by : Lend
 
 -- lay's cause: 2 where a lent column is short, else 3 where the index list is, else none
 unfoldable pub layNumber : ℕ → Lent → ℕ
-layNumber seed l = cond (roomyOf (l .alpha) (l .beta) (l .x) (l .y) (l .tiles) (l .offsets)) (cond (ltb (length (l .list)) (cellsOf (courseOf seed .points))) 3 0) 2
+layNumber seed l = cond (roomyOf laidLength (l .alpha) (l .beta) (l .x) (l .y) (l .tiles) (l .offsets)) (cond (ltb (length (l .list)) (cellsOf (courseOf seed .points))) 3 0) 2
+
+-- n of a seed's course
+abbrev pub seedTiles : ℕ → ℕ
+seedTiles seed = length (courseOf seed .points)
 
 -- for any seed and lent columns, any start and any list of drives and settles after it
-pub record Certificate (seed : ℕ) (l : Lent) (by : Lending) (fallback : Bool) (b : Opening) (cs : List Given) : Type 0 where
+pub record Certificate (seed : ℕ) (l : Lent) (by : Lending (seedTiles seed)) (fallback : Bool) (b : Opening) (cs : List (Given (seedTiles seed))) : Type 0 where
   -- lay refuses exactly when document 01 has a cause for it
   pub lays : laidCauseOf (layCall maxAttempts seed l .answer) ≡ layNumber seed l
   -- the course is exactly the one that document 01 gives the seed: all that is answered and written
-  pub course : layNumber seed l ≡ 0 → layCall maxAttempts seed l ≡ outcome (laidAnswer 0 (laidFigures (courseOf seed .fallback) (courseOf seed .points))) (written false (fromPoints (courseOf seed .points)) l)
+  pub course : layNumber seed l ≡ 0 → layCall maxAttempts seed l ≡ outcome (laidAnswer 0 (laidFigures (courseOf seed .fallback) (courseOf seed .points))) (written laidLength false (fromPoints (courseOf seed .points)) l)
   -- and on it the run is the plain scorer's
   pub run : layNumber seed l ≡ 0 → Demand3 fullWords mostTiles (courseOf seed .points) (layCall maxAttempts seed l) by fallback b cs

@@ -142,7 +142,7 @@ module _ (c : List TrackPoint) where
   unfoldable pub startNumber : ℕ → Lengths → Opening → ℕ
   startNumber most k b =
       cond (not (settingsOk (b .share) (b .limit))) 1
-      (cond (shortColumns (k .tiles) (k .offsets) || (ltb tileCount 1 || ltb most tileCount)) 2
+      (cond (shortColumns tileCount (k .tiles) (k .offsets) || (ltb tileCount 1 || ltb most tileCount)) 2
       (cond (not (posesOk (b .poses))) 8 0))
 
   unfoldable pub driveNumber : History → ℕ → List Motion → ℕ
@@ -157,7 +157,7 @@ module _ (c : List TrackPoint) where
   settleNumber h k x y ps =
       cond (ended h) 4
       (cond (not (ltb (settles h) (drives h))) 5
-      (cond (shortColumns (k .tiles) (k .offsets)) 2
+      (cond (shortColumns tileCount (k .tiles) (k .offsets)) 2
       (cond (not (placesOk x y ps)) 8 0)))
 
   -- ---- answers: by the cause's number, kept where it is 0

@@ -7,7 +7,7 @@ use mathlib.Core.List.{List, [], _∷_, _++_, map}
 use lib.ListN.{length, take, drop, length-map, length-drop}
 use lib.Seq.{take-at, drop-append-le, take-append-le}
 use lib.Ieee.{Float}
-use Rattle.course.specs.Lengths.{mostPoints}
+use Rattle.course.specs.Lengths.{stepLimit, laidLength}
 use Rattle.course.specs.Step.{Walk, TrackStep, Stepped, On, Refused, stepOf}
 use Rattle.course.specs.Track.{stepBetas, stepXs, stepYs, trackOf}
 use Rattle.course.specs.Walk.{Trail, follow, onward, walkFrom, walkStart, walkOf}
@@ -34,7 +34,7 @@ some-from m cs w e = some-onward (stepOf cs w) (λ (v : Walk). walkFrom m cs v) 
 
 walk-some : (cs : List Checkpoint) → walkOf cs .ok ≡ true → 0 < length (walkOf cs .steps)
 unfolding walkOf
-walk-some cs e = some-from (mostPoints - 1) cs walkStart e
+walk-some cs e = some-from (stepLimit - 1) cs walkStart e
 
 -- the columns of a track's points are those of its steps
 map-through : {A B C : Type 0} (f : B → C) (g : A → B) (h : A → C) → ((a : A) → f (g a) ≡ h a) → (l : List A) → map f (map g l) ≡ map h l
@@ -82,23 +82,27 @@ module _ (m : ℕ) (f : TrackStep → Float) (ps : List TrackStep) (c c₀ : Lis
     moved-kept = ap (drop m) moved ∙ drop-past (take n (drop from c)) c n m part-long (omega arith) ∙ walked-kept
 
 -- ---- the attempt
--- the columns have the length that lay states
+-- the columns have room for a walk
 pub record Wide (a b u v : List Float) : Type 0 where
-  pub alpha : mostPoints ≤ length a
-  pub beta : mostPoints ≤ length b
-  pub x : mostPoints ≤ length u
-  pub y : mostPoints ≤ length v
+  pub alpha : stepLimit ≤ length a
+  pub beta : stepLimit ≤ length b
+  pub x : stepLimit ≤ length u
+  pub y : stepLimit ≤ length v
 
 abbrev steps-of : List Checkpoint → List TrackStep
 steps-of cs = walkOf cs .steps
 
 module _ {cs : List Checkpoint} {a b x y a₁ b₁ x₁ y₁ : List Float} {w : ℕ} {ok : Bool} (d : Trod cs a b x y a₁ b₁ x₁ y₁ w ok) where
+  -- a walk fits into the columns that lay is lent
+  fits-laid : w ≤ laidLength
+  fits-laid = omega (arith, d .few)
+
   pub front : Front (walkOf cs .steps) a₁ b₁ x₁ y₁
   front = record {
-    alpha = walked-front mostPoints (λ (p : TrackStep). p .alpha) (steps-of cs) a₁ a w (d .alpha) (d .count) (d .few);
-    beta = walked-front mostPoints (λ (p : TrackStep). p .beta) (steps-of cs) b₁ b w (d .beta) (d .count) (d .few);
-    x = walked-front mostPoints (λ (p : TrackStep). p .x) (steps-of cs) x₁ x w (d .x) (d .count) (d .few);
-    y = walked-front mostPoints (λ (p : TrackStep). p .y) (steps-of cs) y₁ y w (d .y) (d .count) (d .few);
+    alpha = walked-front stepLimit (λ (p : TrackStep). p .alpha) (steps-of cs) a₁ a w (d .alpha) (d .count) (d .few);
+    beta = walked-front stepLimit (λ (p : TrackStep). p .beta) (steps-of cs) b₁ b w (d .beta) (d .count) (d .few);
+    x = walked-front stepLimit (λ (p : TrackStep). p .x) (steps-of cs) x₁ x w (d .x) (d .count) (d .few);
+    y = walked-front stepLimit (λ (p : TrackStep). p .y) (steps-of cs) y₁ y w (d .y) (d .count) (d .few);
   }
 
   pub some : ok ≡ true → 0 < w
@@ -120,10 +124,10 @@ module _ {cs : List Checkpoint} {a b x y a₁ b₁ x₁ y₁ : List Float} {w : 
         beta = sym (ap betas n);
         x = sym (ap xs n);
         y = sym (ap ys n);
-        kept-a = walked-kept mostPoints (λ (p : TrackStep). p .alpha) (steps-of cs) a₁ a w (d .alpha) (d .count) (d .few);
-        kept-b = walked-kept mostPoints (λ (p : TrackStep). p .beta) (steps-of cs) b₁ b w (d .beta) (d .count) (d .few);
-        kept-x = walked-kept mostPoints (λ (p : TrackStep). p .x) (steps-of cs) x₁ x w (d .x) (d .count) (d .few);
-        kept-y = walked-kept mostPoints (λ (p : TrackStep). p .y) (steps-of cs) y₁ y w (d .y) (d .count) (d .few);
+        kept-a = walked-kept laidLength (λ (p : TrackStep). p .alpha) (steps-of cs) a₁ a w (d .alpha) (d .count) fits-laid;
+        kept-b = walked-kept laidLength (λ (p : TrackStep). p .beta) (steps-of cs) b₁ b w (d .beta) (d .count) fits-laid;
+        kept-x = walked-kept laidLength (λ (p : TrackStep). p .x) (steps-of cs) x₁ x w (d .x) (d .count) fits-laid;
+        kept-y = walked-kept laidLength (λ (p : TrackStep). p .y) (steps-of cs) y₁ y w (d .y) (d .count) fits-laid;
       }
 
   pub attempt-good : {b₂ x₂ y₂ : List Float} {from n : ℕ} → ok ≡ true → from + n ≤ w → Cut (walkOf cs .steps) from n
@@ -133,13 +137,13 @@ module _ {cs : List Checkpoint} {a b x y a₁ b₁ x₁ y₁ : List Float} {w : 
       let i = accepted-is h in
       record {
         count = cut .size ∙ sym (length-map (trackOf (steps-of cs)) pointOf) ∙ ap length i;
-        beta = moved-front mostPoints (λ (p : TrackStep). p .beta) (steps-of cs) b₁ b w (d .beta) (d .count) (d .few) b₂ from n mb fits cut ∙ betas-of (trackOf (steps-of cs)) ∙ ap betas i;
-        x = moved-front mostPoints (λ (p : TrackStep). p .x) (steps-of cs) x₁ x w (d .x) (d .count) (d .few) x₂ from n mx fits cut ∙ xs-of (trackOf (steps-of cs)) ∙ ap xs i;
-        y = moved-front mostPoints (λ (p : TrackStep). p .y) (steps-of cs) y₁ y w (d .y) (d .count) (d .few) y₂ from n my fits cut ∙ ys-of (trackOf (steps-of cs)) ∙ ap ys i;
-        kept-a = walked-kept mostPoints (λ (p : TrackStep). p .alpha) (steps-of cs) a₁ a w (d .alpha) (d .count) (d .few);
-        kept-b = moved-kept mostPoints (λ (p : TrackStep). p .beta) (steps-of cs) b₁ b w (d .beta) (d .count) (d .few) b₂ from n mb fits cut;
-        kept-x = moved-kept mostPoints (λ (p : TrackStep). p .x) (steps-of cs) x₁ x w (d .x) (d .count) (d .few) x₂ from n mx fits cut;
-        kept-y = moved-kept mostPoints (λ (p : TrackStep). p .y) (steps-of cs) y₁ y w (d .y) (d .count) (d .few) y₂ from n my fits cut;
+        beta = moved-front laidLength (λ (p : TrackStep). p .beta) (steps-of cs) b₁ b w (d .beta) (d .count) fits-laid b₂ from n mb fits cut ∙ betas-of (trackOf (steps-of cs)) ∙ ap betas i;
+        x = moved-front laidLength (λ (p : TrackStep). p .x) (steps-of cs) x₁ x w (d .x) (d .count) fits-laid x₂ from n mx fits cut ∙ xs-of (trackOf (steps-of cs)) ∙ ap xs i;
+        y = moved-front laidLength (λ (p : TrackStep). p .y) (steps-of cs) y₁ y w (d .y) (d .count) fits-laid y₂ from n my fits cut ∙ ys-of (trackOf (steps-of cs)) ∙ ap ys i;
+        kept-a = walked-kept laidLength (λ (p : TrackStep). p .alpha) (steps-of cs) a₁ a w (d .alpha) (d .count) fits-laid;
+        kept-b = moved-kept laidLength (λ (p : TrackStep). p .beta) (steps-of cs) b₁ b w (d .beta) (d .count) fits-laid b₂ from n mb fits cut;
+        kept-x = moved-kept laidLength (λ (p : TrackStep). p .x) (steps-of cs) x₁ x w (d .x) (d .count) fits-laid x₂ from n mx fits cut;
+        kept-y = moved-kept laidLength (λ (p : TrackStep). p .y) (steps-of cs) y₁ y w (d .y) (d .count) fits-laid y₂ from n my fits cut;
       }
 
 -- the attempt with drawn checkpoints

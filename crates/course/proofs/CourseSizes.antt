@@ -9,7 +9,7 @@ use lib.Dec.{eqb, ltb}
 use lib.ListN.{length, take, drop, length-map, length-append, length-take}
 use Rattle.rng.specs.declared.SplitMix64.{SplitMix64}
 use Rattle.rng.specs.SplitMix.{after, seeded}
-use Rattle.course.specs.Lengths.{mostPoints}
+use Rattle.course.specs.Lengths.{stepLimit}
 use Rattle.course.specs.Constants.{maxAttempts}
 use Rattle.course.specs.Checkpoints.{checkpointsOf}
 use Rattle.course.specs.Step.{Walk, TrackStep, Stepped, On, Refused, stepOf}
@@ -73,11 +73,11 @@ accepted-few m r h = one (r .ok) (track-few m (r .steps) h)
 
 -- the most points of an accepted track: three fewer than the most steps of a walk
 abbrev pub mostTrackPoints : ℕ
-mostTrackPoints = mostPoints - 3
+mostTrackPoints = stepLimit - 3
 
 pub attempt-few : (cs : List Checkpoint) → length (attemptOn cs) ≤ mostTrackPoints
 unfolding attemptOn walkOf
-attempt-few cs = accepted-few mostPoints (walkFrom mostPoints cs walkStart) (walk-few mostPoints cs walkStart)
+attempt-few cs = accepted-few stepLimit (walkFrom stepLimit cs walkStart) (walk-few stepLimit cs walkStart)
 
 -- ---- a course has 1 to mostTrackPoints points
 pub record Sized (c : CoursePoints) : Type 0 where

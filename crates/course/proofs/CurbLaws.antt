@@ -10,16 +10,17 @@ use lib.Seq.{take-at}
 use lib.Dec.{leb, ltb, eqb}
 use borrow.Author.Tests.{leb-true, lt-ltb, le-ltb}
 use lib.Ieee.{Float}
-use Rattle.course.specs.Lengths.{mostPoints, mostNumbers}
+use Rattle.course.specs.Lengths.{mostPoints, columnLength, quadNumbers}
 use Rattle.course.specs.Arithmetic.{nought}
 use Rattle.course.specs.Tiles.{pointAt, pointsOf, beforeOf, eight}
 use Rattle.course.specs.CourseSteps.{puts}
 use Rattle.course.specs.Points.{givenCause, givenOf, allGood}
-use Rattle.course.specs.Curbs.{curbRoom, afterOf, bordered, curbQuad, whiteOf, quadsTo, whitesTo, filledMarks, edged, curbAnswer, curbCauseOf, curbCountOf, curbCause, curbsAt, curbsCall}
+use Rattle.course.specs.Curbs.{curbRoom, afterOf, bordered, curbQuad, whiteOf, quadsTo, whitesTo, filledMarks, Edged, edged, curbAnswer, curbCauseOf, curbCountOf, curbCause, curbsAt, curbsCall}
 use Rattle.course.specs.CourseSteps.{Curbed, CurbsTo}
 use Rattle.course.specs.declared.curbs.CurbAnswer.{CurbAnswer}
 use Rattle.course.specs.declared.tiles.TrackPoint.{TrackPoint}
 use Rattle.course.specs.declared.curbs.CurbAnswer.the-variants.{Count, Refused}
+use Rattle.course.proofs.LengthLaws.{column-fits, column-small}
 use Rattle.course.proofs.ColumnLaws.{Grown, grown-more, puts-grown, drop-past}
 use Rattle.course.proofs.LaidColumns.{Given, given-long, passed, positive, at-most, fill-tiles}
 use Rattle.course.specs.Counting.{digit}
@@ -94,30 +95,41 @@ curb-put {has = true} {m = m} {q = q} {w = w} h eq em pq pw = record {
 curb-put {has = false} h eq em pq pw = absurd (subst (λ (z : Bool). cond z ⊥ (Unit {0})) h tt)
 
 -- ---- the call
-pub record Fits (b e n : List Float) (k : ℕ) (q : List Float) (w : List ℕ) : Type 0 where
+-- what is known where no cause holds, with columns for z curbs
+pub record Fits (z : ℕ) (b e n : List Float) (k : ℕ) (q : List Float) (w : List ℕ) : Type 0 where
   pub some : 0 < k
-  pub few : k ≤ mostPoints
-  pub quads : mostNumbers ≤ length q
-  pub white : mostPoints ≤ length w
+  pub few : k ≤ z
+  pub small : z ≤ mostPoints
+  pub quads : quadNumbers z ≤ length q
+  pub white : z ≤ length w
   pub given : Given b e n k
 
-pub fits : (b e n : List Float) (k : ℕ) (q : List Float) (w : List ℕ) → givenCause (curbRoom q w) b e n k ≡ 0 → Fits b e n k q w
+pub fits : (z : ℕ) (b e n : List Float) (k : ℕ) (q : List Float) (w : List ℕ) → z ≡ columnLength k → givenCause (curbRoom z q w) b e n k ≡ 0 → Fits z b e n k q w
 unfolding givenCause curbRoom
-fits b e n k q w h =
-    let p = passed (eqb k 0) (ltb mostPoints k) (curbRoom q w) (givenOf b e n k) (allGood (pointsOf b e n k)) h in
+fits z b e n k q w c h =
+    let p = passed (eqb k 0) (ltb mostPoints k) (curbRoom z q w) (givenOf b e n k) (allGood (pointsOf b e n k)) h in
     record {
       some = positive k (p .some);
-      few = at-most mostPoints k (p .few);
-      quads = leb-true mostNumbers (length q) (and-left _ _ (p .room));
-      white = leb-true mostPoints (length w) (and-right (leb mostNumbers (length q)) _ (p .room));
+      few = column-fits k z c (at-most mostPoints k (p .few));
+      small = column-small k z c;
+      quads = leb-true (quadNumbers z) (length q) (and-left _ _ (p .room));
+      white = leb-true z (length w) (and-right (leb (quadNumbers z) (length q)) _ (p .room));
       given = given-long b e n k (p .given);
     }
 
-pub turned-down : (b e n : List Float) (k : ℕ) (q : List Float) (w : List ℕ) (wide : Bool) (r : ℕ) → r ≡ givenCause wide b e n k → wide ≡ (curbRoom q w) → 0 < r
+-- the call with columns for z curbs
+abbrev curbsIn : ℕ → List Float → List Float → List Float → ℕ → List Float → List ℕ → Edged
+curbsIn z b e n k q w = curbsAt z (givenCause (curbRoom z q w) b e n k) b e n k q w
+
+curbs-in : (z : ℕ) (b e n : List Float) (k : ℕ) (q : List Float) (w : List ℕ) → z ≡ columnLength k → curbsIn z b e n k q w ≡ curbsCall b e n k q w
+unfolding curbsCall curbCause
+curbs-in z b e n k q w h = ap (λ (j : ℕ). curbsIn j b e n k q w) h
+
+pub turned-down : (z : ℕ) (b e n : List Float) (k : ℕ) (q : List Float) (w : List ℕ) (wide : Bool) (r : ℕ) → z ≡ columnLength k → r ≡ givenCause wide b e n k → wide ≡ curbRoom z q w → 0 < r
     → edged (Refused r) q w ≡ curbsCall b e n k q w
-unfolding curbsCall curbCause curbsAt curbAnswer
-turned-down b e n k q w wide zero h v z = absurd (omega (arith, z))
-turned-down b e n k q w wide (suc r) h v z = ap (λ (j : ℕ). curbsAt j b e n k q w) (h ∙ ap (λ (x : Bool). givenCause x b e n k) v)
+unfolding curbsAt curbAnswer
+turned-down z b e n k q w wide zero c h v some = absurd (omega (arith, some))
+turned-down z b e n k q w wide (suc r) c h v some = ap (λ (j : ℕ). curbsAt z j b e n k q w) (h ∙ ap (λ (x : Bool). givenCause x b e n k) v) ∙ curbs-in z b e n k q w c
 
 fill-marks : (own t t1 t2 : List ℕ) (k m : ℕ) → length own ≡ k → k ≤ m → t1 ≡ own ++ drop k t → t2 ≡ take k t1 ++ (replicate (m - k) 0 ++ drop m t1) → t2 ≡ filledMarks m own t
 unfolding filledMarks
@@ -126,15 +138,17 @@ fill-marks own t t1 t2 k m e h p r =
     ∙ ap₂ (λ (y z : List ℕ). y ++ (replicate (m - k) 0 ++ z)) (take-at own (drop k t) k e) (drop-past own t k m e h)
     ∙ ap (λ (j : ℕ). own ++ (replicate (m - j) 0 ++ drop m t)) (sym e)
 
-pub all-edged : (b e n : List Float) (k m : ℕ) (q q1 q2 : List Float) (w w1 w2 : List ℕ) → givenCause (curbRoom q w) b e n k ≡ 0 → k ≤ mostPoints → CurbsTo b e n k k m q w q1 w1
-    → q2 ≡ take (m * 8) q1 ++ (replicate (mostNumbers - m * 8) nought ++ drop mostNumbers q1) → w2 ≡ take m w1 ++ (replicate (mostPoints - m) 0 ++ drop mostPoints w1)
+pub all-edged : (z : ℕ) (b e n : List Float) (k m : ℕ) (q q1 q2 : List Float) (w w1 w2 : List ℕ) → z ≡ columnLength k → givenCause (curbRoom z q w) b e n k ≡ 0 → CurbsTo b e n k k m q w q1 w1
+    → q2 ≡ take (m * 8) q1 ++ (replicate (quadNumbers z - m * 8) nought ++ drop (quadNumbers z) q1) → w2 ≡ take m w1 ++ (replicate (z - m) 0 ++ drop z w1)
     → edged (Count m) q2 w2 ≡ curbsCall b e n k q w
-unfolding curbsCall curbCause curbsAt curbAnswer
-all-edged b e n k m q q1 q2 w w1 w2 h few t pq pw =
+unfolding curbsAt curbAnswer
+all-edged z b e n k m q q1 q2 w w1 w2 c h t pq pw =
+    let few = fits z b e n k q w c h .few in
     same-edged (ap Count (sym (t .count)))
-    (fill-tiles (quadsTo b e n k k) q q1 q2 (m * 8) mostNumbers (t .long) (omega (arith, few, t .few)) (t .quads) pq)
-    (fill-marks (whitesTo b e n k k) w w1 w2 m mostPoints (t .count) (omega (arith, few, t .few)) (t .white) pw)
-    ∙ ap (λ (j : ℕ). curbsAt j b e n k q w) (sym h)
+    (fill-tiles (quadsTo b e n k k) q q1 q2 (m * 8) (quadNumbers z) (t .long) (omega (arith, few, t .few)) (t .quads) pq)
+    (fill-marks (whitesTo b e n k k) w w1 w2 m z (t .count) (omega (arith, few, t .few)) (t .white) pw)
+    ∙ ap (λ (j : ℕ). curbsAt z j b e n k q w) (sym h)
+    ∙ curbs-in z b e n k q w c
   where
     same-edged : {r r′ : CurbAnswer} {q q′ : List Float} {w w′ : List ℕ} → r ≡ r′ → q ≡ q′ → w ≡ w′ → edged r q w ≡ edged r′ q′ w′
     same-edged pr pq pw = λ i. edged (pr i) (pq i) (pw i)

@@ -10,7 +10,7 @@ use lib.Seq.{take-at}
 use lib.Ieee.{Float}
 use Rattle.rng.specs.declared.SplitMix64.{SplitMix64}
 use Rattle.rng.specs.SplitMix.{after, seeded}
-use Rattle.course.specs.Lengths.{mostPoints}
+use Rattle.course.specs.Lengths.{laidLength}
 use Rattle.course.specs.Checkpoints.{checkpointsOf}
 use Rattle.course.specs.Tiles.{betas, xs, ys}
 use Rattle.course.specs.Lay.{attemptOn, ringPoint, ringOf, CoursePoints, ringCourse, orElse, courseOn, courseFrom, courseWithin}
@@ -69,9 +69,9 @@ ring-front a b x y b′ x′ y′ eb ex ey = record {
   x = front-of (λ (q : TrackPoint). q .x) x x′ ex;
   y = front-of (λ (q : TrackPoint). q .y) y y′ ey;
   kept-a = refl;
-  kept-b = beyond mostPoints (λ (q : TrackPoint). q .beta) b b′ (omega arith) eb;
-  kept-x = beyond mostPoints (λ (q : TrackPoint). q .x) x x′ (omega arith) ex;
-  kept-y = beyond mostPoints (λ (q : TrackPoint). q .y) y y′ (omega arith) ey;
+  kept-b = beyond laidLength (λ (q : TrackPoint). q .beta) b b′ (omega arith) eb;
+  kept-x = beyond laidLength (λ (q : TrackPoint). q .x) x x′ (omega arith) ex;
+  kept-y = beyond laidLength (λ (q : TrackPoint). q .y) y y′ (omega arith) ey;
 }
 
 -- ---- a column of which only the first m entries may have changed
@@ -81,15 +81,15 @@ pub record Beyond (m : ℕ) (l₀ l : List Float) : Type 0 where
   pub long : m ≤ length l
 
 pub record AllBeyond (a₀ b₀ x₀ y₀ a b x y : List Float) : Type 0 where
-  pub alpha : Beyond mostPoints a₀ a
-  pub beta : Beyond mostPoints b₀ b
-  pub east : Beyond mostPoints x₀ x
-  pub north : Beyond mostPoints y₀ y
+  pub alpha : Beyond laidLength a₀ a
+  pub beta : Beyond laidLength b₀ b
+  pub east : Beyond laidLength x₀ x
+  pub north : Beyond laidLength y₀ y
 
 same-column : (m : ℕ) (l : List Float) → m ≤ length l → Beyond m l l
 same-column m l h = record { kept = refl; same = refl; long = h }
 
-pub untouched : {a b x y : List Float} → mostPoints ≤ length a → mostPoints ≤ length b → mostPoints ≤ length x → mostPoints ≤ length y → AllBeyond a b x y a b x y
+pub untouched : {a b x y : List Float} → laidLength ≤ length a → laidLength ≤ length b → laidLength ≤ length x → laidLength ≤ length y → AllBeyond a b x y a b x y
 untouched la lb lx ly = record { alpha = same-column _ _ la; beta = same-column _ _ lb; east = same-column _ _ lx; north = same-column _ _ ly }
 
 further : (m : ℕ) (l₀ l l′ : List Float) → Beyond m l₀ l → drop m l′ ≡ drop m l → length l′ ≡ length l → Beyond m l₀ l′
@@ -111,10 +111,10 @@ module _ {ps : List TrackPoint} {a₀ b₀ x₀ y₀ a b x y a′ b′ x′ y′
 
   pub all-further : length a′ ≡ length a → length b′ ≡ length b → length x′ ≡ length x → length y′ ≡ length y → AllBeyond a₀ b₀ x₀ y₀ a′ b′ x′ y′
   all-further ea eb ex ey = record {
-    alpha = further mostPoints a₀ a a′ (s .alpha) (d .kept-a) ea;
-    beta = further mostPoints b₀ b b′ (s .beta) (d .kept-b) eb;
-    east = further mostPoints x₀ x x′ (s .east) (d .kept-x) ex;
-    north = further mostPoints y₀ y y′ (s .north) (d .kept-y) ey;
+    alpha = further laidLength a₀ a a′ (s .alpha) (d .kept-a) ea;
+    beta = further laidLength b₀ b b′ (s .beta) (d .kept-b) eb;
+    east = further laidLength x₀ x x′ (s .east) (d .kept-x) ex;
+    north = further laidLength y₀ y y′ (s .north) (d .kept-y) ey;
   }
 
 -- ---- attempt by attempt
@@ -159,7 +159,7 @@ pub record Trying (attempts seed : ℕ) (a₀ b₀ x₀ y₀ a b x y : List Floa
   pub rest : courseWithin attempts seed ≡ courseFrom (attempts - k) g
   pub kept : AllBeyond a₀ b₀ x₀ y₀ a b x y
 
-pub trying-none : {attempts seed : ℕ} {a b x y : List Float} {g : SplitMix64} → g ≡ seeded seed → mostPoints ≤ length a → mostPoints ≤ length b → mostPoints ≤ length x → mostPoints ≤ length y
+pub trying-none : {attempts seed : ℕ} {a b x y : List Float} {g : SplitMix64} → g ≡ seeded seed → laidLength ≤ length a → laidLength ≤ length b → laidLength ≤ length x → laidLength ≤ length y
     → Trying attempts seed a b x y a b x y g 0
 unfolding courseWithin
 trying-none {attempts} {g = g} e la lb lx ly = record { few = omega arith; rest = ap (courseFrom attempts) (sym e) ∙ ap (λ (m : ℕ). courseFrom m g) (all attempts); kept = untouched la lb lx ly }

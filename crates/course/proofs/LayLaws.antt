@@ -11,7 +11,7 @@ use borrow.Author.Tests.{ne-eqb}
 use lib.Ieee.{Float}
 use Rattle.course.specs.Arithmetic.{nought}
 use Rattle.course.specs.Constants.{maxAttempts}
-use Rattle.course.specs.Lengths.{mostPoints, mostNumbers}
+use Rattle.course.specs.Lengths.{mostPoints, laidLength, columnLength, quadNumbers}
 use Rattle.course.specs.Tiles.{betas, xs, ys, pointsOf, tilesOf}
 use Rattle.course.specs.Course.{fromPoints, cellsOf}
 use Rattle.course.specs.Lent.{Lent, lent, Outcome, outcome, roomyOf, filled, written, laidFigures, laidAnswer, answered, layInto, laidCauseOf, laidValuesOf}
@@ -22,19 +22,20 @@ use Rattle.course.specs.declared.tiles.TrackPoint.{TrackPoint}
 use Rattle.course.specs.declared.points.LaidCourse.{LaidCourse}
 use Rattle.course.specs.declared.points.Laid.the-variants.{Refused}
 use Rattle.course.proofs.CourseTiles.{points-are, tiles-long}
-use Rattle.course.proofs.CourseSizes.{mostTrackPoints, Sized, within-sized}
+use Rattle.course.proofs.CourseSizes.{Sized, within-sized, course-sized}
+use Rattle.course.proofs.LengthLaws.{laid-few, column-laid}
 use Rattle.course.proofs.LaidColumns.{lay-past, room}
 
--- the lent columns have their lengths
+-- the columns lent to lay have their lengths
 abbrev pub roomy : Lent → Bool
-roomy l = roomyOf (l .alpha) (l .beta) (l .x) (l .y) (l .tiles) (l .offsets)
+roomy l = roomyOf laidLength (l .alpha) (l .beta) (l .x) (l .y) (l .tiles) (l .offsets)
 
 -- ---- for the proofs of the calls
 pub refused-short : (c : CoursePoints) (l : Lent) → roomy l ≡ false → outcome (Refused 2) l ≡ layAt (layCause l) c l
 unfolding layCause layAt laidAnswer
 refused-short c l h = rw h
 
-pub laid-roomy : (c : CoursePoints) (l : Lent) → roomy l ≡ true → layInto (c .fallback) (c .points) l ≡ layAt (layCause l) c l
+pub laid-roomy : (c : CoursePoints) (l : Lent) → roomy l ≡ true → layInto laidLength (c .fallback) (c .points) l ≡ layAt (layCause l) c l
 unfolding layCause layAt
 laid-roomy c l h = rw h
 
@@ -59,19 +60,19 @@ module _ {c : CoursePoints} {l : Lent} {a′ b′ x′ y′ : List Float} {n : �
       ∙ points-are (c .points) (drop n b′) (drop n x′) (drop n y′)
 
   -- what `finish` requires
-  pub finish-ready : Sized c → ((0 < n) × (n ≤ mostPoints)) × Roomy a′ b′ x′ y′ (l .tiles) (l .offsets)
+  pub finish-ready : Sized c → ((0 < n) × (n ≤ laidLength) × (laidLength ≤ mostPoints)) × Roomy laidLength a′ b′ x′ y′ (l .tiles) (l .offsets)
   finish-ready s =
       let m = room (r .room) in (
-        (rw (r .front .count) (s .some), omega (arith, r .front .count, s .few)),
+        (rw (r .front .count) (s .some), omega (arith, r .front .count, s .few), laid-few),
         record { alpha = rw (r .alpha) (m .alpha); beta = rw (r .beta) (m .beta); x = rw (r .x) (m .x); y = rw (r .y) (m .y); tiles = m .tiles; offsets = m .offsets },
       )
 
   -- what it leaves and answers is what lay does
-  pub laid : {w : Outcome} → w ≡ layInto fallback (pointsOf b′ x′ y′ n) (lent a′ b′ x′ y′ (l .tiles) (l .offsets) (l .list)) → w ≡ layAt (layCause l) c l
+  pub laid : {w : Outcome} → w ≡ layInto laidLength fallback (pointsOf b′ x′ y′ n) (lent a′ b′ x′ y′ (l .tiles) (l .offsets) (l .list)) → w ≡ layAt (layCause l) c l
   laid is =
       let d = r .front in
-      is ∙ lay-past fallback (pointsOf b′ x′ y′ n) (l .alpha) (l .beta) (l .x) (l .y) a′ b′ x′ y′ (l .tiles) (l .offsets) (l .list) (d .kept-a) (d .kept-b) (d .kept-x) (d .kept-y)
-      ∙ ap₂ (λ (f : Bool) (ps : List TrackPoint). layInto f ps l) (r .ring) points-there
+      is ∙ lay-past laidLength fallback (pointsOf b′ x′ y′ n) (l .alpha) (l .beta) (l .x) (l .y) a′ b′ x′ y′ (l .tiles) (l .offsets) (l .list) (d .kept-a) (d .kept-b) (d .kept-x) (d .kept-y)
+      ∙ ap₂ (λ (f : Bool) (ps : List TrackPoint). layInto laidLength f ps l) (r .ring) points-there
       ∙ laid-roomy c l (r .room)
 
 -- ---- an answer gives its number back, a course's answer its values, and cause 3 the length needed
@@ -112,14 +113,20 @@ unfolding layCall
 lay-untouched attempts seed l h = sym (refused-short (courseWithin attempts seed) l h)
 
 -- with room, lay writes and answers by the seed's points
-pub lay-roomy : (attempts seed : ℕ) (l : Lent) → roomy l ≡ true → layCall attempts seed l ≡ layInto (courseWithin attempts seed .fallback) (courseWithin attempts seed .points) l
+pub lay-roomy : (attempts seed : ℕ) (l : Lent) → roomy l ≡ true → layCall attempts seed l ≡ layInto laidLength (courseWithin attempts seed .fallback) (courseWithin attempts seed .points) l
 unfolding layCall
 lay-roomy attempts seed l h = sym (laid-roomy (courseWithin attempts seed) l h)
 
 -- the same of `lay`, by the seed's course
-pub lay-course : (seed : ℕ) (l : Lent) → roomy l ≡ true → layCall maxAttempts seed l ≡ layInto (courseOf seed .fallback) (courseOf seed .points) l
+pub lay-course : (seed : ℕ) (l : Lent) → roomy l ≡ true → layCall maxAttempts seed l ≡ layInto laidLength (courseOf seed .fallback) (courseOf seed .points) l
 unfolding courseOf
 lay-course seed l h = lay-roomy maxAttempts seed l h
+
+-- and in columns of that course's length
+pub lay-columns : (seed : ℕ) (l : Lent) → roomy l ≡ true → layCall maxAttempts seed l ≡ layInto (columnLength (length (courseOf seed .points))) (courseOf seed .fallback) (courseOf seed .points) l
+lay-columns seed l h =
+    lay-course seed l h
+    ∙ ap (λ (m : ℕ). layInto m (courseOf seed .fallback) (courseOf seed .points) l) (sym (column-laid (length (courseOf seed .points)) (omega (arith, course-sized seed .few))))
 
 -- ---- the course is a function of the seed alone: what lay leaves in the stated lengths
 filled-stated : (m : ℕ) (own c : List Float) → length own ≤ m → take m (filled m own c) ≡ own ++ replicate (m - length own) nought
@@ -131,29 +138,28 @@ filled-stated m own c h =
     back : (k : ℕ) → k ≤ m → k + (m - k) ≡ m
     back k e = omega arith
 
--- two sets of columns agree in the lengths that lay states
-pub record Agree (l l′ : Lent) : Type 0 where
-  pub alpha : take mostPoints (l .alpha) ≡ take mostPoints (l′ .alpha)
-  pub beta : take mostPoints (l .beta) ≡ take mostPoints (l′ .beta)
-  pub x : take mostPoints (l .x) ≡ take mostPoints (l′ .x)
-  pub y : take mostPoints (l .y) ≡ take mostPoints (l′ .y)
-  pub tiles : take mostNumbers (l .tiles) ≡ take mostNumbers (l′ .tiles)
+-- two sets of columns agree in the lengths of m points
+pub record Agree (m : ℕ) (l l′ : Lent) : Type 0 where
+  pub alpha : take m (l .alpha) ≡ take m (l′ .alpha)
+  pub beta : take m (l .beta) ≡ take m (l′ .beta)
+  pub x : take m (l .x) ≡ take m (l′ .x)
+  pub y : take m (l .y) ≡ take m (l′ .y)
+  pub tiles : take (quadNumbers m) (l .tiles) ≡ take (quadNumbers m) (l′ .tiles)
 
 same-filled : (m : ℕ) (own c c′ : List Float) → length own ≤ m → take m (filled m own c) ≡ take m (filled m own c′)
 same-filled m own c c′ h = filled-stated m own c h ∙ sym (filled-stated m own c′ h)
 
-into-agree : (c : CoursePoints) (l l′ : Lent) → Sized c → Agree (layInto (c .fallback) (c .points) l .lent) (layInto (c .fallback) (c .points) l′ .lent)
+into-agree : (m : ℕ) (fallback : Bool) (ps : List TrackPoint) (l l′ : Lent) → length ps ≤ m → Agree m (layInto m fallback ps l .lent) (layInto m fallback ps l′ .lent)
 unfolding layInto written fromPoints
-into-agree c l l′ s =
-    let few : length (c .points) ≤ mostTrackPoints = s .few in
+into-agree m fallback ps l l′ few =
     record {
-      alpha = same-filled mostPoints [] (l .alpha) (l′ .alpha) (omega arith);
-      beta = same-filled mostPoints (betas (c .points)) (l .beta) (l′ .beta) (rw (length-map (c .points) (λ (p : TrackPoint). p .beta)) (omega arith));
-      x = same-filled mostPoints (xs (c .points)) (l .x) (l′ .x) (rw (length-map (c .points) (λ (p : TrackPoint). p .x)) (omega arith));
-      y = same-filled mostPoints (ys (c .points)) (l .y) (l′ .y) (rw (length-map (c .points) (λ (p : TrackPoint). p .y)) (omega arith));
-      tiles = same-filled mostNumbers (tilesOf (c .points)) (l .tiles) (l′ .tiles) (rw (tiles-long (c .points) (length (c .points))) (omega arith));
+      alpha = same-filled m [] (l .alpha) (l′ .alpha) (omega arith);
+      beta = same-filled m (betas ps) (l .beta) (l′ .beta) (rw (length-map ps (λ (p : TrackPoint). p .beta)) few);
+      x = same-filled m (xs ps) (l .x) (l′ .x) (rw (length-map ps (λ (p : TrackPoint). p .x)) few);
+      y = same-filled m (ys ps) (l .y) (l′ .y) (rw (length-map ps (λ (p : TrackPoint). p .y)) few);
+      tiles = same-filled (quadNumbers m) (tilesOf ps) (l .tiles) (l′ .tiles) (rw (tiles-long ps (length ps)) (omega (arith, few)));
     }
 
-pub same-course : (attempts seed : ℕ) (l l′ : Lent) → roomy l ≡ true → roomy l′ ≡ true → Agree (layCall attempts seed l .lent) (layCall attempts seed l′ .lent)
+pub same-course : (attempts seed : ℕ) (l l′ : Lent) → roomy l ≡ true → roomy l′ ≡ true → Agree laidLength (layCall attempts seed l .lent) (layCall attempts seed l′ .lent)
 same-course attempts seed l l′ h h′ =
-    rw (lay-roomy attempts seed l h, lay-roomy attempts seed l′ h′) (into-agree (courseWithin attempts seed) l l′ (within-sized attempts seed))
+    rw (lay-roomy attempts seed l h, lay-roomy attempts seed l′ h′) (into-agree laidLength _ _ l l′ (omega (arith, within-sized attempts seed .few)))

@@ -23,6 +23,7 @@ pub mod CourseRects
 pub mod PackedRects
 pub mod Listing
 pub mod Literals
+pub mod LengthLaws
 pub mod ColumnLaws
 pub mod CourseTiles
 pub mod LaidColumns

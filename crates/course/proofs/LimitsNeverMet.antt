@@ -15,7 +15,7 @@ use Rattle.course.specs.Trig.{SinCos, sinCosOf}
 use Rattle.course.specs.Finder.{Destination, Going, NotFound, destOf}
 use Rattle.course.specs.Step.{Walk, TrackStep, Stepped, On, Refused, Sight, Turned, To, TooFar, sightOf, turnOf, projOf, steered, landedOf, thenLanded, movedOf, thenMoved, stepOf}
 use Rattle.course.specs.Walk.{follow, onward, walkFrom, walkStart, walkOf}
-use Rattle.course.specs.Lengths.{mostPoints}
+use Rattle.course.specs.Lengths.{stepLimit}
 use Rattle.course.specs.Refusals.{Reached, start, next, ThirdPass, RefusedByPass}
 use Rattle.course.specs.declared.checkpoints.Checkpoint.{Checkpoint}
 use Rattle.course.proofs.FloatOrder.{le-of-lt, is-so}
@@ -115,4 +115,4 @@ walk-from cs (suc n) w r e = go (stepOf cs w) refl e (λ (v : Walk). walk-from c
 
 pub walk-refused-by-pass : (cs : List Checkpoint) → walkOf cs .ok ≡ false → RefusedByPass cs
 unfolding walkOf
-walk-refused-by-pass cs e = walk-from cs mostPoints walkStart start e
+walk-refused-by-pass cs e = walk-from cs stepLimit walkStart start e

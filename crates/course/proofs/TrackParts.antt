@@ -13,7 +13,7 @@ use lib.Seq.{getD-take, getD-drop, length-take-le}
 use mir.Val.{Fits}
 use mir.Syntax.{w64}
 use lib.Ieee.{Float, nan}
-use Rattle.course.specs.Lengths.{mostPoints}
+use Rattle.course.specs.Lengths.{stepLimit}
 use Rattle.course.specs.Track.{passesAt, lastPass, stepAlphas, gluedOf, wellGlued, laterPass, earlierPass, betweenPasses, trackOf}
 use Rattle.course.specs.LaySteps.{Before, Front, Cut}
 use Rattle.course.specs.Step.{TrackStep}
@@ -178,7 +178,7 @@ module _ {ps : List TrackStep} {a b x y : List Float} (f : Front ps a b x y) whe
 pub end-below : (m rb len n : ℕ) → 0 < len → rb ≤ len - 1 → len ≤ m → m ≤ n → rb - 1 - 1 < n
 end-below m rb len n p h l k = omega arith
 
-pub end-fits : (rb len : ℕ) → rb ≤ len - 1 → len ≤ mostPoints → Fits w64 ((rb - 1 - 1) * 8)
+pub end-fits : (rb len : ℕ) → rb ≤ len - 1 → len ≤ stepLimit → Fits w64 ((rb - 1 - 1) * 8)
 end-fits rb len h l = omega arith
 
 -- the part ends within the walk

@@ -7,7 +7,7 @@ use mathlib.Core.List.{List, [], _∷_, _++_, map, map-append, append-assoc, app
 use borrow.Author.Tests.{lt-ltb, le-ltb}
 use lib.ListN.{length, drop, set, length-map}
 use lib.Ieee.{Float}
-use Rattle.course.specs.Lengths.{mostPoints}
+use Rattle.course.specs.Lengths.{stepLimit}
 use Rattle.course.specs.Arithmetic.{natural}
 use Rattle.course.specs.Numeric.{within}
 use Rattle.course.specs.Trig.{SinCos}
@@ -180,9 +180,9 @@ module _ (m : ℕ) (cs : List Checkpoint) (a₀ b₀ x₀ y₀ : List Float) whe
             long-y = s .long-y;
           }
 
--- ---- the walk of a course has at most mostPoints steps
-trod : (cs : List Checkpoint) (a₀ b₀ x₀ y₀ a b x y : List Float) (k : ℕ) (ok : Bool) (ps : List TrackStep) → k ≤ mostPoints → Held ps a b x y a₀ b₀ x₀ y₀ k
-    → walkFrom mostPoints cs walkStart ≡ record { ok = ok; steps = ps } → Trod cs a₀ b₀ x₀ y₀ a b x y k ok
+-- ---- the walk of a course has at most stepLimit steps
+trod : (cs : List Checkpoint) (a₀ b₀ x₀ y₀ a b x y : List Float) (k : ℕ) (ok : Bool) (ps : List TrackStep) → k ≤ stepLimit → Held ps a b x y a₀ b₀ x₀ y₀ k
+    → walkFrom stepLimit cs walkStart ≡ record { ok = ok; steps = ps } → Trod cs a₀ b₀ x₀ y₀ a b x y k ok
 unfolding walkOf
 trod cs a₀ b₀ x₀ y₀ a b x y k ok ps l h e =
     let q : ps ≡ walkOf cs .steps = sym (ap (λ (r : Trail). r .steps) e) in
@@ -196,15 +196,15 @@ trod cs a₀ b₀ x₀ y₀ a b x y k ok ps l h e =
       y = h .y .is ∙ ap (λ (z : List TrackStep). stepYs z ++ drop k y₀) q;
     }
 
-module _ (cs : List Checkpoint) (a₀ b₀ x₀ y₀ a b x y : List Float) (w : Walk) (k : ℕ) (s : Walking mostPoints cs a₀ b₀ x₀ y₀ a b x y w k) where
-  pub walked-full : mostPoints ≤ k → Trod cs a₀ b₀ x₀ y₀ a b x y k true
-  walked-full h = trod cs a₀ b₀ x₀ y₀ a b x y k true (s .done) (s .few) (s .held) (full mostPoints cs a₀ b₀ x₀ y₀ a b x y w k s h)
+module _ (cs : List Checkpoint) (a₀ b₀ x₀ y₀ a b x y : List Float) (w : Walk) (k : ℕ) (s : Walking stepLimit cs a₀ b₀ x₀ y₀ a b x y w k) where
+  pub walked-full : stepLimit ≤ k → Trod cs a₀ b₀ x₀ y₀ a b x y k true
+  walked-full h = trod cs a₀ b₀ x₀ y₀ a b x y k true (s .done) (s .few) (s .held) (full stepLimit cs a₀ b₀ x₀ y₀ a b x y w k s h)
 
-  pub walked-refused : k < mostPoints → stepOf cs w ≡ Refused → Trod cs a₀ b₀ x₀ y₀ a b x y k false
-  walked-refused h e = trod cs a₀ b₀ x₀ y₀ a b x y k false (s .done) (s .few) (s .held) (stopped mostPoints cs a₀ b₀ x₀ y₀ a b x y w k s h e)
+  pub walked-refused : k < stepLimit → stepOf cs w ≡ Refused → Trod cs a₀ b₀ x₀ y₀ a b x y k false
+  walked-refused h e = trod cs a₀ b₀ x₀ y₀ a b x y k false (s .done) (s .few) (s .held) (stopped stepLimit cs a₀ b₀ x₀ y₀ a b x y w k s h e)
 
-  pub walked-end : (p : TrackStep) (v : Walk) → k < mostPoints → stepOf cs w ≡ On p v → 4 < v .laps
+  pub walked-end : (p : TrackStep) (v : Walk) → k < stepLimit → stepOf cs w ≡ On p v → 4 < v .laps
       → Trod cs a₀ b₀ x₀ y₀ (set a k (p .alpha)) (set b k (p .beta)) (set x k (p .x)) (set y k (p .y)) (k + 1) true
   walked-end p v h e l =
-      trod cs a₀ b₀ x₀ y₀ _ _ _ _ (k + 1) true (s .done ++ (p ∷ [])) (omega arith) (next-held mostPoints cs a₀ b₀ x₀ y₀ a b x y w k s p v h e)
-      (ended mostPoints cs a₀ b₀ x₀ y₀ a b x y w k s p v h e l)
+      trod cs a₀ b₀ x₀ y₀ _ _ _ _ (k + 1) true (s .done ++ (p ∷ [])) (omega arith) (next-held stepLimit cs a₀ b₀ x₀ y₀ a b x y w k s p v h e)
+      (ended stepLimit cs a₀ b₀ x₀ y₀ a b x y w k s p v h e l)

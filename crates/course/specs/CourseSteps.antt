@@ -5,7 +5,7 @@ use mathlib.Core.Bool.{Bool, cond}
 use mathlib.Core.List.{List, [], _∷_, _++_}
 use lib.ListN.{length, drop, set}
 use lib.Ieee.{Float}
-use Rattle.course.specs.Lengths.{mostPoints, mostNumbers, offsetCount}
+use Rattle.course.specs.Lengths.{quadNumbers, offsetCount}
 use Rattle.course.specs.Arithmetic.{_⊕_, _⊖_, _⊗_}
 use Rattle.course.specs.Constants.{trackWidth}
 use Rattle.course.specs.Trig.{sineOf, cosineOf}
@@ -32,13 +32,13 @@ edgesAt p =
 unfoldable pub quadBetween : Edges → Edges → List (List Float)
 quadBetween e f = e .left ∷ e .right ∷ f .right ∷ f .left ∷ []
 
--- the lent columns have their lengths, as facts
-pub record Roomy (a b u v t : List Float) (o : List ℕ) : Type 0 where
-  pub alpha : mostPoints ≤ length a
-  pub beta : mostPoints ≤ length b
-  pub x : mostPoints ≤ length u
-  pub y : mostPoints ≤ length v
-  pub tiles : mostNumbers ≤ length t
+-- the lent columns have their lengths, those of points m entries, as facts
+pub record Roomy (m : ℕ) (a b u v t : List Float) (o : List ℕ) : Type 0 where
+  pub alpha : m ≤ length a
+  pub beta : m ≤ length b
+  pub x : m ≤ length u
+  pub y : m ≤ length v
+  pub tiles : quadNumbers m ≤ length t
   pub offsets : offsetCount ≤ length o
 
 -- a curb more where the point has one, else as before

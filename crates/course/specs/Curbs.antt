@@ -10,7 +10,7 @@ use Rattle.course.specs.Arithmetic.{_⊕_, _⊖_, _⊗_, natural, decima
 use Rattle.course.specs.Constants.{trackWidth, border, trackTurnRate}
 use Rattle.course.specs.Numeric.{absOf}
 use Rattle.course.specs.Trig.{sineOf, cosineOf}
-use Rattle.course.specs.Lengths.{mostPoints, mostNumbers}
+use Rattle.course.specs.Lengths.{columnLength, quadNumbers}
 use Rattle.course.specs.Tiles.{pair, eight, pointAt, beforeOf}
 use Rattle.course.specs.Lent.{filled}
 use Rattle.course.specs.Points.{givenCause}
@@ -115,17 +115,18 @@ unfoldable pub curbCountOf : CurbAnswer → ℕ
 curbCountOf (Count m) = m
 curbCountOf (Refused k) = 0
 
--- the lent columns have their lengths
-unfoldable pub curbRoom : List Float → List ℕ → Bool
-curbRoom q w = leb mostNumbers (length q) && leb mostPoints (length w)
+-- the lent columns have their lengths, for m curbs
+unfoldable pub curbRoom : ℕ → List Float → List ℕ → Bool
+curbRoom m q w = leb (quadNumbers m) (length q) && leb m (length w)
 
 unfoldable pub curbCause : List Float → List Float → List Float → ℕ → List Float → List ℕ → ℕ
-curbCause b x y k q w = givenCause (curbRoom q w) b x y k
+curbCause b x y k q w = givenCause (curbRoom (columnLength k) q w) b x y k
 
-unfoldable pub curbsAt : ℕ → List Float → List Float → List Float → ℕ → List Float → List ℕ → Edged
-curbsAt zero b x y k q w =
-    edged (curbAnswer 0 (length (whitesTo b x y k k))) (filled mostNumbers (quadsTo b x y k k) q) (filledMarks mostPoints (whitesTo b x y k k) w)
-curbsAt (suc c) b x y k q w = edged (curbAnswer (suc c) 0) q w
+-- by the cause: the curbs in columns for m of them, or the columns as they were
+unfoldable pub curbsAt : ℕ → ℕ → List Float → List Float → List Float → ℕ → List Float → List ℕ → Edged
+curbsAt m zero b x y k q w =
+    edged (curbAnswer 0 (length (whitesTo b x y k k))) (filled (quadNumbers m) (quadsTo b x y k k) q) (filledMarks m (whitesTo b x y k k) w)
+curbsAt m (suc c) b x y k q w = edged (curbAnswer (suc c) 0) q w
 
 unfoldable pub curbsCall : List Float → List Float → List Float → ℕ → List Float → List ℕ → Edged
-curbsCall b x y k q w = curbsAt (curbCause b x y k q w) b x y k q w
+curbsCall b x y k q w = curbsAt (columnLength k) (curbCause b x y k q w) b x y k q w

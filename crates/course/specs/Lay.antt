@@ -6,6 +6,7 @@ use Rattle.rng.specs.declared.SplitMix64.{SplitMix64}
 use Rattle.rng.specs.SplitMix.{after, seeded}
 use Rattle.course.specs.Arithmetic.{_⊗_, _⊘_, natural}
 use Rattle.course.specs.Constants.{tau, trackRad, checkpointCount, maxAttempts}
+use Rattle.course.specs.Lengths.{laidLength}
 use Rattle.course.specs.Trig.{sineOf, cosineOf}
 use Rattle.course.specs.Checkpoints.{checkpointsOf}
 use Rattle.course.specs.Step.{TrackStep}
@@ -74,11 +75,11 @@ courseOf seed = courseWithin maxAttempts seed
 
 -- cause 2 where a lent column is short, else 0
 unfoldable pub layCause : Lent → ℕ
-layCause l = cond (roomyOf (l .alpha) (l .beta) (l .x) (l .y) (l .tiles) (l .offsets)) 0 2
+layCause l = cond (roomyOf laidLength (l .alpha) (l .beta) (l .x) (l .y) (l .tiles) (l .offsets)) 0 2
 
 -- a call refused by a cause leaves the columns as they were; else the course is laid, or cause 3 holds
 unfoldable pub layAt : ℕ → CoursePoints → Lent → Outcome
-layAt zero c l = layInto (c .fallback) (c .points) l
+layAt zero c l = layInto laidLength (c .fallback) (c .points) l
 layAt (suc k) c l = outcome (laidAnswer (suc k) noValues) l
 
 unfoldable pub layCall : ℕ → ℕ → Lent → Outcome

@@ -8,7 +8,7 @@ use lib.Ieee.{Float, nan}
 use Rattle.rng.specs.declared.SplitMix64.{SplitMix64}
 use Rattle.rng.specs.SplitMix.{after}
 use Rattle.course.specs.Constants.{checkpointCount}
-use Rattle.course.specs.Lengths.{mostPoints}
+use Rattle.course.specs.Lengths.{stepLimit, laidLength}
 use Rattle.course.specs.Checkpoints.{checkpointsOf}
 use Rattle.course.specs.Finder.{Destination, Going, NotFound}
 use Rattle.course.specs.Step.{Walk, TrackStep, Stepped, On, Refused, Sight, Turned, To, TooFar}
@@ -70,7 +70,7 @@ turnedAs CodeTurned.Refused = TooFar
 pub record Trod (cs : List Checkpoint) (a b u v a′ b′ u′ v′ : List Float) (n : ℕ) (ok : Bool) : Type 0 where
   pub result : ok ≡ walkOf cs .ok
   pub count : n ≡ length (walkOf cs .steps)
-  pub few : n ≤ mostPoints
+  pub few : n ≤ stepLimit
   pub alpha : a′ ≡ stepAlphas (walkOf cs .steps) ++ drop n a
   pub beta : b′ ≡ stepBetas (walkOf cs .steps) ++ drop n b
   pub x : u′ ≡ stepXs (walkOf cs .steps) ++ drop n u
@@ -93,13 +93,13 @@ pub record Cut (ps : List TrackStep) (from n : ℕ) : Type 0 where
   pub size : n ≡ length (trackOf ps)
   pub part : take n (drop from ps) ≡ trackOf ps
 
--- the n points stand in front; what follows them up to 2,500 is not said, and nothing beyond is touched
+-- the n points stand in front; what follows them up to the length of lay's columns is not said, and nothing beyond is touched
 pub record InFront (ps : List TrackPoint) (a b u v a′ b′ u′ v′ : List Float) (n : ℕ) : Type 0 where
   pub count : n ≡ length ps
   pub beta : take n b′ ≡ betas ps
   pub x : take n u′ ≡ xs ps
   pub y : take n v′ ≡ ys ps
-  pub kept-a : drop mostPoints a′ ≡ drop mostPoints a
-  pub kept-b : drop mostPoints b′ ≡ drop mostPoints b
-  pub kept-x : drop mostPoints u′ ≡ drop mostPoints u
-  pub kept-y : drop mostPoints v′ ≡ drop mostPoints v
+  pub kept-a : drop laidLength a′ ≡ drop laidLength a
+  pub kept-b : drop laidLength b′ ≡ drop laidLength b
+  pub kept-x : drop laidLength u′ ≡ drop laidLength u
+  pub kept-y : drop laidLength v′ ≡ drop laidLength v

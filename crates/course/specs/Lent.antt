@@ -6,7 +6,7 @@ use lib.Dec.{leb, ltb, eqb}
 use lib.ListN.{length, getD, drop, replicate}
 use lib.Ieee.{Float}
 use Rattle.course.specs.Arithmetic.{nought}
-use Rattle.course.specs.Lengths.{mostPoints, mostNumbers, offsetCount}
+use Rattle.course.specs.Lengths.{quadNumbers, offsetCount}
 use Rattle.course.specs.Tiles.{noPoint}
 use Rattle.course.specs.Course.{Course, fromPoints, cellsOf}
 use Rattle.course.specs.declared.tiles.TrackPoint.{TrackPoint}
@@ -35,25 +35,24 @@ pub record Outcome : Type 0 where
 abbrev pub outcome : Laid → Lent → Outcome
 outcome r l = record { answer = r; lent = l }
 
--- the lent columns have their lengths; the index list has none
-unfoldable pub roomyOf : List Float → List Float → List Float → List Float → List Float → List ℕ → Bool
-roomyOf a b x y t o =
-    leb mostPoints (length a)
-    && (leb mostPoints (length b)
-    && (leb mostPoints (length x) && (leb mostPoints (length y) && (leb mostNumbers (length t) && leb offsetCount (length o)))))
+-- the lent columns have their lengths, those of points m entries; the index list has none
+unfoldable pub roomyOf : ℕ → List Float → List Float → List Float → List Float → List Float → List ℕ → Bool
+roomyOf m a b x y t o =
+    leb m (length a)
+    && (leb m (length b) && (leb m (length x) && (leb m (length y) && (leb (quadNumbers m) (length t) && leb offsetCount (length o)))))
 
 -- a column of m entries afterwards: the course's own, 0 up to m, and what stood beyond
 unfoldable pub filled : ℕ → List Float → List Float → List Float
 filled m own c = own ++ (replicate (m - length own) nought ++ drop m c)
 
--- the columns with the course; offsets and list as before where the list is too short (cause 3)
-unfoldable pub written : Bool → Course → Lent → Lent
-written short c l = record {
-  alpha = filled mostPoints [] (l .alpha);
-  beta = filled mostPoints (c .beta) (l .beta);
-  x = filled mostPoints (c .x) (l .x);
-  y = filled mostPoints (c .y) (l .y);
-  tiles = filled mostNumbers (c .tiles) (l .tiles);
+-- columns of m points with the course; offsets and list as before where the list is too short (cause 3)
+unfoldable pub written : ℕ → Bool → Course → Lent → Lent
+written m short c l = record {
+  alpha = filled m [] (l .alpha);
+  beta = filled m (c .beta) (l .beta);
+  x = filled m (c .x) (l .x);
+  y = filled m (c .y) (l .y);
+  tiles = filled (quadNumbers m) (c .tiles) (l .tiles);
   offsets = cond short (l .offsets) (c .offsets ++ drop offsetCount (l .offsets));
   list = cond short (l .list) (c .list ++ drop (length (c .list)) (l .list));
 }
@@ -92,7 +91,7 @@ answered short fallback ps = laidAnswer (cond short 3 0) (laidFigures fallback p
 
 -- ---- what is done
 
--- what lay and points do once the course's points are known
-unfoldable pub layInto : Bool → List TrackPoint → Lent → Outcome
-layInto fallback ps l =
-    outcome (answered (ltb (length (l .list)) (cellsOf ps)) fallback ps) (written (ltb (length (l .list)) (cellsOf ps)) (fromPoints ps) l)
+-- what lay and points do, in columns of m points, once the course's points are known
+unfoldable pub layInto : ℕ → Bool → List TrackPoint → Lent → Outcome
+layInto m fallback ps l =
+    outcome (answered (ltb (length (l .list)) (cellsOf ps)) fallback ps) (written m (ltb (length (l .list)) (cellsOf ps)) (fromPoints ps) l)

@@ -7,7 +7,7 @@ use lib.ListN.{length}
 use lib.Ieee.{Float}
 use Rattle.course.specs.Arithmetic.{natural}
 use Rattle.course.specs.Numeric.{within}
-use Rattle.course.specs.Lengths.{mostPoints}
+use Rattle.course.specs.Lengths.{mostPoints, columnLength}
 use Rattle.course.specs.Tiles.{pointsOf}
 use Rattle.course.specs.Lent.{Lent, Outcome, outcome, roomyOf, noValues, laidAnswer, layInto}
 use Rattle.course.specs.declared.tiles.TrackPoint.{TrackPoint}
@@ -24,7 +24,7 @@ allGood (p ∷ ps) = goodPoint p && allGood ps
 unfoldable pub givenOf : List Float → List Float → List Float → ℕ → Bool
 givenOf b x y k = leb k (length b) && (leb k (length x) && leb k (length y))
 
--- The first cause of given points b, x, y and their count k that holds: 9 for none or over 2,500, 2 where a lent column (`roomy` says that
+-- The first cause of given points b, x, y and their count k that holds: 9 for none or too many, 2 where a lent column (`roomy` says that
 -- none is) or a given one is short, 8; 0 where none does.
 unfoldable pub givenCause : Bool → List Float → List Float → List Float → ℕ → ℕ
 givenCause roomy b x y k =
@@ -35,12 +35,12 @@ givenCause roomy b x y k =
     (cond (not (allGood (pointsOf b x y k))) 8 0))))
 
 unfoldable pub pointsCause : List Float → List Float → List Float → ℕ → Lent → ℕ
-pointsCause b x y k l = givenCause (roomyOf (l .alpha) (l .beta) (l .x) (l .y) (l .tiles) (l .offsets)) b x y k
+pointsCause b x y k l = givenCause (roomyOf (columnLength k) (l .alpha) (l .beta) (l .x) (l .y) (l .tiles) (l .offsets)) b x y k
 
--- an accepted call lays the course of the given points; a refused one leaves the columns as they were
-unfoldable pub pointsAt : ℕ → List TrackPoint → Lent → Outcome
-pointsAt zero ps l = layInto false ps l
-pointsAt (suc k) ps l = outcome (laidAnswer (suc k) noValues) l
+-- by the cause: an accepted call lays the course of the given points, in columns of m; a refused one leaves the columns as they were
+unfoldable pub pointsAt : ℕ → ℕ → List TrackPoint → Lent → Outcome
+pointsAt m zero ps l = layInto m false ps l
+pointsAt m (suc c) ps l = outcome (laidAnswer (suc c) noValues) l
 
 unfoldable pub pointsCall : List Float → List Float → List Float → ℕ → Lent → Outcome
-pointsCall b x y k l = pointsAt (pointsCause b x y k l) (pointsOf b x y k) l
+pointsCall b x y k l = pointsAt (columnLength k) (pointsCause b x y k l) (pointsOf b x y k) l

@@ -4,7 +4,7 @@ use mathlib.Core.Bool.{Bool, true, false, cond}
 use mathlib.Core.List.{List, [], _∷_, _++_}
 use lib.Dec.{ltb}
 use Rattle.course.specs.Arithmetic.{nought}
-use Rattle.course.specs.Lengths.{mostPoints}
+use Rattle.course.specs.Lengths.{stepLimit}
 use Rattle.course.specs.Checkpoints.{farRad}
 use Rattle.course.specs.Step.{Walk, TrackStep, Stepped, On, Refused, stepOf}
 use Rattle.course.specs.declared.checkpoints.Checkpoint.{Checkpoint}
@@ -32,4 +32,4 @@ unfoldable pub walkStart : Walk
 walkStart = record { x = farRad; y = nought; beta = nought; dest = 0; laps = 0; visited = false }
 
 unfoldable pub walkOf : List Checkpoint → Trail
-walkOf cs = walkFrom mostPoints cs walkStart
+walkOf cs = walkFrom stepLimit cs walkStart

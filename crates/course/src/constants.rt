@@ -1,4 +1,8 @@
-// The constants of the reference's track.rs, as its expressions.
+// The constants of the reference's track.rs, as its expressions, and the lengths of lent columns.
+ghost use mathlib.Core.Path.{_≡_};
+ghost use Prim.Native.Nat.{_≤_};
+ghost use Rattle.course.specs.Lengths.{mostPoints, columnLength};
+
 pub const SCALE: f64 = 6.0;
 
 pub const TRACK_RAD: f64 = 900.0 / SCALE;
@@ -40,9 +44,22 @@ pub const GRID_DIM: usize = 67;
 
 pub const CELL_COUNT: usize = GRID_DIM * GRID_DIM;
 
-// The lengths of lent columns (document 01, "Lay": Lent): points, numbers of tiles or curbs, offsets.
+// The most steps of a walk.
+pub const STEP_LIMIT: usize = 2500;
+
+// The most points of a course (document 01, cause 9).
 pub const MOST_POINTS: usize = 2500;
 
-pub const MOST_NUMBERS: usize = 8 * MOST_POINTS;
+// The lengths of lent columns (document 01, "Lay": Lent): of alpha, beta, x and y where lay is lent them, and of offsets.
+// Tiles and curb quads have eight numbers to an entry of these.
+pub const LAID_LENGTH: usize = 2500;
 
 pub const OFFSET_COUNT: usize = CELL_COUNT + 1;
+
+// The length of the columns that are lent with a course of n points, and of white marks: one for every n.
+pub fn column_length(n: usize) -> usize
+    ensures { λ r. ⌜ r ≡ columnLength n ⌝ }
+    ensures { λ r. ⌜ r ≤ mostPoints ⌝ }
+{
+    LAID_LENGTH
+}

@@ -5,16 +5,15 @@ ghost use mathlib.Core.List.{_++_};
 ghost use mathlib.Core.Bool.{Bool};
 ghost use Prim.Native.Nat.{_+_, _*_, _-_, _<_, _≤_};
 ghost use lib.ListN.{length, take, drop, set};
-ghost use Rattle.course.specs.Lengths.{mostPoints, mostNumbers};
+ghost use Rattle.course.specs.Lengths.{mostPoints, quadNumbers};
 ghost use Rattle.course.specs.Tiles.{pointAt, beforeOf};
 ghost use Rattle.course.specs.Trig.{sinCosOf};
 ghost use Rattle.course.specs.Steps.{sinCosAs};
 ghost use Rattle.course.specs.Curbs.{turnAt, steepTurn, oneWay, markAt, afterOf, bordered, sideOf, edgeOf, curbQuad, whiteOf, edged, curbRoom, curbsCall};
 ghost use Rattle.course.specs.CourseSteps.{Curbed, CurbsTo};
 use crate::columns;
+use crate::constants;
 use crate::constants::BORDER;
-use crate::constants::MOST_NUMBERS;
-use crate::constants::MOST_POINTS;
 use crate::constants::TRACK_TURN_RATE;
 use crate::constants::TRACK_WIDTH;
 use crate::numeric;
@@ -161,7 +160,7 @@ fn put_curb(
     white: &mut [u8],
 ) -> usize
     requires { ⌜ (i < n) × (n ≤ length (now beta)) × (n ≤ length (now x)) × (n ≤ length (now y)) ⌝ }
-    requires { ⌜ (m ≤ i) × (n ≤ mostPoints) × (mostNumbers ≤ length (now quads)) × (mostPoints ≤ length (now white)) ⌝ }
+    requires { ⌜ (m ≤ i) × (n ≤ mostPoints) × (quadNumbers n ≤ length (now quads)) × (n ≤ length (now white)) ⌝ }
     ensures { λ r. ⌜
         Curbed (bordered (now (beta .entry)) n i)
         (curbQuad (pointAt (now (beta .entry)) (now (x .entry)) (now (y .entry)) i)
@@ -191,7 +190,7 @@ fn write_curbs(
     white: &mut [u8],
 ) -> usize
     requires { ⌜ (n ≤ length (now beta)) × (n ≤ length (now x)) × (n ≤ length (now y)) ⌝ }
-    requires { ⌜ (n ≤ mostPoints) × (mostNumbers ≤ length (now quads)) × (mostPoints ≤ length (now white)) ⌝ }
+    requires { ⌜ (n ≤ mostPoints) × (quadNumbers n ≤ length (now quads)) × (n ≤ length (now white)) ⌝ }
     ensures { λ r. ⌜
         CurbsTo (now (beta .entry)) (now (x .entry)) (now (y .entry)) n n r (now (quads .entry)) (now (white .entry))
         (now (quads .exit)) (now (white .exit))
@@ -206,12 +205,13 @@ fn write_curbs(
     m
 }
 
-// Whether the lent columns have their lengths (cause 2).
-fn curb_room(quads: &[f64], white: &[u8]) -> bool
-    ensures { λ r. ⌜ r ≡ curbRoom (now (quads .entry)) (now (white .entry)) ⌝ }
+// Whether the lent columns have their lengths, for m curbs (cause 2).
+fn curb_room(m: usize, quads: &[f64], white: &[u8]) -> bool
+    requires { ⌜ m ≤ mostPoints ⌝ }
+    ensures { λ r. ⌜ r ≡ curbRoom m (now (quads .entry)) (now (white .entry)) ⌝ }
 {
-    let q = MOST_NUMBERS <= quads.len();
-    let w = MOST_POINTS <= white.len();
+    let q = 8 * m <= quads.len();
+    let w = m <= white.len();
     q & w
 }
 
@@ -231,13 +231,14 @@ pub fn curbs(
         ⌝ }
 {
     let n = count as usize;
-    let room = curb_room(quads, white);
+    let m = constants::column_length(n);
+    let room = curb_room(m, quads, white);
     let k = points::given_cause(room, pbeta, px, py, n);
     if 0 < k {
         return CurbAnswer::Refused(k);
     }
-    let m = write_curbs(pbeta, px, py, n, quads, white);
-    columns::clear_from(quads, m * 8, MOST_NUMBERS);
-    columns::clear_marks(white, m, MOST_POINTS);
-    CurbAnswer::Count(m as u32)
+    let found = write_curbs(pbeta, px, py, n, quads, white);
+    columns::clear_from(quads, found * 8, 8 * m);
+    columns::clear_marks(white, found, m);
+    CurbAnswer::Count(found as u32)
 }

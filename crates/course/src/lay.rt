@@ -4,7 +4,7 @@ ghost use mathlib.Core.List.{_++_};
 ghost use Prim.Native.Nat.{_≤_};
 ghost use lib.ListN.{length, drop};
 ghost use Rattle.rng.specs.SplitMix.{after};
-ghost use Rattle.course.specs.Lengths.{mostPoints};
+ghost use Rattle.course.specs.Lengths.{laidLength};
 ghost use Rattle.course.specs.Constants.{maxAttempts};
 ghost use Rattle.course.specs.Tiles.{betas, xs, ys};
 ghost use Rattle.course.specs.Lent.{lent, outcome};
@@ -14,6 +14,7 @@ ghost use Rattle.course.specs.LaySteps.{InFront};
 use crate::checkpoints;
 use crate::checkpoints::Checkpoint;
 use crate::columns;
+use crate::constants::LAID_LENGTH;
 use crate::constants::MAX_ATTEMPTS;
 use crate::constants::TAU;
 use crate::constants::TRACK_RAD;
@@ -45,10 +46,10 @@ fn attempt(
     x: &mut [f64],
     y: &mut [f64],
 ) -> usize
-    requires { ⌜ mostPoints ≤ length (now alpha) ⌝ }
-    requires { ⌜ mostPoints ≤ length (now beta) ⌝ }
-    requires { ⌜ mostPoints ≤ length (now x) ⌝ }
-    requires { ⌜ mostPoints ≤ length (now y) ⌝ }
+    requires { ⌜ laidLength ≤ length (now alpha) ⌝ }
+    requires { ⌜ laidLength ≤ length (now beta) ⌝ }
+    requires { ⌜ laidLength ≤ length (now x) ⌝ }
+    requires { ⌜ laidLength ≤ length (now y) ⌝ }
     ensures { λ r. ⌜
         InFront (attemptOn cs) (now (alpha .entry)) (now (beta .entry)) (now (x .entry)) (now (y .entry))
         (now (alpha .exit)) (now (beta .exit)) (now (x .exit)) (now (y .exit)) r
@@ -76,10 +77,10 @@ fn try_generate(
     x: &mut [f64],
     y: &mut [f64],
 ) -> Tried
-    requires { ⌜ mostPoints ≤ length (now alpha) ⌝ }
-    requires { ⌜ mostPoints ≤ length (now beta) ⌝ }
-    requires { ⌜ mostPoints ≤ length (now x) ⌝ }
-    requires { ⌜ mostPoints ≤ length (now y) ⌝ }
+    requires { ⌜ laidLength ≤ length (now alpha) ⌝ }
+    requires { ⌜ laidLength ≤ length (now beta) ⌝ }
+    requires { ⌜ laidLength ≤ length (now x) ⌝ }
+    requires { ⌜ laidLength ≤ length (now y) ⌝ }
     ensures { λ r. ⌜
         InFront (attemptOn (checkpointsOf 12 g)) (now (alpha .entry)) (now (beta .entry)) (now (x .entry))
         (now (y .entry)) (now (alpha .exit)) (now (beta .exit)) (now (x .exit)) (now (y .exit)) (r .n)
@@ -108,9 +109,9 @@ fn ring_point(i: u32) -> TrackPoint
 
 // The ring's 100 points stand in front.
 fn ring_points(beta: &mut [f64], x: &mut [f64], y: &mut [f64])
-    requires { ⌜ mostPoints ≤ length (now beta) ⌝ }
-    requires { ⌜ mostPoints ≤ length (now x) ⌝ }
-    requires { ⌜ mostPoints ≤ length (now y) ⌝ }
+    requires { ⌜ laidLength ≤ length (now beta) ⌝ }
+    requires { ⌜ laidLength ≤ length (now x) ⌝ }
+    requires { ⌜ laidLength ≤ length (now y) ⌝ }
     ensures { λ r. ⌜ now (beta .exit) ≡ betas (ringOf 100) ++ drop 100 (now (beta .entry)) ⌝ }
     ensures { λ r. ⌜ now (x .exit) ≡ xs (ringOf 100) ++ drop 100 (now (x .entry)) ⌝ }
     ensures { λ r. ⌜ now (y .exit) ≡ ys (ringOf 100) ++ drop 100 (now (y .entry)) ⌝ }
@@ -135,10 +136,10 @@ fn generate_with_attempts(
     x: &mut [f64],
     y: &mut [f64],
 ) -> Generated
-    requires { ⌜ mostPoints ≤ length (now alpha) ⌝ }
-    requires { ⌜ mostPoints ≤ length (now beta) ⌝ }
-    requires { ⌜ mostPoints ≤ length (now x) ⌝ }
-    requires { ⌜ mostPoints ≤ length (now y) ⌝ }
+    requires { ⌜ laidLength ≤ length (now alpha) ⌝ }
+    requires { ⌜ laidLength ≤ length (now beta) ⌝ }
+    requires { ⌜ laidLength ≤ length (now x) ⌝ }
+    requires { ⌜ laidLength ≤ length (now y) ⌝ }
     ensures { λ r. ⌜
         InFront (courseWithin attempts seed .points) (now (alpha .entry)) (now (beta .entry)) (now (x .entry))
         (now (y .entry)) (now (alpha .exit)) (now (beta .exit)) (now (x .exit)) (now (y .exit)) (r .n)
@@ -171,10 +172,10 @@ fn generate_on(
     x: &mut [f64],
     y: &mut [f64],
 ) -> Generated
-    requires { ⌜ mostPoints ≤ length (now alpha) ⌝ }
-    requires { ⌜ mostPoints ≤ length (now beta) ⌝ }
-    requires { ⌜ mostPoints ≤ length (now x) ⌝ }
-    requires { ⌜ mostPoints ≤ length (now y) ⌝ }
+    requires { ⌜ laidLength ≤ length (now alpha) ⌝ }
+    requires { ⌜ laidLength ≤ length (now beta) ⌝ }
+    requires { ⌜ laidLength ≤ length (now x) ⌝ }
+    requires { ⌜ laidLength ≤ length (now y) ⌝ }
     ensures { λ r. ⌜
         InFront (courseOn cs .points) (now (alpha .entry)) (now (beta .entry)) (now (x .entry)) (now (y .entry))
         (now (alpha .exit)) (now (beta .exit)) (now (x .exit)) (now (y .exit)) (r .n)
@@ -212,11 +213,22 @@ pub fn lay_attempts(
         (now (offsets .entry)) (now (list .entry)))
         ⌝ }
 {
-    if !points::roomy(alpha, beta, x, y, tiles, offsets) {
+    if !points::roomy(LAID_LENGTH, alpha, beta, x, y, tiles, offsets) {
         return Laid::Refused(2);
     }
     let c = generate_with_attempts(attempts, seed, alpha, beta, x, y);
-    points::finish(c.fallback, c.n, alpha, beta, x, y, tiles, offsets, list)
+    points::finish(
+        LAID_LENGTH,
+        c.fallback,
+        c.n,
+        alpha,
+        beta,
+        x,
+        y,
+        tiles,
+        offsets,
+        list,
+    )
 }
 
 // The course of a seed in the lent columns.
@@ -261,9 +273,20 @@ pub fn lay_checkpoints(
         (now (offsets .entry)) (now (list .entry)))
         ⌝ }
 {
-    if !points::roomy(alpha, beta, x, y, tiles, offsets) {
+    if !points::roomy(LAID_LENGTH, alpha, beta, x, y, tiles, offsets) {
         return Laid::Refused(2);
     }
     let c = generate_on(cs, alpha, beta, x, y);
-    points::finish(c.fallback, c.n, alpha, beta, x, y, tiles, offsets, list)
+    points::finish(
+        LAID_LENGTH,
+        c.fallback,
+        c.n,
+        alpha,
+        beta,
+        x,
+        y,
+        tiles,
+        offsets,
+        list,
+    )
 }

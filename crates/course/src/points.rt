@@ -10,7 +10,7 @@ ghost use Rattle.course.specs.Lent.{lent, outcome, roomyOf, layInto, noC
 ghost use Rattle.course.specs.Points.{goodPoint, allGood, givenOf, givenCause, pointsCall};
 ghost use Rattle.course.specs.CourseSteps.{Roomy};
 use crate::columns;
-use crate::constants::MOST_NUMBERS;
+use crate::constants;
 use crate::constants::MOST_POINTS;
 use crate::constants::OFFSET_COUNT;
 use crate::index;
@@ -100,8 +100,9 @@ pub(crate) fn all_good(beta: &[f64], x: &[f64], y: &[f64], n: usize) -> bool
     ok
 }
 
-// Whether the lent columns have their lengths (cause 2).
+// Whether the lent columns have their lengths, those of points m entries (cause 2).
 pub(crate) fn roomy(
+    m: usize,
     alpha: &[f64],
     beta: &[f64],
     x: &[f64],
@@ -109,17 +110,18 @@ pub(crate) fn roomy(
     tiles: &[f64],
     offsets: &[u32],
 ) -> bool
+    requires { ⌜ m ≤ mostPoints ⌝ }
     ensures { λ r. ⌜
         r
-        ≡ roomyOf (now (alpha .entry)) (now (beta .entry)) (now (x .entry)) (now (y .entry)) (now (tiles .entry))
+        ≡ roomyOf m (now (alpha .entry)) (now (beta .entry)) (now (x .entry)) (now (y .entry)) (now (tiles .entry))
         (now (offsets .entry))
         ⌝ }
 {
-    let a = MOST_POINTS <= alpha.len();
-    let b = MOST_POINTS <= beta.len();
-    let c = MOST_POINTS <= x.len();
-    let d = MOST_POINTS <= y.len();
-    let e = MOST_NUMBERS <= tiles.len();
+    let a = m <= alpha.len();
+    let b = m <= beta.len();
+    let c = m <= x.len();
+    let d = m <= y.len();
+    let e = 8 * m <= tiles.len();
     let f = OFFSET_COUNT <= offsets.len();
     a & (b & (c & (d & (e & f))))
 }
@@ -156,8 +158,9 @@ pub(crate) fn given_cause(room: bool, b: &[f64], x: &[f64], y: &[f64], count: us
     0
 }
 
-// Zeros, tiles and index, once the columns begin with the n points.
+// Zeros, tiles and index, once the columns, of m points, begin with the n points.
 pub(crate) fn finish(
+    m: usize,
     fallback: bool,
     n: usize,
     alpha: &mut [f64],
@@ -168,25 +171,25 @@ pub(crate) fn finish(
     offsets: &mut [u32],
     list: &mut [u32],
 ) -> Laid
-    requires { ⌜ (0 < n) × (n ≤ mostPoints) ⌝ }
-    requires { ⌜ Roomy (now alpha) (now beta) (now x) (now y) (now tiles) (now offsets) ⌝ }
+    requires { ⌜ (0 < n) × (n ≤ m) × (m ≤ mostPoints) ⌝ }
+    requires { ⌜ Roomy m (now alpha) (now beta) (now x) (now y) (now tiles) (now offsets) ⌝ }
     ensures { λ r. ⌜
         outcome r (lent (now (alpha .exit)) (now (beta .exit)) (now (x .exit)) (now (y .exit)) (now (tiles .exit))
         (now (offsets .exit)) (now (list .exit)))
-        ≡ layInto fallback (pointsOf (now (beta .entry)) (now (x .entry)) (now (y .entry)) n)
+        ≡ layInto m fallback (pointsOf (now (beta .entry)) (now (x .entry)) (now (y .entry)) n)
         (lent (now (alpha .entry)) (now (beta .entry)) (now (x .entry)) (now (y .entry)) (now (tiles .entry))
         (now (offsets .entry)) (now (list .entry)))
         ⌝ }
 {
     let first = tiles::point_at(beta, x, y, 0);
-    let m = n * 8;
+    let used = n * 8;
     tiles::write_tiles(beta, x, y, n, tiles);
-    columns::clear_from(beta, n, MOST_POINTS);
-    columns::clear_from(x, n, MOST_POINTS);
-    columns::clear_from(y, n, MOST_POINTS);
-    columns::clear_from(tiles, m, MOST_NUMBERS);
-    let built = index::build_index(&tiles[..m], n, alpha, offsets, list);
-    columns::clear_from(alpha, 0, MOST_POINTS);
+    columns::clear_from(beta, n, m);
+    columns::clear_from(x, n, m);
+    columns::clear_from(y, n, m);
+    columns::clear_from(tiles, used, 8 * m);
+    let built = index::build_index(&tiles[..used], n, alpha, offsets, list);
+    columns::clear_from(alpha, 0, m);
     let need = built.need as u32;
     if built.short {
         return Laid::Short(need);
@@ -243,11 +246,12 @@ pub fn points(
         ⌝ }
 {
     let n = count as usize;
-    let room = roomy(alpha, beta, x, y, tiles, offsets);
+    let m = constants::column_length(n);
+    let room = roomy(m, alpha, beta, x, y, tiles, offsets);
     let k = given_cause(room, pbeta, px, py, n);
     if 0 < k {
         return Laid::Refused(k);
     }
     copy_points(pbeta, px, py, n, beta, x, y);
-    finish(false, n, alpha, beta, x, y, tiles, offsets, list)
+    finish(m, false, n, alpha, beta, x, y, tiles, offsets, list)
 }

@@ -3,7 +3,7 @@ ghost use mathlib.Core.Path.{_≡_};
 ghost use mathlib.Core.List.{List};
 ghost use Prim.Native.Nat.{_+_, _≤_, _<_};
 ghost use lib.ListN.{length};
-ghost use Rattle.course.specs.Lengths.{mostPoints};
+ghost use Rattle.course.specs.Lengths.{stepLimit};
 ghost use Rattle.course.specs.Track.{passesAt, lastPass, gluedOf};
 ghost use Rattle.course.specs.LaySteps.{Front, Cut};
 ghost use Rattle.course.specs.Step.{TrackStep};
@@ -60,9 +60,9 @@ fn well_glued(beta: f64, x0: f64, y0: f64, x1: f64, y1: f64) -> bool
 
 // The part of a walk of `len` steps that is its track.
 pub(crate) fn cut(alpha: &[f64], beta: &[f64], x: &[f64], y: &[f64], len: usize) -> Part
-    requires { ⌜ (0 < len) × (len ≤ mostPoints) ⌝ }
-    requires { ⌜ (mostPoints ≤ length (now alpha)) × (mostPoints ≤ length (now beta)) ⌝ }
-    requires { ⌜ (mostPoints ≤ length (now x)) × (mostPoints ≤ length (now y)) ⌝ }
+    requires { ⌜ (0 < len) × (len ≤ stepLimit) ⌝ }
+    requires { ⌜ (stepLimit ≤ length (now alpha)) × (stepLimit ≤ length (now beta)) ⌝ }
+    requires { ⌜ (stepLimit ≤ length (now x)) × (stepLimit ≤ length (now y)) ⌝ }
     ensures { λ r. ⌜
         ((ps : List TrackStep)
         → length ps ≡ len

@@ -2,12 +2,12 @@
 ghost use mathlib.Core.Path.{_≡_};
 ghost use Prim.Native.Nat.{_≤_};
 ghost use lib.ListN.{length};
-ghost use Rattle.course.specs.Lengths.{mostPoints};
+ghost use Rattle.course.specs.Lengths.{stepLimit};
 ghost use Rattle.course.specs.Walk.{walkStart};
 ghost use Rattle.course.specs.LaySteps.{walkAs, Trod};
 use crate::checkpoints::Checkpoint;
 use crate::constants::FAR_RAD;
-use crate::constants::MOST_POINTS;
+use crate::constants::STEP_LIMIT;
 use crate::step;
 use crate::step::Stepped;
 use crate::step::Walk;
@@ -33,7 +33,7 @@ fn start() -> Walk
     }
 }
 
-// At most 2,500 steps, until the fifth lap is done.
+// At most STEP_LIMIT steps, until the fifth lap is done.
 pub(crate) fn walk_round(
     cs: [Checkpoint; 12],
     alpha: &mut [f64],
@@ -41,10 +41,10 @@ pub(crate) fn walk_round(
     x: &mut [f64],
     y: &mut [f64],
 ) -> Walked
-    requires { ⌜ mostPoints ≤ length (now alpha) ⌝ }
-    requires { ⌜ mostPoints ≤ length (now beta) ⌝ }
-    requires { ⌜ mostPoints ≤ length (now x) ⌝ }
-    requires { ⌜ mostPoints ≤ length (now y) ⌝ }
+    requires { ⌜ stepLimit ≤ length (now alpha) ⌝ }
+    requires { ⌜ stepLimit ≤ length (now beta) ⌝ }
+    requires { ⌜ stepLimit ≤ length (now x) ⌝ }
+    requires { ⌜ stepLimit ≤ length (now y) ⌝ }
     ensures { λ r. ⌜
         Trod cs (now (alpha .entry)) (now (beta .entry)) (now (x .entry)) (now (y .entry))
         (now (alpha .exit)) (now (beta .exit)) (now (x .exit)) (now (y .exit)) (r .n) (r .ok)
@@ -53,7 +53,7 @@ pub(crate) fn walk_round(
     let mut w = start();
     let mut t = trig::quarter_turns(w.beta);
     let mut k: usize = 0;
-    while k < MOST_POINTS {
+    while k < STEP_LIMIT {
         let at = w.dest;
         let here = cs[at];
         let s = step::step(cs, here, w, t);

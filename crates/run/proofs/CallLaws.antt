@@ -8,7 +8,8 @@ use lib.Dec.{ltb, leb}
 use lib.ListN.{length}
 use lib.Ieee.{Float}
 use borrow.Author.Tests.{ltb-false, leb-false, not-false}
-use Rattle.course.specs.Lengths.{mostPoints, mostNumbers, offsetCount}
+use Rattle.course.specs.Lengths.{mostPoints, columnLength, quadNumbers, offsetCount}
+use Rattle.course.proofs.LengthLaws.{points-fit}
 use Rattle.run.specs.State.{State, stateOf, Columns, shortOf, unfit}
 use Rattle.run.specs.Arguments.{posesOk, shortColumns, settingsOk, placesOk}
 use Rattle.run.specs.Touch.{soundPoses, touchedBy}
@@ -30,12 +31,12 @@ use Rattle.run.specs.declared.settle.SettleAnswer.{SettleAnswer}
 use Rattle.run.specs.declared.settle.SettleAnswer.the-variants.{Settled, Refused as NotSettled}
 
 -- the lent tiles are long enough for n of them
-long : (tiles offsets n most : ℕ) → shortColumns tiles offsets ≡ false → ltb most n ≡ false → most ≤ mostPoints → n * 8 ≤ tiles
+long : (tiles offsets n most : ℕ) → shortColumns n tiles offsets ≡ false → ltb most n ≡ false → most ≤ mostPoints → n * 8 ≤ tiles
 unfolding shortColumns
 long tiles offsets n most h b m =
-    let t = ltb-false tiles mostNumbers (or-no (ltb tiles mostNumbers) (ltb offsets offsetCount) h .0) in
-    let k = ltb-false most n b in
-    omega arith
+    let t = ltb-false tiles (quadNumbers (columnLength n)) (or-no (ltb tiles (quadNumbers (columnLength n))) (ltb offsets offsetCount) h .0) in
+    let k = points-fit n (omega (arith, ltb-false most n b, m)) in
+    omega (arith, t, k)
 
 -- ---- start
 pub record StartFacts (most : ℕ) (l : Columns) (a : Settings) : Type 0 where
@@ -51,7 +52,7 @@ start-facts most l a m h =
     let q = cleared (startShort most l (a .n)) 1 _ (p .1) in
     let r = cleared (not (posesOk (a .poses))) 7 _ (q .1) in
     let s = cleared (not (soundPoses (l .offsets) (l .list) (a .n) (a .poses))) 9 0 (r .1) in
-    let u = or-no (shortColumns (length (l .tiles)) (length (l .offsets))) (ltb (a .n) 1 || ltb most (a .n)) (q .0) in
+    let u = or-no (shortColumns (a .n) (length (l .tiles)) (length (l .offsets))) (ltb (a .n) 1 || ltb most (a .n)) (q .0) in
     let v = or-no (ltb (a .n) 1) (ltb most (a .n)) (u .1) in
     record {
       some = ltb-false (a .n) 1 (v .0);
@@ -89,7 +90,7 @@ settle-facts most u p l x y ps m h =
     let a = cleared (unfit most u p || p .ended) 3 _ h in
     let b = cleared (not (p .driven)) 4 _ (a .1) in
     let c = cleared (leb (u .«tick_limit») (p .tick)) 5 _ (b .1) in
-    let d = cleared (shortOf l) 1 _ (c .1) in
+    let d = cleared (shortOf (u .n) l) 1 _ (c .1) in
     let e = cleared (not (placesOk x y ps)) 7 _ (d .1) in
     let v = cleared (not (soundPoses (l .offsets) (l .list) (u .n) ps)) 9 0 (e .1) in
     let f = or-no (unfit most u p) (p .ended) (a .0) in

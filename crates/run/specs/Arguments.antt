@@ -7,7 +7,7 @@ use lib.ListN.{getD}
 use lib.Ieee.{Float, nan, le}
 use Rattle.course.specs.Arithmetic.{natural}
 use Rattle.course.specs.Numeric.{within}
-use Rattle.course.specs.Lengths.{mostNumbers, offsetCount}
+use Rattle.course.specs.Lengths.{columnLength, quadNumbers, offsetCount}
 use Rattle.run.specs.declared.state.Pose.{Pose}
 use Rattle.run.specs.declared.dynamics.Motion.{Motion}
 
@@ -15,9 +15,9 @@ use Rattle.run.specs.declared.dynamics.Motion.{Motion}
 unfoldable pub settingsOk : Float → ℕ → Bool
 settingsOk share limit = (le (natural 0) share && le share (natural 1)) && (leb 1 limit && leb limit 1000000)
 
--- 2: by the lengths of the lent tiles and offsets; the index list has none
-unfoldable pub shortColumns : ℕ → ℕ → Bool
-shortColumns tiles offsets = ltb tiles mostNumbers || ltb offsets offsetCount
+-- 2: by the lengths of the tiles and offsets that are lent with a course of n points; the index list has none
+unfoldable pub shortColumns : ℕ → ℕ → ℕ → Bool
+shortColumns n tiles offsets = ltb tiles (quadNumbers (columnLength n)) || ltb offsets offsetCount
 
 -- 8: finite and within ±1,000,000
 unfoldable pub inRange : Float → Bool

@@ -45,7 +45,7 @@ settleCause most u p l x y ps =
     cond (unfit most u p || p .ended) 4
     (cond (not (p .driven)) 5
     (cond (leb (u .«tick_limit») (p .tick)) 6
-    (cond (shortOf l) 2
+    (cond (shortOf (u .n) l) 2
     (cond (not (placesOk x y ps)) 8
     (cond (not (soundPoses (l .offsets) (l .list) (u .n) ps)) 10 0)))))
 

@@ -33,7 +33,7 @@ pub record Settings : Type 0 where
 
 -- 2: a lent column is short, or n is outside 1 to most
 unfoldable pub startShort : ℕ → Columns → ℕ → Bool
-startShort most l n = shortOf l || (ltb n 1 || ltb most n)
+startShort most l n = shortOf n l || (ltb n 1 || ltb most n)
 
 unfoldable pub startCause : ℕ → Columns → Settings → ℕ
 startCause most l a =

@@ -40,9 +40,9 @@ columns ts offs l = record { tiles = ts; offsets = offs; list = l }
 
 -- ---- tests
 
--- the lent columns are short
-unfoldable pub shortOf : Columns → Bool
-shortOf c = shortColumns (length (c .tiles)) (length (c .offsets))
+-- the columns lent with a course of n points are short
+unfoldable pub shortOf : ℕ → Columns → Bool
+shortOf n c = shortColumns n (length (c .tiles)) (length (c .offsets))
 
 -- 4 but for its ended part, for a state whose sets hold `most` tiles: n outside 1 to most, or credited above n
 unfoldable pub unfit : ℕ → Setup → Progress → Bool

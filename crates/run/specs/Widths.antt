@@ -2,7 +2,7 @@
 use Prim.Native.Nat.{ℕ}
 use Rattle.course.specs.Lengths.{mostPoints}
 
--- words of a set of the full state: 40 for 2,500 tiles
+-- words of a set of the full state: with a bit for each of `mostTiles`
 abbrev pub fullWords : ℕ
 fullWords = 40
 

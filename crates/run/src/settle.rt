@@ -74,7 +74,7 @@ fn settle_cause(
     if setup.tick_limit <= progress.tick {
         return 6;
     }
-    if state::is_short(tiles.len(), offsets.len()) {
+    if state::is_short(setup.n, tiles.len(), offsets.len()) {
         return 2;
     }
     if !((state::in_range(x) & state::in_range(y)) & state::poses_ok(poses)) {

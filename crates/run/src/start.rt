@@ -69,7 +69,7 @@ fn start_cause(
     if !settings_ok(share, limit) {
         return 1;
     }
-    if state::is_short(tiles.len(), offsets.len()) | ((n < 1) | (most < n)) {
+    if state::is_short(n, tiles.len(), offsets.len()) | ((n < 1) | (most < n)) {
         return 2;
     }
     if !state::poses_ok(poses) {

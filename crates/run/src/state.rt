@@ -5,7 +5,7 @@ ghost use Rattle.run.specs.State.{unfit};
 ghost use Rattle.run.specs.Arguments.{inRange, poseOk, posesOk, shortColumns};
 use crate::widths::FULL_WORDS;
 use crate::widths::WHEEL_WORDS;
-use course::constants::MOST_NUMBERS;
+use course::constants;
 use course::constants::OFFSET_COUNT;
 use course::numeric;
 
@@ -88,11 +88,13 @@ pub fn poses_ok(p: [Pose; 4]) -> bool
     pose_ok(p[0]) & pose_ok(p[1]) & pose_ok(p[2]) & pose_ok(p[3])
 }
 
-// A lent column is short, by the lengths of tiles and offsets (cause 2).
-pub fn is_short(tiles: usize, offsets: usize) -> bool
-    ensures { λ r. ⌜ r ≡ shortColumns tiles offsets ⌝ }
+// A column lent with a course of n points is short, by the lengths of tiles and offsets (cause 2).
+pub fn is_short(n: u32, tiles: usize, offsets: usize) -> bool
+    ensures { λ r. ⌜ r ≡ shortColumns n tiles offsets ⌝ }
 {
-    (tiles < MOST_NUMBERS) | (offsets < OFFSET_COUNT)
+    let m = constants::column_length(n as usize);
+    let short = tiles < 8 * m;
+    short | (offsets < OFFSET_COUNT)
 }
 
 // Cause 4 but for its ended part, where sets hold `most` tiles: the sheet's whole cause.

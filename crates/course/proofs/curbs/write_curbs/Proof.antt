@@ -1,7 +1,7 @@
 -- `course::curbs::write_curbs` meets its contract. Assumes nothing.
 use Rattle.course.proofs.CurbLaws.{curbs-at}
 use Rattle.course.proofs.CurbLaws.{curbs-none, curbs-more}
-use Rattle.course.specs.Lengths.{mostPoints, mostNumbers}
+use Rattle.course.specs.Lengths.{mostPoints, quadNumbers}
 use Rattle.course.specs.CourseSteps.{CurbsTo}
 use mathlib.Core.List.{List, [], _∷_, _++_, append-assoc}
 use lib.ListN.{length, getD, take, drop, set, replicate}
@@ -16,7 +16,7 @@ use Rattle.course.proofs.curbs.write_curbs.Lts as lts
 use Rattle.course.proofs.curbs.put_curb.Reads as put-curb-reads
 
 abbrev Inv-loop : tie.InvT-loop
-Inv-loop beta x y n quads₀ white₀ m₀ i₀ quads white m i = (i ≤ n) × (n ≤ length beta) × (n ≤ length x) × (n ≤ length y) × (n ≤ mostPoints) × (mostNumbers ≤ length quads₀) × (mostPoints ≤ length white₀) × CurbsTo beta x y n i m quads₀ white₀ quads white
+Inv-loop beta x y n quads₀ white₀ m₀ i₀ quads white m i = (i ≤ n) × (n ≤ length beta) × (n ≤ length x) × (n ≤ length y) × (n ≤ mostPoints) × (quadNumbers n ≤ length quads₀) × (n ≤ length white₀) × CurbsTo beta x y n i m quads₀ white₀ quads white
 
 abbrev μ-loop : tie.MeasureT-loop
 μ-loop beta x y n quads₀ white₀ m₀ i₀ quads white m i = n - i

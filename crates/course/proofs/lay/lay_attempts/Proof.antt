@@ -103,25 +103,25 @@ finish-requires : tie.Need-finish-requires
 finish-requires c κs = finish-ready (ready (generated (lent-on c))) (within-sized _ _)
 
 same-length-7 : tie.Need-same-length-7
-same-length-7 c = finish-at c .finish .kept .1 .1 .0 ∙ ready (points-at c) .alpha
+same-length-7 c = finish-at c .finish .kept .1 .1 .1 .0 ∙ ready (points-at c) .alpha
 
 same-length-8 : tie.Need-same-length-8
-same-length-8 c = finish-at c .finish .kept .1 .1 .1 .0 ∙ ready (points-at c) .beta
+same-length-8 c = finish-at c .finish .kept .1 .1 .1 .1 .0 ∙ ready (points-at c) .beta
 
 same-length-9 : tie.Need-same-length-9
-same-length-9 c = finish-at c .finish .kept .1 .1 .1 .1 .0 ∙ ready (points-at c) .x
+same-length-9 c = finish-at c .finish .kept .1 .1 .1 .1 .1 .0 ∙ ready (points-at c) .x
 
 same-length-10 : tie.Need-same-length-10
-same-length-10 c = finish-at c .finish .kept .1 .1 .1 .1 .1 .0 ∙ ready (points-at c) .y
+same-length-10 c = finish-at c .finish .kept .1 .1 .1 .1 .1 .1 .0 ∙ ready (points-at c) .y
 
 same-length-11 : tie.Need-same-length-11
-same-length-11 c = finish-at c .finish .kept .1 .1 .1 .1 .1 .1 .0
+same-length-11 c = finish-at c .finish .kept .1 .1 .1 .1 .1 .1 .1 .0
 
 same-length-12 : tie.Need-same-length-12
-same-length-12 c = finish-at c .finish .kept .1 .1 .1 .1 .1 .1 .1 .0
+same-length-12 c = finish-at c .finish .kept .1 .1 .1 .1 .1 .1 .1 .1 .0
 
 same-length-13 : tie.Need-same-length-13
-same-length-13 c = finish-at c .finish .kept .1 .1 .1 .1 .1 .1 .1 .1 .0
+same-length-13 c = finish-at c .finish .kept .1 .1 .1 .1 .1 .1 .1 .1 .1 .0
 
 returns-2 : tie.Need-returns-2
 unfolding layCall

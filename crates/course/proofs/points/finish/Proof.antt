@@ -73,8 +73,8 @@ entry-before c = entry (first-read (written-before c))
 point-at-requires : tie.Need-point-at-requires
 point-at-requires c κs = search needs
 
-mul-m : tie.Need-mul-m
-mul-m c = search needs
+mul-used : tie.Need-mul-used
+mul-used c = search needs
 
 write-tiles-requires : tie.Need-write-tiles-requires
 write-tiles-requires c κs = search needs
@@ -87,6 +87,9 @@ clear-from-requires-2 c κs = search needs
 
 clear-from-requires-3 : tie.Need-clear-from-requires-3
 clear-from-requires-3 c κs = search needs
+
+mul-clear-from : tie.Need-mul-clear-from
+mul-clear-from c = omega (arith, entry-before c .pre .0 .2)
 
 clear-from-requires-4 : tie.Need-clear-from-requires-4
 clear-from-requires-4 c κs =
@@ -111,7 +114,7 @@ build-index-requires c κs =
     let t = tiles-cleared c in
     let s = entry-before (t .before) .pre in
     let long = length-take-le (entry-before (t .before) .args .n * 8) (t .clear-from4 .last .0) (tiles-fit t) in
-    ((s .0 .1, omega (arith, long)), (omega (arith, s .0 .1, s .1 .alpha), s .1 .offsets))
+    ((omega (arith, s .0 .1, s .0 .2), omega (arith, long)), (omega (arith, s .0 .1, s .1 .alpha), s .1 .offsets))
 
 clear-from-requires-5 : tie.Need-clear-from-requires-5
 clear-from-requires-5 c κs =
@@ -133,7 +136,7 @@ columns-left c =
 -- what the code did
 finished : (c : tie.After-struct-known) →
     let i = index-at c .build-index in
-    Done (columns-lent c) (entry-at c .args .n) (columns-left c)
+    Done (entry-at c .args .m) (columns-lent c) (entry-at c .args .n) (columns-left c)
     (i .last .1 .1 .0) (written-at c .write-tiles .last .1 .1 .1 .1 .0) (i .result .short) (i .result .need)
 finished c =
     record {
@@ -176,8 +179,8 @@ same-length-7 c = index-at (c .before) .build-index .kept .1 .1 .1 .1 .0
 returns : tie.Need-returns
 returns c = done-short (finished (c .before)) (entry-at (c .before) .args .fallback) (c .if1 .taken)
 
-cast-t48 : tie.Need-cast-t48
-cast-t48 c = omega (arith, entry-at (c .before) .pre .0 .1)
+cast-t50 : tie.Need-cast-t50
+cast-t50 c = omega (arith, entry-at (c .before) .pre .0 .1, entry-at (c .before) .pre .0 .2)
 
 same-length-8 : tie.Need-same-length-8
 same-length-8 c = alpha-cleared (c .before) .clear-from5 .kept .0 ∙ index-at (c .before) .build-index .kept .1 .1 .0
@@ -210,11 +213,12 @@ finish-spec =
     tie.close
     (tie.spec
     point-at-requires
-    mul-m
+    mul-used
     write-tiles-requires
     clear-from-requires
     clear-from-requires-2
     clear-from-requires-3
+    mul-clear-from
     clear-from-requires-4
     slice-reshare-prefix-build-index
     slice-aggregate-build-index
@@ -229,7 +233,7 @@ finish-spec =
     same-length-6
     same-length-7
     returns
-    cast-t48
+    cast-t50
     same-length-8
     same-length-9
     same-length-10

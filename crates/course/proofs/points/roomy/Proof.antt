@@ -11,9 +11,12 @@ use Rattle.course.proofs.points.roomy.Tie as tie
 use Rattle.course.proofs.points.roomy.Reads as reads
 use Rattle.course.proofs.points.roomy.Lts as lts
 
+mul-e : tie.Need-mul-e
+mul-e c = search needs
+
 returns : tie.Need-returns
 unfolding roomyOf
 returns c = refl
 
 pub roomy-spec : {M : Type 1} → statement M
-roomy-spec = tie.close (tie.spec returns)
+roomy-spec = tie.close (tie.spec mul-e returns)

@@ -5,7 +5,7 @@ use mathlib.Core.List.{List}
 use native.Mathlib.Omega.{arith}
 use lib.ListN.{length}
 use borrow.Author.Needs.{needs}
-use Rattle.course.specs.Lengths.{mostPoints}
+use Rattle.course.specs.Lengths.{stepLimit}
 use Rattle.course.specs.Track.{earlierPass, laterPass}
 use Rattle.course.specs.LaySteps.{Front}
 use Rattle.course.specs.Step.{TrackStep}
@@ -98,10 +98,10 @@ shared-slice-read-well-glued-3 : tie.Need-shared-slice-read-well-glued-3
 shared-slice-read-well-glued-3 c = search needs
 
 -- the last step between the passes is one of the walk's
-end-in : (c : tie.After-last-pass) {n : ℕ} → mostPoints ≤ n → c .last-pass .result - 1 - 1 < n
+end-in : (c : tie.After-last-pass) {n : ℕ} → stepLimit ≤ n → c .last-pass .result - 1 - 1 < n
 end-in c {n} wide =
     let s = entry c in
-    end-below mostPoints _ (s .args .len) n (s .pre .0 .0) (c .last-pass .ensures .1) (s .pre .0 .1) wide
+    end-below stepLimit _ (s .args .len) n (s .pre .0 .0) (c .last-pass .ensures .1) (s .pre .0 .1) wide
 
 mul-well-glued-4 : tie.Need-mul-well-glued-4
 mul-well-glued-4 c =

@@ -3,7 +3,7 @@ use borrow.Author.Needs.{needs}
 use mathlib.Core.Path.{_≡_, refl, sym, ap, _∙_}
 use Prim.Native.Nat.{_-_}
 use native.Mathlib.Omega.{arith}
-use Rattle.course.specs.Lengths.{mostPoints}
+use Rattle.course.specs.Lengths.{stepLimit}
 use Rattle.course.specs.Trig.{turnsOf}
 use Rattle.course.specs.Steps.{turnsAt}
 use Rattle.course.specs.LaySteps.{walkAs, steppedAs}
@@ -18,10 +18,10 @@ use Rattle.course.proofs.trig.quarter_turns.Reads as quarter-turns-read
 use Rattle.course.proofs.trig.quarter_turns_from.Reads as quarter-turns-from-reads
 
 abbrev Inv-loop : tie.InvT-loop
-Inv-loop alpha₀ beta₀ x₀ y₀ cs w₀ t₀ k₀ alpha beta x y w t k = Walking mostPoints cs alpha₀ beta₀ x₀ y₀ alpha beta x y (walkAs w) k × (t ≡ turnsAt (turnsOf (w .beta)))
+Inv-loop alpha₀ beta₀ x₀ y₀ cs w₀ t₀ k₀ alpha beta x y w t k = Walking stepLimit cs alpha₀ beta₀ x₀ y₀ alpha beta x y (walkAs w) k × (t ≡ turnsAt (turnsOf (w .beta)))
 
 abbrev μ-loop : tie.MeasureT-loop
-μ-loop alpha₀ beta₀ x₀ y₀ cs w₀ t₀ k₀ alpha beta x y w t k = mostPoints - k
+μ-loop alpha₀ beta₀ x₀ y₀ cs w₀ t₀ k₀ alpha beta x y w t k = stepLimit - k
 
 start-requires : tie.Need-start-requires Inv-loop μ-loop
 start-requires c κs = search needs

@@ -1,4 +1,5 @@
 -- `run::quad::box_cells` meets its contract. Assumes nothing.
+use Rattle.course.specs.Constants.{gridDim}
 use Rattle.course.specs.Cell.{cellOf, cellAt}
 use Rattle.course.proofs.Cells.{cell-high}
 use Prim.Native.Nat.{ℕ, _+_, _*_, _≤_}
@@ -163,9 +164,9 @@ four : {a b c d a′ b′ c′ d′ : ℕ} → a ≡ a′ → b ≡ b′ → c �
 four p q r s = λ i. p i ∷ q i ∷ r i ∷ s i ∷ []
 
 -- the cell of a row and a column
-cell : {r k : ℕ} {x y x′ y′ : Float} → r ≡ cellOf y → y ≡ y′ → k ≡ cellOf x → x ≡ x′ → r * 67 + k ≡ cellAt x′ y′
+cell : {r k : ℕ} {x y x′ y′ : Float} → r ≡ cellOf y → y ≡ y′ → k ≡ cellOf x → x ≡ x′ → r * gridDim + k ≡ cellAt x′ y′
 unfolding cellAt
-cell er ey ek ex = ap₂ (λ (a b : ℕ). a * 67 + b) (er ∙ ap cellOf ey) (ek ∙ ap cellOf ex)
+cell er ey ek ex = ap₂ (λ (a b : ℕ). a * gridDim + b) (er ∙ ap cellOf ey) (ek ∙ ap cellOf ex)
 
 returns : tie.Need-returns
 unfolding boxCells leastX leastY greatestX greatestY
