@@ -1,6 +1,9 @@
 // The records that change the lent course: another course, or one number of it, damaged.
 ghost use Prim.Native.Nat.{_≤_};
+ghost use Rattle.course.specs.Lengths.{mostPoints};
 use crate::read;
+use course::constants::LAID_LENGTH;
+use course::constants::MOST_POINTS;
 use course::points;
 use course::points::Laid;
 
@@ -13,9 +16,6 @@ pub const TILE: u64 = 2;
 pub const OFFSET: u64 = 3;
 
 pub const ID: u64 = 4;
-
-// The most points of a course.
-const MOST: usize = 2500;
 
 // w, but at most `most`.
 pub fn upto(w: u64, most: usize) -> usize
@@ -30,9 +30,9 @@ pub fn upto(w: u64, most: usize) -> usize
 
 // How many points a COURSE has.
 pub fn count(rest: &[u8]) -> usize
-    ensures { λ r. ⌜ r ≤ 2500 ⌝ }
+    ensures { λ r. ⌜ r ≤ mostPoints ⌝ }
 {
-    upto(vectors::word(rest, 1), MOST)
+    upto(vectors::word(rest, 1), MOST_POINTS)
 }
 
 // Every third word from number k on, into the front of the column.
@@ -59,10 +59,10 @@ fn call_points(
     offsets: &mut [u32],
     list: &mut [u32],
 ) -> Laid {
-    let mut alpha = [0.0f64; 2500];
-    let mut beta = [0.0f64; 2500];
-    let mut x = [0.0f64; 2500];
-    let mut y = [0.0f64; 2500];
+    let mut alpha = [0.0f64; LAID_LENGTH];
+    let mut beta = [0.0f64; LAID_LENGTH];
+    let mut x = [0.0f64; LAID_LENGTH];
+    let mut y = [0.0f64; LAID_LENGTH];
     points::points(
         pbeta,
         px,
@@ -79,9 +79,9 @@ fn call_points(
 }
 
 fn put_course(rest: &[u8], tiles: &mut [f64], offsets: &mut [u32], list: &mut [u32]) -> Laid {
-    let mut pbeta = [0.0f64; 2500];
-    let mut px = [0.0f64; 2500];
-    let mut py = [0.0f64; 2500];
+    let mut pbeta = [0.0f64; MOST_POINTS];
+    let mut px = [0.0f64; MOST_POINTS];
+    let mut py = [0.0f64; MOST_POINTS];
     give_column(rest, 2, &mut pbeta);
     give_column(rest, 3, &mut px);
     give_column(rest, 4, &mut py);

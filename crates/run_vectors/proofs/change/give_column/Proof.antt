@@ -2,12 +2,13 @@
 use Prim.Native.Nat.{_-_, _≤_}
 use mathlib.Core.Path.{_≡_}
 use lib.ListN.{length}
+use Rattle.course.specs.Lengths.{mostPoints}
 use borrow.Author.Needs.{needs}
 use Rattle.run_vectors.proofs.change.give_column.Statement.{statement}
 use Rattle.run_vectors.proofs.change.give_column.Tie as tie
 
 abbrev Inv-loop : tie.InvT-loop
-Inv-loop rest k col₀ m i₀ col i = (length col ≡ length col₀) × (m ≤ 2500)
+Inv-loop rest k col₀ m i₀ col i = (length col ≡ length col₀) × (m ≤ mostPoints)
 
 abbrev μ-loop : tie.MeasureT-loop
 μ-loop rest k col₀ m i₀ col i = m - i
