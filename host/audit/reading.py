@@ -4,12 +4,17 @@ counts, line by line, with the comments directly above it: definitions in specs/
 src/ that they name, and the contract itself. Blank lines, `use` lines and proofs do not count, and a name of the kit is
 not followed.
 
+Definitions stand in rooms, the folders of each crate's specs/: Rules, what document 01 says, which grader and plain
+scorer share; Claim, the plain scorer and the certificate; Grader, state, words, look-up, contact and calls; Laws, the
+words of laws beside the contracts; Steps, what private functions alone cite.
+
 usage: host/audit/reading                 a table of the calls, then certificate and plain scorer file by file
        host/audit/reading --files CALL    what one call reaches: files, definitions and lines; CALL as the table has
                                           it, or its last part, or one of: certificate, scorer, all
-It ends with status 1, and the places, where a public contract or the certificate reaches a definition of a ..Steps
-file (they are for private functions), one that stands in proofs/ or a name that cannot be found, where a public function
-has no contract, and where docs/RULES.md has other counts than these."""
+It ends with status 1, and the places, where a public contract or the certificate reaches a definition of Steps or Laws,
+one that stands in proofs/ or a name that cannot be found; where a definition of Rules cites one of another room, or the
+plain scorer reaches one of Grader; where a definition stands in no room, or a public function has no contract; where
+docs/RULES.md has other counts than these, or names a definition or law that is not in the file that it names."""
 import re
 import sys
 from collections import deque
@@ -19,6 +24,9 @@ TOP = Path(__file__).resolve().parents[2]
 CRATES = TOP / "crates"
 # the rows of docs/RULES.md that have counts
 ROWS = {"the certificate, with the contract of `replay`": "certificate", "the plain scorer alone": "scorer", "every public call and the certificate": "all"}
+# the rooms in the order in which they are read; declarations and contracts stand in src/
+ROOMS = ("Rules", "Claim", "Grader", "Laws", "Steps")
+COUNTED = (*ROOMS[:3], "src")
 # what Rattle and its proof language have of their own
 WORDS = set("record let in where do module Type now λ → ← ∀ = : _ ⌜ ⌝ ⊥ ⊤ × | Self".split())
 SIMPLE = set("self u8 u16 u32 u64 usize i8 i16 i32 i64 isize f32 f64 bool mut a Self as static".split())
@@ -41,6 +49,9 @@ class File:
     def __init__(self, path, crate):
         self.path, self.crate = path, crate
         self.name = str(path.relative_to(CRATES))
+        # the room of a definition's file; "src" for a file of code, None where it stands in no room
+        parts = path.relative_to(CRATES / crate).parts
+        self.room = "src" if parts[0] == "src" else parts[1] if len(parts) == 3 and parts[1] in ROOMS else None
         self.text = path.read_text(encoding="utf-8").split("\n")
         # the file's own names; the names that it takes from elsewhere, and whence
         self.own, self.taken, self.items = {}, {}, []
@@ -237,7 +248,8 @@ class Tree:
         for root in sorted(p.parent for p in CRATES.glob("*/specs") if p.is_dir()):
             crate = root.name
             for path in sorted((root / "specs").rglob("*.antt")):
-                self.specs[crate, path.stem] = read_definitions(path, crate)
+                within = path.relative_to(root / "specs").with_suffix("").parts
+                self.specs[crate, within] = read_definitions(path, crate)
             for path in sorted((root / "proofs").glob("*.antt")):
                 self.proofs[crate, path.stem] = path
             for path in sorted((root / "src").rglob("*.rt")):
@@ -268,10 +280,12 @@ class Tree:
                 rest = rest[:-1]
             file = self.source.get((crate, tuple(rest[:-1])))
             return file and file.own.get(rest[-1])
-        file = self.specs.get((crate, rest[0])) if rest else None
-        if not file:
-            return None
-        return self.find(file, rest[1] if len(rest) > 1 else name)
+        # the file is the longest part of the path that is one; what follows it is a type whose cases are taken
+        for end in range(len(rest), 0, -1):
+            file = self.specs.get((crate, tuple(rest[:end])))
+            if file:
+                return self.find(file, rest[end] if end < len(rest) else name)
+        return None
 
     def find(self, file, name):
         if name in file.own:
@@ -374,8 +388,8 @@ class Reach:
                     self.faults.append(f"{path} stands in proofs/: {self.chain(item)}")
             for name in item.lost:
                 self.faults.append(f"no definition of '{name}': {self.chain(item)}")
-            if item.file.path.name.endswith("Steps.antt"):
-                self.faults.append(f"a definition for private functions: {self.chain(item)}")
+            if item.file.room in ("Steps", "Laws"):
+                self.faults.append(f"a definition of {item.file.room}: {self.chain(item)}")
             if item.kind == "contract" and not item.clauses:
                 self.faults.append(f"a public function without a contract: {item}")
 
@@ -395,6 +409,13 @@ class Reach:
     def lines(self):
         return sum(item.lines for item in self.items)
 
+    def in_room(self, room):
+        return sum(item.lines for item in self.items if item.file.room == room)
+
+    def counts(self):
+        """Files and lines, and the lines of each room."""
+        return [len(self.files()), self.lines(), *(self.in_room(room) for room in COUNTED)]
+
 
 def by_file(title, reach, names):
     print(f"\n{title}: {reach.lines():,} lines in {len(reach.files())} files")
@@ -408,8 +429,41 @@ def by_file(title, reach, names):
 def other_counts(named):
     """The rows of docs/RULES.md that are missing or have other counts."""
     rows = (TOP / "docs" / "RULES.md").read_text(encoding="utf-8").splitlines()
-    wanted = [f"| {title} | {len(named[key].files())} | {named[key].lines():,} |" for title, key in ROWS.items()]
+    wanted = [f"| {title} | " + " | ".join(f"{n:,}" for n in named[key].counts()) + " |" for title, key in ROWS.items()]
     return [f"docs/RULES.md should have the row {row}" for row in wanted if row not in rows]
+
+
+CITED = re.compile(r"((?:`[^`]+`(?:, and |, | and | )?)+)(?:and (?:the )?others )?(?:in|there,) ((?:\w+/(?:specs|proofs)/[\w/]+\.antt(?:, | and )?)+)")
+
+
+def not_there(tree):
+    """The definitions and laws that docs/RULES.md names in a file where none has that name."""
+    text = " ".join((TOP / "docs" / "RULES.md").read_text(encoding="utf-8").split())
+    found = []
+    for names, paths in CITED.findall(text):
+        files = re.findall(r"[\w/]+\.antt", paths)
+        here = [CRATES / f for f in files]
+        if not all(f.exists() for f in here):
+            found.append(f"docs/RULES.md names a file that is not there: {paths}")
+            continue
+        lines = "\n".join(f.read_text(encoding="utf-8") for f in here)
+        for name in re.findall(r"`([^`]+)`", names):
+            if not re.search(rf"(?m)^ *(?:\w+ )*«?{re.escape(name.split('.')[0])}»?(?: \(.*)? :", lines):
+                found.append(f"docs/RULES.md: no `{name}` in {paths}")
+    return found
+
+
+def misplaced(tree, scorer):
+    """Definitions that stand in no room, that cite what their room does not, or that the plain scorer should not reach."""
+    found = []
+    for file in tree.specs.values():
+        for item in file.items:
+            if file.room is None:
+                found.append(f"in no room: {item}")
+            if file.room == "Rules":
+                found += [f"a rule cites {there.file.room}: {item} -> {there}" for there in item.cited if there.file.room not in ("Rules", "src")]
+    found += [f"the plain scorer reaches {i.file.room}: {scorer.chain(i)}" for i in scorer.items if i.file.room not in ("Rules", "Claim", "src")]
+    return found
 
 
 def main(args):
@@ -422,7 +476,7 @@ def main(args):
     tree = Tree()
 
     def one(file_name):
-        found = [f for (crate, name), f in tree.specs.items() if name == file_name]
+        found = [f for (crate, within), f in tree.specs.items() if within[-1] == file_name]
         if len(found) != 1:
             sys.exit(f"reading: {len(found)} files {file_name}.antt in crates/*/specs, where one is wanted")
         return found[0]
@@ -450,12 +504,14 @@ def main(args):
             print("from the kit: " + ", ".join(sorted(reach.kit)))
         return 0
 
-    print(f"{'public call':46}{'files':>6}{'lines':>7}")
+    def row(title, counts):
+        print(f"{title:46}{counts[0]:>6}" + "".join(f"{n:>7,}" if isinstance(n, int) else f"{n:>7}" for n in counts[1:]))
+
+    row("public call", ["files", "lines", *COUNTED])
     for call in tree.calls:
-        reach = Reach([call])
-        print(f"{call.name:46}{len(reach.files()):6}{reach.lines():7,}")
+        row(call.name, Reach([call]).counts())
     for title, key in (("the certificate, with replay's contract", "certificate"), ("the plain scorer alone", "scorer"), ("all together", "all")):
-        print(f"{title:46}{len(named[key].files()):6}{named[key].lines():7,}")
+        row(title, named[key].counts())
     by_file("The certificate, with replay's contract", named["certificate"], False)
     by_file("The plain scorer alone", named["scorer"], False)
 
@@ -463,11 +519,11 @@ def main(args):
     print("\nReached by no public contract: the words of laws, and what private functions and proofs alone cite")
     for file in tree.specs.values():
         other = [i for i in file.items if id(i) not in reached and i.kind in ("function", "record", "data")]
-        if other and not file.path.name.endswith("Steps.antt"):
+        if other and file.room != "Steps":
             print(f"{sum(i.lines for i in other):7,}  {file.name}: " + ", ".join(i.name for i in other))
     print("\nOf the kit, outside the count: " + ", ".join(sorted(named["all"].kit | named["scorer"].kit)))
     faults = sorted(set(f for c in [*tree.calls, *statements[:2]] for f in Reach([c]).faults))
-    faults += other_counts(named)
+    faults += misplaced(tree, named["scorer"]) + other_counts(named) + not_there(tree)
     if faults:
         print(f"\n{len(faults)} faults:")
         for fault in faults:

@@ -6,10 +6,10 @@ use native.Mathlib.Omega.{arith}
 use lib.ListN.{length, getD, drop, drop-of-length-le}
 use lib.Seq.{drop-cons}
 use lib.Ieee.{Float, nan}
-use Rattle.course.specs.Tiles.{numberAt}
+use Rattle.course.specs.Rules.Tiles.{numberAt}
 use Rattle.run.specs.declared.state.WheelCtl.{WheelCtl}
 use Rattle.run.specs.declared.state.Car.{Car}
-use Rattle.certificate.specs.Numbers.{wheelFrom, carFrom, carNumbers}
+use Rattle.certificate.specs.Grader.Numbers.{wheelFrom, carFrom, carNumbers}
 
 -- n entries from number k on
 unfoldable entries : {A : Type 0} → ℕ → ℕ → A → List A → List A

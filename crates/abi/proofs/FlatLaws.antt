@@ -6,18 +6,18 @@ use Prim.Native.Nat.{ℕ}
 use lib.Dec.{eqb}
 use lib.Ieee.{Float}
 use borrow.Author.Tests.{eq-eqb, ne-eqb}
-use Rattle.course.specs.Lent.{Lent, Outcome, outcome}
-use Rattle.course.specs.Lay.{layOnCall}
-use Rattle.course.specs.Curbs.{Edged, edged}
+use Rattle.course.specs.Grader.Outcome.{CourseColumns, Outcome, outcome}
+use Rattle.course.specs.Grader.LayCall.{layOnCall}
+use Rattle.course.specs.Grader.Curbs.{Edged, edged}
 use Rattle.course.specs.declared.checkpoints.Checkpoint.{Checkpoint}
 use Rattle.course.specs.declared.points.Laid.{Laid}
 use Rattle.course.specs.declared.curbs.CurbAnswer.{CurbAnswer}
-use Rattle.run.specs.State.{view}
-use Rattle.run.specs.Start.{Begun, begun, startCauseOf, startValuesOf}
-use Rattle.run.specs.Drive.{driveCauseOf, drivePartsOf}
-use Rattle.run.specs.Settle.{settleCauseOf, settleValuesOf, SettledParts, settledParts}
-use Rattle.certificate.specs.Numbers.{motionsFrom, forceNumbers, carFrom, carNumbers}
-use Rattle.certificate.specs.Batch.{Replay, replay}
+use Rattle.run.specs.Grader.State.{view}
+use Rattle.run.specs.Grader.Start.{Begun, begun, startCauseOf, startValuesOf}
+use Rattle.run.specs.Grader.Drive.{driveCauseOf, drivePartsOf}
+use Rattle.run.specs.Grader.Settle.{settleCauseOf, settleValuesOf, SettledParts, settledParts}
+use Rattle.certificate.specs.Grader.Numbers.{motionsFrom, forceNumbers, carFrom, carNumbers}
+use Rattle.certificate.specs.Grader.Replay.{Replay, replay}
 use Rattle.run.specs.declared.state.Run.{Run}
 use Rattle.run.specs.declared.state.Setup.{Setup}
 use Rattle.run.specs.declared.state.Progress.{Progress}
@@ -30,8 +30,8 @@ use Rattle.run.specs.declared.settle.SettleAnswer.{SettleAnswer}
 use Rattle.run.specs.declared.settle.SettleValues.{SettleValues}
 use Rattle.run.specs.declared.sheet.SheetAnswer.{SheetAnswer}
 use Rattle.run.proofs.DriveLaws.{refused-keeps}
-use Rattle.abi.specs.Flat.{flatLaid, flatCurbs, runOf, flatStarted, flatDriven, flatSettled, flatSheet, flatAnswers, flatReplayed, replayColumns, columnsAfter}
-use Rattle.abi.specs.Lent.{LentDriven, lentDriven, driveLent, lentSettled}
+use Rattle.abi.specs.Grader.Flat.{flatLaid, flatCurbs, runOf, flatStarted, flatDriven, flatSettled, flatSheet, flatAnswers, flatReplayed, replayColumns, columnsAfter}
+use Rattle.abi.specs.Grader.InPlace.{DrivenInPlace, drivenInPlace, driveInPlace, settledInPlace}
 use Rattle.abi.specs.declared.flat.FlatLaid.{FlatLaid}
 use Rattle.abi.specs.declared.flat.FlatCurbs.{FlatCurbs}
 use Rattle.abi.specs.declared.flat.FlatSheet.{FlatSheet}
@@ -39,11 +39,11 @@ use Rattle.abi.specs.declared.flat.FlatReplayed.{FlatReplayed}
 
 -- ---- courses
 
-pub laid-whole : (f : FlatLaid) (a : Laid) (l : Lent) (o : Outcome) → f ≡ flatLaid a → outcome a l ≡ o → (f ≡ flatLaid (o .answer)) × (l ≡ o .lent)
+pub laid-whole : (f : FlatLaid) (a : Laid) (l : CourseColumns) (o : Outcome) → f ≡ flatLaid a → outcome a l ≡ o → (f ≡ flatLaid (o .answer)) × (l ≡ o .lent)
 laid-whole f a l o e p = (e ∙ ap (λ (q : Outcome). flatLaid (q .answer)) p, ap (λ (q : Outcome). q .lent) p)
 
 -- the same where the checkpoints are given
-pub laid-on-whole : (f : FlatLaid) (a : Laid) (l k : Lent) (cs ds : List Checkpoint) → f ≡ flatLaid a → outcome a l ≡ layOnCall cs k → cs ≡ ds
+pub laid-on-whole : (f : FlatLaid) (a : Laid) (l k : CourseColumns) (cs ds : List Checkpoint) → f ≡ flatLaid a → outcome a l ≡ layOnCall cs k → cs ≡ ds
     → (f ≡ flatLaid (layOnCall ds k .answer)) × (l ≡ layOnCall ds k .lent)
 laid-on-whole f a l k cs ds e p q = laid-whole f a l (layOnCall ds k) e (p ∙ ap (λ (z : List Checkpoint). layOnCall z k) q)
 
@@ -66,21 +66,21 @@ module _ (m most : ℕ) (u : Setup) (p : Progress) (car : List Float) (wheels : 
   same : d ≡ drivePartsOf m most u p (carFrom car) wheels action (motionsFrom motions)
   same = is ∙ (λ i. drivePartsOf m most u p (ec i) wheels action (em i))
 
-  written : DroveParts → List Float → LentDriven
-  written x fs = lentDriven (flatDriven (x .answer) (x .progress)) (carNumbers (x .car)) (cond (eqb (driveCauseOf (x .answer)) 0) (forceNumbers (x .forces)) fs)
+  written : DroveParts → List Float → DrivenInPlace
+  written x fs = drivenInPlace (flatDriven (x .answer) (x .progress)) (carNumbers (x .car)) (cond (eqb (driveCauseOf (x .answer)) 0) (forceNumbers (x .forces)) fs)
 
   pub driven-accepted : (car′ forces′ : List Float) → k ≡ 0 → car′ ≡ carNumbers (d .car) → forces′ ≡ forceNumbers (d .forces)
-      → lentDriven (record { cause = k; progress = d .progress }) car′ forces′ ≡ driveLent m most u p car wheels action motions forces
-  unfolding driveLent flatDriven written
+      → drivenInPlace (record { cause = k; progress = d .progress }) car′ forces′ ≡ driveInPlace m most u p car wheels action motions forces
+  unfolding driveInPlace flatDriven written
   driven-accepted car′ forces′ z eq ef =
-      (λ i. lentDriven (record { cause = ek i; progress = d .progress }) (eq i)
+      (λ i. drivenInPlace (record { cause = ek i; progress = d .progress }) (eq i)
       ((ef ∙ ap (λ (b : Bool). cond b (forceNumbers (d .forces)) forces) (sym (eq-eqb (driveCauseOf (d .answer)) 0 (sym ek ∙ z)))) i))
       ∙ ap (λ (x : DroveParts). written x forces) same
 
-  pub driven-refused : (k ≡ 0 → ⊥) → carNumbers c ≡ car → lentDriven (record { cause = k; progress = d .progress }) car forces ≡ driveLent m most u p car wheels action motions forces
-  unfolding driveLent flatDriven written
+  pub driven-refused : (k ≡ 0 → ⊥) → carNumbers c ≡ car → drivenInPlace (record { cause = k; progress = d .progress }) car forces ≡ driveInPlace m most u p car wheels action motions forces
+  unfolding driveInPlace flatDriven written
   driven-refused z back =
-      (λ i. lentDriven (record { cause = ek i; progress = d .progress }) (kept i)
+      (λ i. drivenInPlace (record { cause = ek i; progress = d .progress }) (kept i)
       (ap (λ (b : Bool). cond b (forceNumbers (d .forces)) forces) (sym (ne-eqb (driveCauseOf (d .answer)) 0 (λ e. z (ek ∙ e)))) i))
       ∙ ap (λ (x : DroveParts). written x forces) same
     where
@@ -91,12 +91,12 @@ module _ (m most : ℕ) (u : Setup) (p : Progress) (car : List Float) (wheels : 
           ∙ ap (λ (x : DroveParts). carNumbers (x .car)) (sym is)
 
 pub settled-whole : {a : SettleAnswer} {next : Progress} {c w : List ℕ} {k : ℕ} {v : SettleValues} {d : SettledParts} → k ≡ settleCauseOf a → v ≡ settleValuesOf a → settledParts a next c w ≡ d
-    → lentSettled (record { cause = k; «new_tiles» = v .«new_tiles»; n = v .n; off = v .off; lap = v .lap; ended = v .ended; progress = next }) c w
-    ≡ lentSettled (flatSettled (d .answer) (d .progress)) (d .credited) (d .wheels)
+    → settledInPlace (record { cause = k; «new_tiles» = v .«new_tiles»; n = v .n; off = v .off; lap = v .lap; ended = v .ended; progress = next }) c w
+    ≡ settledInPlace (flatSettled (d .answer) (d .progress)) (d .credited) (d .wheels)
 unfolding flatSettled
 settled-whole {next = next} {c = c} {w = w} ek ev e =
-    (λ i. lentSettled (record { cause = ek i; «new_tiles» = ev i .«new_tiles»; n = ev i .n; off = ev i .off; lap = ev i .lap; ended = ev i .ended; progress = next }) c w)
-    ∙ ap (λ (d : SettledParts). lentSettled (flatSettled (d .answer) (d .progress)) (d .credited) (d .wheels)) e
+    (λ i. settledInPlace (record { cause = ek i; «new_tiles» = ev i .«new_tiles»; n = ev i .n; off = ev i .off; lap = ev i .lap; ended = ev i .ended; progress = next }) c w)
+    ∙ ap (λ (d : SettledParts). settledInPlace (flatSettled (d .answer) (d .progress)) (d .credited) (d .wheels)) e
 
 -- ---- a whole replay
 
@@ -106,7 +106,7 @@ pub answers-whole : (fl : FlatLaid) (k : ℕ) (v : StartValues) (fs : FlatSheet)
 unfolding flatAnswers
 answers-whole fl k v fs l b s el ek ev es = λ i. record { laid = el i; «start_cause» = ek i; «start_count» = ev i .count; «start_lap» = ev i .lap; sheet = es i }
 
-pub replayed-whole : (f : FlatReplayed) (a : Laid) (b : StartAnswer) (s : SheetAnswer) (l : Lent) (ws : List ℕ) (ns : List Float) (q : Replay)
+pub replayed-whole : (f : FlatReplayed) (a : Laid) (b : StartAnswer) (s : SheetAnswer) (l : CourseColumns) (ws : List ℕ) (ns : List Float) (q : Replay)
     → f ≡ flatAnswers a b s → replay a b s l ws ns ≡ q → (f ≡ flatReplayed q) × (replayColumns l ws ns ≡ columnsAfter q)
 unfolding flatReplayed columnsAfter
 replayed-whole f a b s l ws ns q e p =

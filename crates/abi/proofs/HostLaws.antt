@@ -6,21 +6,21 @@ use Prim.Native.Nat.{ℕ, zero, suc}
 use native.Mathlib.Omega.{arith}
 use lib.Ieee.{Float}
 use borrow.Author.Tests.{ne-eqb}
-use Rattle.run.specs.State.{State, stateOf, Columns}
-use Rattle.run.specs.Pass.{gatheredOf, passOf, stillCar}
-use Rattle.run.specs.Drive.{driveAnswer, driveCauseOf, driveCause, driveAt, drivePartsOf, driveOf}
-use Rattle.run.specs.Settle.{settleAnswer, settleCauseOf, settleValuesOf, settleCause, settledBy, settleAt, settlePartsOf, settleOf}
-use Rattle.run.specs.Start.{zeroState, startedBy, startAt, startOf}
-use Rattle.certificate.specs.Answers.{Answer}
-use Rattle.certificate.specs.Calls.{Call, Replied, replyOf, repliesOf, stateAfter}
-use Rattle.certificate.specs.Numbers.{motionsFrom, forceFrom, forcesFrom, forceNumbers, wheelFrom, carFrom, carNumbers}
+use Rattle.run.specs.Grader.State.{State, stateOf, Columns}
+use Rattle.run.specs.Rules.Pass.{gatheredOf, passOf, stillCar}
+use Rattle.run.specs.Grader.Drive.{driveAnswer, driveCauseOf, driveCause, driveAt, drivePartsOf, driveOf}
+use Rattle.run.specs.Grader.Settle.{settleAnswer, settleCauseOf, settleValuesOf, settleCause, settledBy, settleAt, settlePartsOf, settleOf}
+use Rattle.run.specs.Grader.Start.{zeroState, startedBy, startAt, startOf}
+use Rattle.certificate.specs.Rules.Answers.{Answer}
+use Rattle.certificate.specs.Grader.Calls.{Call, Replied, replyOf, repliesOf, stateAfter}
+use Rattle.certificate.specs.Grader.Numbers.{motionsFrom, forceFrom, forcesFrom, forceNumbers, wheelFrom, carFrom, carNumbers}
 use Rattle.run.specs.declared.state.Setup.{Setup}
 use Rattle.run.specs.declared.state.Progress.{Progress}
 use Rattle.run.specs.declared.state.Pose.{Pose}
-use Rattle.run.specs.Start.{Settings, startCause}
-use Rattle.abi.specs.Flat.{flatDriven, flatSettled}
-use Rattle.abi.specs.Lent.{driveLent, settleLent}
-use Rattle.abi.specs.Host.{Kept, keptState, keptFrom, HostCall, valueCall, driveRead, settleRead, HostReplied, hostReply, hostReplies, keptAfter}
+use Rattle.run.specs.Grader.Start.{Settings, startCause}
+use Rattle.abi.specs.Grader.Flat.{flatDriven, flatSettled}
+use Rattle.abi.specs.Grader.InPlace.{driveInPlace, settleInPlace}
+use Rattle.abi.specs.Laws.Host.{Kept, keptState, keptFrom, HostCall, valueCall, driveRead, settleRead, HostReplied, hostReply, hostReplies, keptAfter}
 
 -- what is read, and the state that is kept
 abbrev readAs : HostReplied → Replied
@@ -31,14 +31,14 @@ module _ (m most : ℕ) (u : Setup) (p : Progress) (car : List Float) (credited 
   drive-at : (k : ℕ) (action : ℕ) (ms fs : List Float) → driveCause most u p action (motionsFrom ms) ≡ k
       → readAs (hostReply m most (record { setup = u; progress = p; car = car; credited = credited; wheels = wheels }) (HostCall.drive action ms fs))
       ≡ replyOf m most (stateOf u p (carFrom car) credited wheels) (Call.drive action (motionsFrom ms))
-  unfolding hostReply driveLent flatDriven driveRead replyOf driveOf drivePartsOf driveAt driveAnswer driveCauseOf keptState passOf gatheredOf forcesFrom forceFrom forceNumbers carFrom carNumbers wheelFrom
+  unfolding hostReply driveInPlace flatDriven driveRead replyOf driveOf drivePartsOf driveAt driveAnswer driveCauseOf keptState passOf gatheredOf forcesFrom forceFrom forceNumbers carFrom carNumbers wheelFrom
   drive-at zero action ms fs e = rw e
   drive-at (suc k) action ms fs e = rw (e, ne-eqb (suc k) 0 (λ z. omega (arith, z)))
 
   settle-at : (k : ℕ) (l : Columns) (x y : Float) (ps : List Pose) → settleCause most u p l x y ps ≡ k
       → readAs (hostReply m most (record { setup = u; progress = p; car = car; credited = credited; wheels = wheels }) (HostCall.settle l x y ps))
       ≡ replyOf m most (stateOf u p (carFrom car) credited wheels) (Call.settle l x y ps)
-  unfolding hostReply settleLent flatSettled settleRead replyOf settleOf settlePartsOf settleAt settleAnswer settleCauseOf settleValuesOf settledBy keptState
+  unfolding hostReply settleInPlace flatSettled settleRead replyOf settleOf settlePartsOf settleAt settleAnswer settleCauseOf settleValuesOf settledBy keptState
   settle-at zero l x y ps e = rw e
   settle-at (suc k) l x y ps e = rw (e, ne-eqb (suc k) 0 (λ z. omega (arith, z)))
 

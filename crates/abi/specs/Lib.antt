@@ -1,9 +1,5 @@
--- Definitions in the order in which to read them: the C boundary.
-
--- ---- the boundary
--- each answer as the numbers that cross the boundary
-pub mod Flat
--- drive and settle on a run that the host keeps in place
-pub mod Lent
--- a host's list of calls, and the certificate's
-pub mod Host
+-- The definitions of the C boundary, room by room. Each room's own file lists what is in it, a line for each file, in the order in which to read them.
+-- the grader's own: the calls as they cross the boundary
+pub mod Grader
+-- the words of laws beside the contracts
+pub mod Laws

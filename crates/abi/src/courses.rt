@@ -1,11 +1,11 @@
 // The calls that make a course: lay, points and curbs. The columns are lent by the caller.
 ghost use mathlib.Core.Path.{_≡_};
-ghost use Rattle.course.specs.Constants.{maxAttempts};
-ghost use Rattle.course.specs.Lent.{lent};
-ghost use Rattle.course.specs.Lay.{layCall};
-ghost use Rattle.course.specs.Points.{pointsCall};
-ghost use Rattle.course.specs.Curbs.{curbsCall};
-ghost use Rattle.abi.specs.Flat.{flatLaid, flatCurbs};
+ghost use Rattle.course.specs.Rules.Constants.{maxAttempts};
+ghost use Rattle.course.specs.Grader.Outcome.{lent};
+ghost use Rattle.course.specs.Grader.LayCall.{layCall};
+ghost use Rattle.course.specs.Grader.Points.{pointsCall};
+ghost use Rattle.course.specs.Grader.Curbs.{curbsCall};
+ghost use Rattle.abi.specs.Grader.Flat.{flatLaid, flatCurbs};
 use crate::flat;
 use crate::flat::FlatCurbs;
 use crate::flat::FlatLaid;

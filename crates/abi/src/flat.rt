@@ -1,10 +1,10 @@
 // What crosses the boundary: each answer as a struct of numbers, 0 and false where a case has none, and structs around
 // the arrays that C cannot pass by value.
 ghost use mathlib.Core.Path.{_≡_};
-ghost use Rattle.run.specs.Start.{startCauseOf, startValuesOf};
-ghost use Rattle.run.specs.Drive.{driveCauseOf};
-ghost use Rattle.run.specs.Settle.{settleCauseOf, settleValuesOf};
-ghost use Rattle.abi.specs.Flat.{flatLaid, flatCurbs, flatSheet, flatAngle, flatAnswers};
+ghost use Rattle.run.specs.Grader.Start.{startCauseOf, startValuesOf};
+ghost use Rattle.run.specs.Grader.Drive.{driveCauseOf};
+ghost use Rattle.run.specs.Grader.Settle.{settleCauseOf, settleValuesOf};
+ghost use Rattle.abi.specs.Grader.Flat.{flatLaid, flatCurbs, flatSheet, flatAngle, flatAnswers};
 use certificate::replay::Replayed;
 use course::curbs::CurbAnswer;
 use course::points;

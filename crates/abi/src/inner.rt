@@ -1,9 +1,9 @@
 // Inner steps of the grader, for comparisons with the reference only.
 ghost use mathlib.Core.Path.{_≡_};
-ghost use Rattle.course.specs.Lent.{lent};
-ghost use Rattle.course.specs.Lay.{layCall, layOnCall};
-ghost use Rattle.run.specs.Overlap.{overlapOf};
-ghost use Rattle.abi.specs.Flat.{flatLaid, cornersFrom, spotFrom, checkpointsFrom};
+ghost use Rattle.course.specs.Grader.Outcome.{lent};
+ghost use Rattle.course.specs.Grader.LayCall.{layCall, layOnCall};
+ghost use Rattle.run.specs.Rules.Overlap.{overlapOf};
+ghost use Rattle.abi.specs.Grader.Flat.{flatLaid, cornersFrom, spotFrom, checkpointsFrom};
 use crate::flat;
 use crate::flat::CheckpointList;
 use crate::flat::Corner;

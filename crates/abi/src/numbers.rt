@@ -1,10 +1,10 @@
 // The stand-ins for sine, cosine, atan2 and the square root, the cells, and the draws.
 ghost use mathlib.Core.Path.{_≡_};
-ghost use Rattle.rng.specs.SplitMix.{atState, drawOf};
-ghost use Rattle.course.specs.Angle.{sineCall, cosineCall, atan2Call};
-ghost use Rattle.course.specs.Root.{sqrtOf};
-ghost use Rattle.course.specs.Cell.{cellOf};
-ghost use Rattle.abi.specs.Flat.{flatAngle, flatDraw};
+ghost use Rattle.rng.specs.Rules.SplitMix.{atState, drawOf};
+ghost use Rattle.course.specs.Grader.Angle.{sineCall, cosineCall, atan2Call};
+ghost use Rattle.course.specs.Rules.Root.{sqrtOf};
+ghost use Rattle.course.specs.Rules.Cell.{cellOf};
+ghost use Rattle.abi.specs.Grader.Flat.{flatAngle, flatDraw};
 use crate::flat;
 use crate::flat::Draw;
 use crate::flat::FlatAngle;

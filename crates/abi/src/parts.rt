@@ -2,7 +2,7 @@
 ghost use mathlib.Core.Path.{_≡_};
 ghost use Prim.Native.Nat.{_+_, _≤_};
 ghost use lib.ListN.{length};
-ghost use Rattle.certificate.specs.Numbers.{wheelFrom, carFrom, carNumbers};
+ghost use Rattle.certificate.specs.Grader.Numbers.{wheelFrom, carFrom, carNumbers};
 use run::state::Car;
 use run::state::WheelCtl;
 

@@ -1,15 +1,15 @@
 // The calls of a run: start, drive, settle, sheet, reward and replay. A host keeps its run where it stands: drive, settle and sheet take the
 // small records by value, and the car and the sets are lent as arrays of their lengths.
 ghost use mathlib.Core.Path.{_≡_};
-ghost use Rattle.course.specs.Lent.{lent};
-ghost use Rattle.run.specs.Widths.{fullWords, mostTiles};
-ghost use Rattle.run.specs.State.{columns};
-ghost use Rattle.run.specs.Start.{startOf};
-ghost use Rattle.run.specs.Sheet.{sheetOf};
-ghost use Rattle.run.specs.Reward.{rewardOf};
-ghost use Rattle.certificate.specs.Batch.{replayOf};
-ghost use Rattle.abi.specs.Flat.{flatStarted, flatSheet, flatReplayed, replayColumns, columnsAfter};
-ghost use Rattle.abi.specs.Lent.{lentDriven, driveLent, lentSettled, settleLent};
+ghost use Rattle.course.specs.Grader.Outcome.{lent};
+ghost use Rattle.run.specs.Grader.Widths.{fullWords, mostTiles};
+ghost use Rattle.run.specs.Grader.State.{columns};
+ghost use Rattle.run.specs.Grader.Start.{startOf};
+ghost use Rattle.run.specs.Grader.Sheet.{sheetOf};
+ghost use Rattle.run.specs.Rules.Reward.{rewardOf};
+ghost use Rattle.certificate.specs.Grader.Replay.{replayOf};
+ghost use Rattle.abi.specs.Grader.Flat.{flatStarted, flatSheet, flatReplayed, replayColumns, columnsAfter};
+ghost use Rattle.abi.specs.Grader.InPlace.{drivenInPlace, driveInPlace, settledInPlace, settleInPlace};
 use crate::flat;
 use crate::flat::FlatDriven;
 use crate::flat::FlatReplayed;
@@ -95,8 +95,8 @@ pub extern "C" fn grader_drive_parts(
     forces: &mut [f64; FORCE_NUMBERS],
 ) -> FlatDriven
     ensures { λ r. ⌜
-        lentDriven r (now (car .exit)) (now (forces .exit))
-        ≡ driveLent fullWords mostTiles setup progress (now (car .entry)) (now (wheels .entry)) action
+        drivenInPlace r (now (car .exit)) (now (forces .exit))
+        ≡ driveInPlace fullWords mostTiles setup progress (now (car .entry)) (now (wheels .entry)) action
         (now (motions .entry)) (now (forces .entry))
         ⌝ }
 {
@@ -130,8 +130,8 @@ pub extern "C" fn grader_settle_parts(
     poses: Poses,
 ) -> FlatSettled
     ensures { λ r. ⌜
-        lentSettled r (now (credited .exit)) (now (wheels .exit))
-        ≡ settleLent fullWords mostTiles setup progress (now (credited .entry)) (now (wheels .entry))
+        settledInPlace r (now (credited .exit)) (now (wheels .exit))
+        ≡ settleInPlace fullWords mostTiles setup progress (now (credited .entry)) (now (wheels .entry))
         (columns (now (tiles .entry)) (now (offsets .entry)) (now (list .entry))) x y (poses .wheels)
         ⌝ }
 {

@@ -7,34 +7,34 @@ use native.Mathlib.Nat.{le-trans}
 use native.Mathlib.Omega.{arith}
 use lib.Dec.{ltb}
 use lib.ListN.{length, replicate, length-map}
-use Rattle.course.specs.Constants.{maxAttempts}
-use Rattle.course.specs.Lengths.{mostPoints, laidLength}
-use Rattle.course.specs.Course.{cellsOf}
-use Rattle.course.specs.Lent as course
-use Rattle.course.specs.Lent.{Outcome, layInto, laidValuesOf}
-use Rattle.course.specs.Lay.{courseOf}
+use Rattle.course.specs.Rules.Constants.{maxAttempts}
+use Rattle.course.specs.Rules.Lengths.{mostPoints, laidLength}
+use Rattle.course.specs.Grader.Course.{cellsOf}
+use Rattle.course.specs.Grader.Outcome as course
+use Rattle.course.specs.Grader.Outcome.{Outcome, layInto, laidValuesOf}
+use Rattle.course.specs.Rules.Lay.{courseOf}
 use Rattle.course.specs.declared.tiles.TrackPoint.{TrackPoint}
 use Rattle.course.proofs.CourseSizes.{course-sized}
 use Rattle.course.proofs.LayLaws.{roomy, lay-cause, lay-course, lay-columns}
-use Rattle.run.specs.Widths.{fullWords, mostTiles}
-use Rattle.run.specs.Arguments.{settingsOk, posesOk}
-use Rattle.run.specs.State.{State, Columns, shortOf, unfit}
-use Rattle.run.specs.Words.{member}
-use Rattle.run.specs.Contact.{wheelPart}
-use Rattle.run.specs.Touch.{soundPoses}
-use Rattle.run.specs.Start.{Settings, startShort, startCause, startAnswer, setupOf, firstProgress, zeroState, Begun, startedBy, startAt, startOf, startCauseOf, startValuesOf}
-use Rattle.run.specs.Drive.{driveAnswer, driveCause, driveAt, drivePartsOf, driveOf}
-use Rattle.run.specs.Settle.{settleAnswer, settleCause, settleAt, settlePartsOf, settleOf}
-use Rattle.certificate.specs.Answers.{Answer}
-use Rattle.certificate.specs.Answers.Answer.{refused}
-use Rattle.certificate.specs.Calls.{Call, Replied, replyOf, repliesOf, stateAfter}
-use Rattle.certificate.specs.Scorer.{Opening, Told, History, opening, drives, settles, lastPoses, touch, touched, touchedCount, lapDone, ended, startNumber, score, scores, keptOf}
-use Rattle.certificate.specs.Scorer.History.{begun}
-use Rattle.certificate.specs.Certificate.{Lending, lentBy, lengthsOf, Given, callOf, toldOf, callsOf, toldsOf, newSum, endedBy, allOccur, settingsFor, settingsOn, keptBy, Graded, startOn, Demand3, layNumber, seedTiles, Certificate}
-use Rattle.certificate.specs.Certificate.Lending.{laid, short}
+use Rattle.run.specs.Grader.Widths.{fullWords, mostTiles}
+use Rattle.run.specs.Rules.Arguments.{settingsOk, posesOk}
+use Rattle.run.specs.Grader.State.{State, Columns, shortOf, unfit}
+use Rattle.run.specs.Grader.Words.{member}
+use Rattle.run.specs.Grader.Contact.{wheelPart}
+use Rattle.run.specs.Grader.Touch.{soundPoses}
+use Rattle.run.specs.Grader.Start.{Settings, startShort, startCause, startAnswer, setupOf, firstProgress, zeroState, Begun, startedBy, startAt, startOf, startCauseOf, startValuesOf}
+use Rattle.run.specs.Grader.Drive.{driveAnswer, driveCause, driveAt, drivePartsOf, driveOf}
+use Rattle.run.specs.Grader.Settle.{settleAnswer, settleCause, settleAt, settlePartsOf, settleOf}
+use Rattle.certificate.specs.Rules.Answers.{Answer}
+use Rattle.certificate.specs.Rules.Answers.Answer.{refused}
+use Rattle.certificate.specs.Grader.Calls.{Call, Replied, replyOf, repliesOf, stateAfter}
+use Rattle.certificate.specs.Claim.Scorer.{Opening, Told, History, opening, drives, settles, lastPoses, touch, touched, touchedCount, lapDone, ended, startNumber, score, scores, keptOf}
+use Rattle.certificate.specs.Claim.Scorer.History.{begun}
+use Rattle.certificate.specs.Claim.Certificate.{Lending, lentBy, lengthsOf, CourseCall, callOf, toldOf, callsOf, toldsOf, newSum, endedBy, allOccur, settingsFor, settingsOn, keptBy, Graded, startOn, Demand3, layNumber, seedTiles, Certificate}
+use Rattle.certificate.specs.Claim.Certificate.Lending.{laid, short}
 use Rattle.course.proofs.BoolLaws.{or-no, cond-else, cond-skip, cleared}
 use Rattle.certificate.proofs.ScoreLaws.{InTurn, kept-turn, opening-kept, sum-is, end-is, ended-over, all-occur}
-use Rattle.certificate.proofs.Simulation.{held, Holds, stateOf, withState, started, toldBy, Lent, reply-is}
+use Rattle.certificate.proofs.Simulation.{held, HoldsCourse, historyState, withState, started, toldBy, WellLent, reply-is}
 use Rattle.run.proofs.SetMembers.{in-set, in-wheel}
 use Rattle.certificate.proofs.LaidTouch.{touched-laid, sound-laid}
 use Rattle.certificate.proofs.LentColumns.{laid-whole, ownLength, zerosPast, lent-laid, count}
@@ -59,31 +59,31 @@ zeros-after m most (g ∷ gs) = ap (λ (r : Replied). stateAfter m most (r .stat
 
 -- ---- a course c that laying left in o: its n is answered, and what is lent of it, where no column is short, holds it
 module _ (m most : ℕ) (c : List TrackPoint) (room : most ≤ 64 * m) (some : 0 < length c) (fits : length c ≤ most) (o : Outcome)
-    (counted : laidValuesOf (o .answer) .n ≡ length c) (holds : (by : Lending (length c)) → shortOf (length c) (lentBy o by) ≡ false → Holds m most c room some fits (lentBy o by)) where
+    (counted : laidValuesOf (o .answer) .n ≡ length c) (holds : (by : Lending (length c)) → shortOf (length c) (lentBy o by) ≡ false → HoldsCourse m most c room some fits (lentBy o by)) where
   -- ---- each call of the list
-  told-same : (g : Given (length c)) → toldBy m most c room some fits (callOf o g) ≡ toldOf o g
+  told-same : (g : CourseCall (length c)) → toldBy m most c room some fits (callOf o g) ≡ toldOf o g
   unfolding callOf toldOf
-  told-same (Given.drive a ms) = refl
-  told-same (Given.settle by x y ps) = refl
+  told-same (CourseCall.drive a ms) = refl
+  told-same (CourseCall.settle by x y ps) = refl
 
-  lent-right : (g : Given (length c)) → Lent m most c room some fits (callOf o g)
+  lent-right : (g : CourseCall (length c)) → WellLent m most c room some fits (callOf o g)
   unfolding callOf
-  lent-right (Given.drive a ms) = tt
-  lent-right (Given.settle by x y ps) = holds by
+  lent-right (CourseCall.drive a ms) = tt
+  lent-right (CourseCall.settle by x y ps) = holds by
 
-  one-reply : (fb : Bool) (h : History) → InTurn h → (g : Given (length c)) → replyOf m most (stateOf m most c room some fits fb h) (callOf o g) ≡ withState m most c room some fits fb (score c h (toldOf o g))
+  one-reply : (fb : Bool) (h : History) → InTurn h → (g : CourseCall (length c)) → replyOf m most (historyState m most c room some fits fb h) (callOf o g) ≡ withState m most c room some fits fb (score c h (toldOf o g))
   one-reply fb h v g =
       reply-is m most c room some fits fb h v (callOf o g) (lent-right g)
       ∙ ap (λ (t : Told). withState m most c room some fits fb (score c h t)) (told-same g)
 
-  pub replies-are : (fb : Bool) (cs : List (Given (length c))) (h : History) → InTurn h → repliesOf m most (stateOf m most c room some fits fb h) (callsOf o cs) ≡ scores c h (toldsOf o cs)
+  pub replies-are : (fb : Bool) (cs : List (CourseCall (length c))) (h : History) → InTurn h → repliesOf m most (historyState m most c room some fits fb h) (callsOf o cs) ≡ scores c h (toldsOf o cs)
   unfolding repliesOf scores
   replies-are fb [] h v = refl
   replies-are fb (g ∷ cs) h v =
       ap (λ (r : Replied). r .answer ∷ repliesOf m most (r .state) (callsOf o cs)) (one-reply fb h v g)
       ∙ ap (λ (r : List Answer). score c h (toldOf o g) .answer ∷ r) (replies-are fb cs (score c h (toldOf o g) .kept) (kept-turn c h v (toldOf o g)))
 
-  pub after-is : (fb : Bool) (cs : List (Given (length c))) (h : History) → InTurn h → stateAfter m most (stateOf m most c room some fits fb h) (callsOf o cs) ≡ stateOf m most c room some fits fb (keptOf c h (toldsOf o cs))
+  pub after-is : (fb : Bool) (cs : List (CourseCall (length c))) (h : History) → InTurn h → stateAfter m most (historyState m most c room some fits fb h) (callsOf o cs) ≡ historyState m most c room some fits fb (keptOf c h (toldsOf o cs))
   unfolding stateAfter keptOf
   after-is fb [] h v = refl
   after-is fb (g ∷ cs) h v =
@@ -127,7 +127,7 @@ module _ (m most : ℕ) (c : List TrackPoint) (room : most ≤ 64 * m) (some : 0
         (cleared (shortOf (length c) (lentBy o by) || (ltb (length c) 1 || ltb most (length c))) 1 _ (cleared (not (settingsOk (b .share) (b .limit))) 0 _ e .1) .0) .0
 
     abbrev first : Begun
-    first = record { answer = startAnswer 0 (record { count = touchedCount c (begun b); lap = lapDone c (begun b) }); state = stateOf m most c room some fits fb (begun b) }
+    first = record { answer = startAnswer 0 (record { count = touchedCount c (begun b); lap = lapDone c (begun b) }); state = historyState m most c room some fits fb (begun b) }
 
     pub start-accepted : startNumber c most (lengthsOf (lentBy o by)) b ≡ 0 → startOn m most o by fb b ≡ first
     unfolding startAt
@@ -149,7 +149,7 @@ module _ (m most : ℕ) (c : List TrackPoint) (room : most ≤ 64 * m) (some : 0
     zeros-at (suc k) l a n = refl
 
     -- ---- the list after it
-    graded : (cs : List (Given (length c))) → Graded m most c o first fb b cs
+    graded : (cs : List (CourseCall (length c))) → Graded m most c o first fb b cs
     unfolding startAnswer startValuesOf
     graded cs =
         let same = replies-are fb cs (begun b) (begins b) in
@@ -167,7 +167,7 @@ module _ (m most : ℕ) (c : List TrackPoint) (room : most ≤ 64 * m) (some : 0
           state-wheels = λ w t l. ap (λ (s : State). member (wheelPart m (s .wheels) w) t) last ∙ in-wheel m (length c) (held m most c room some fits) (touch c (lastPoses (keptBy c o b cs))) w t l;
         }
 
-    pub demand3-on : (cs : List (Given (length c))) → Demand3 m most c o by fb b cs
+    pub demand3-on : (cs : List (CourseCall (length c))) → Demand3 m most c o by fb b cs
     demand3-on cs =
         record {
           starts = ap (λ (s : Begun). startCauseOf (s .answer)) start-same ∙ cause-at (startNumber c most (lengthsOf (lentBy o by)) b) (lentBy o by) (settingsFor (length c) fb b);
@@ -180,21 +180,21 @@ module _ (m most : ℕ) (c : List TrackPoint) (room : most ≤ 64 * m) (some : 0
 
 -- ---- a list of points that was laid in full, into any columns of its length: by lay, by points
 module _ (m most : ℕ) (c : List TrackPoint) (room : most ≤ 64 * m) (some : 0 < length c) (fits : length c ≤ most) (small : most ≤ mostPoints)
-    (fallback : Bool) (l : course.Lent) (whole : ltb (length (l .list)) (cellsOf c) ≡ false) where
+    (fallback : Bool) (l : course.CourseColumns) (whole : ltb (length (l .list)) (cellsOf c) ≡ false) where
   pub few : length c ≤ mostPoints
   few = le-trans fits small
 
-  pub lent-holds : (by : Lending (length c)) → shortOf (length c) (lentBy (layInto (ownLength c) fallback c l) by) ≡ false → Holds m most c room some fits (lentBy (layInto (ownLength c) fallback c l) by)
+  pub lent-holds : (by : Lending (length c)) → shortOf (length c) (lentBy (layInto (ownLength c) fallback c l) by) ≡ false → HoldsCourse m most c room some fits (lentBy (layInto (ownLength c) fallback c l) by)
   unfolding lentBy
   lent-holds (laid ts offs l′) e =
-      subst (λ (k : Columns). Holds m most c room some fits k) (sym (lent-laid fallback c l whole few ts offs l′))
+      subst (λ (k : Columns). HoldsCourse m most c room some fits k) (sym (lent-laid fallback c l whole few ts offs l′))
       (record {
         same = touched-laid c (zerosPast c ++ ts) offs l′;
         sound = sound-laid c (zerosPast c ++ ts) offs l′;
       })
   lent-holds (short k is) e = absurd (true≢false (sym is ∙ e))
 
-  pub laid-demand3 : (by : Lending (length c)) (fb : Bool) (b : Opening) (cs : List (Given (length c))) → Demand3 m most c (layInto (ownLength c) fallback c l) by fb b cs
+  pub laid-demand3 : (by : Lending (length c)) (fb : Bool) (b : Opening) (cs : List (CourseCall (length c))) → Demand3 m most c (layInto (ownLength c) fallback c l) by fb b cs
   laid-demand3 by fb b cs = demand3-on m most c room some fits (layInto (ownLength c) fallback c l) (count (ownLength c) fallback c l whole) lent-holds by fb b cs
 
 -- ---- a seed's course
@@ -203,7 +203,7 @@ no-cause true true e = absurd (omega (arith, e))
 no-cause true false e = (refl, refl)
 no-cause false s e = absurd (omega (arith, e))
 
-pub certificate : (seed : ℕ) (l : course.Lent) (by : Lending (seedTiles seed)) (fallback : Bool) (b : Opening) (cs : List (Given (seedTiles seed))) → Certificate seed l by fallback b cs
+pub certificate : (seed : ℕ) (l : course.CourseColumns) (by : Lending (seedTiles seed)) (fallback : Bool) (b : Opening) (cs : List (CourseCall (seedTiles seed))) → Certificate seed l by fallback b cs
 unfolding layNumber courseOf
 certificate seed l by fallback b cs =
     record {

@@ -11,22 +11,22 @@ use lib.ListN.{length, getD, List·getD-append}
 use lib.Seq.{getD-append-add}
 use lib.Ieee.{Float, nan}
 use borrow.Author.Tests.{lt-ltb, le-ltb, eq-eqb, ne-eqb}
-use Rattle.course.specs.Lengths.{cellCount}
-use Rattle.course.specs.Cell.{cellAt}
-use Rattle.course.specs.Tiles.{pair, tileQuad, eight, tileOf, tileAt, tilesTo, tilesOf}
-use Rattle.course.specs.Rect.{leastX, leastY, greatestX, greatestY, holdsOf}
-use Rattle.course.specs.Index.{addIf, listed, partOk, lookup}
-use Rattle.course.specs.Course.{fromPoints}
+use Rattle.course.specs.Rules.Lengths.{cellCount}
+use Rattle.course.specs.Rules.Cell.{cellAt}
+use Rattle.course.specs.Rules.Tiles.{pair, tileQuad, eight, tileOf, tileAt, tilesTo, tilesOf}
+use Rattle.course.specs.Rules.Rect.{leastX, leastY, greatestX, greatestY, holdsOf}
+use Rattle.course.specs.Grader.Index.{addIf, listed, partOk, lookup}
+use Rattle.course.specs.Grader.Course.{fromPoints}
 use Rattle.course.specs.declared.tiles.TrackPoint.{TrackPoint}
 use Rattle.course.proofs.Cells.{cell-high}
 use Rattle.course.proofs.CourseTiles.{tiles-long}
 use Rattle.course.proofs.BoolLaws.{and-left}
 use Rattle.course.proofs.Listing.{part-ok, laid}
-use Rattle.run.specs.Below.{everyBelow, someOf, everyOf}
-use Rattle.run.specs.Overlap.{overlapOf}
-use Rattle.run.specs.Wheel.{quadOf, boxCells}
-use Rattle.run.specs.Touch.{lists, listedBy, touchedBy, soundCell, soundQuad, soundPoses}
-use Rattle.certificate.specs.Scorer.{touch}
+use Rattle.run.specs.Rules.Below.{everyBelow, someOf, everyOf}
+use Rattle.run.specs.Rules.Overlap.{overlapOf}
+use Rattle.run.specs.Rules.Wheel.{quadOf, boxCells}
+use Rattle.run.specs.Grader.Touch.{lists, listedBy, touchedBy, soundCell, soundQuad, soundPoses}
+use Rattle.certificate.specs.Claim.Scorer.{touch}
 use Rattle.run.specs.declared.state.Pose.{Pose}
 use Rattle.run.proofs.TouchLaws.{some-end}
 

@@ -9,22 +9,22 @@ use lib.ListN.{length, take, drop, replicate, length-append, length-replicate}
 use lib.Seq.{take-at}
 use lib.Ieee.{Float}
 use borrow.Author.Tests.{le-ltb}
-use Rattle.course.specs.Arithmetic.{nought}
-use Rattle.course.specs.Lengths.{mostPoints, columnLength, quadNumbers, cellCount, offsetCount}
-use Rattle.course.specs.Tiles.{tilesOf}
-use Rattle.course.specs.Rect.{holdsOf}
-use Rattle.course.specs.Index.{start}
-use Rattle.course.specs.Course.{fromPoints, cellsOf}
-use Rattle.course.specs.Lent.{Lent, Outcome, outcome, filled, written, answered, layInto, laidFigures, laidAnswer, laidCauseOf, laidValuesOf}
+use Rattle.course.specs.Rules.Arithmetic.{nought}
+use Rattle.course.specs.Rules.Lengths.{mostPoints, columnLength, quadNumbers, cellCount, offsetCount}
+use Rattle.course.specs.Rules.Tiles.{tilesOf}
+use Rattle.course.specs.Rules.Rect.{holdsOf}
+use Rattle.course.specs.Grader.Index.{start}
+use Rattle.course.specs.Grader.Course.{fromPoints, cellsOf}
+use Rattle.course.specs.Grader.Outcome.{CourseColumns, Outcome, outcome, filled, written, answered, layInto, laidFigures, laidAnswer, laidCauseOf, laidValuesOf}
 use Rattle.course.specs.declared.tiles.TrackPoint.{TrackPoint}
 use Rattle.course.proofs.LengthLaws.{points-fit}
 use Rattle.course.proofs.CourseTiles.{tiles-long}
 use Rattle.course.proofs.IndexLaws.{table-length, index-length}
 use Rattle.course.proofs.CourseRects.{needed-start}
-use Rattle.run.specs.Arguments.{shortColumns}
-use Rattle.run.specs.State.{columns, shortOf}
-use Rattle.certificate.specs.Certificate.{lentBy}
-use Rattle.certificate.specs.Certificate.Lending.{laid}
+use Rattle.run.specs.Rules.Arguments.{shortColumns}
+use Rattle.run.specs.Grader.State.{columns, shortOf}
+use Rattle.certificate.specs.Claim.Certificate.{lentBy}
+use Rattle.certificate.specs.Claim.Certificate.Lending.{laid}
 
 -- ---- lengths of a course's columns
 
@@ -63,7 +63,7 @@ same-columns : {ts ts′ : List Float} {o o′ l l′ : List ℕ} → ts ≡ ts�
 same-columns p q r = λ i. columns (p i) (q i) (r i)
 
 -- ---- laid in columns of m points, with a list that is long enough
-module _ (m : ℕ) (fallback : Bool) (c : List TrackPoint) (l : Lent) (fits : ltb (length (l .list)) (cellsOf c) ≡ false) where
+module _ (m : ℕ) (fallback : Bool) (c : List TrackPoint) (l : CourseColumns) (fits : ltb (length (l .list)) (cellsOf c) ≡ false) where
   -- all is written, and the answer is the course
   pub laid-whole : layInto m fallback c l ≡ outcome (laidAnswer 0 (laidFigures fallback c)) (written m false (fromPoints c) l)
   unfolding layInto answered
@@ -87,7 +87,7 @@ ownLength c = columnLength (length c)
 abbrev pub zerosPast : List TrackPoint → List Float
 zerosPast c = replicate (quadNumbers (ownLength c) - length (tilesOf c)) nought
 
-module _ (fallback : Bool) (c : List TrackPoint) (l : Lent) (fits : ltb (length (l .list)) (cellsOf c) ≡ false) (few : length c ≤ mostPoints) where
+module _ (fallback : Bool) (c : List TrackPoint) (l : CourseColumns) (fits : ltb (length (l .list)) (cellsOf c) ≡ false) (few : length c ≤ mostPoints) where
   tiles-fit : length (tilesOf c) ≤ quadNumbers (ownLength c)
   tiles-fit = tiles-few (ownLength c) c (points-fit (length c) few)
 

@@ -3,7 +3,7 @@ pub mod Simulation
 pub mod LaidTouch
 pub mod LentColumns
 pub mod Certificate
-pub mod BatchLaws
 pub mod ReplayLaws
+pub mod CallColumnLaws
 pub mod Worked
 pub mod ReadBack

@@ -7,24 +7,24 @@ use native.Mathlib.Omega.{arith}
 use lib.ListN.{length, take, drop, replicate, length-replicate}
 use lib.Seq.{take-at, drop-at}
 use lib.Ieee.{Float}
-use Rattle.certificate.specs.Answers.{Answer}
-use Rattle.certificate.specs.Answers.Answer.{drove, settled, refused}
-use Rattle.certificate.specs.Numbers.{forceFrom, forcesFrom, forceNumbers}
-use Rattle.certificate.specs.Replay.{answerWords, answerNumbers, valuesFrom, wordsOf, numbersOf, allWords, allNumbers, answerFrom, answersFrom}
-use Rattle.course.specs.Counting.{digit}
-use Rattle.course.specs.Lent.{Lent}
-use Rattle.course.specs.Lay.{CoursePoints}
+use Rattle.certificate.specs.Rules.Answers.{Answer}
+use Rattle.certificate.specs.Rules.Answers.Answer.{drove, settled, refused}
+use Rattle.certificate.specs.Grader.Numbers.{forceFrom, forcesFrom, forceNumbers}
+use Rattle.certificate.specs.Grader.CallColumns.{answerWords, answerNumbers, valuesFrom, wordsOf, numbersOf, allWords, allNumbers, answerFrom, answersFrom}
+use Rattle.course.specs.Rules.Counting.{digit}
+use Rattle.course.specs.Grader.Outcome.{CourseColumns}
+use Rattle.course.specs.Rules.Lay.{CoursePoints}
 use Rattle.course.specs.declared.tiles.TrackPoint.{TrackPoint}
-use Rattle.run.specs.Pass.{gatheredOf, passOf}
-use Rattle.certificate.specs.Scorer.{startNumber, Opening, Told, History, passed, driveNumber, settleNumber, driveScore, settleScore, score, scores}
-use Rattle.certificate.specs.Batch.{toldsTo, plainAnswers, laidCourse, replayOn, lengthsIn, roomFor, replayOf}
+use Rattle.run.specs.Rules.Pass.{gatheredOf, passOf}
+use Rattle.certificate.specs.Claim.Scorer.{startNumber, Opening, Told, History, passed, driveNumber, settleNumber, driveScore, settleScore, score, scores}
+use Rattle.certificate.specs.Grader.Replay.{toldsTo, plainAnswers, laidCourse, replayOn, lengthsIn, roomFor, replayOf}
 use Rattle.run.specs.declared.state.Pose.{Pose}
 use Rattle.run.specs.declared.dynamics.Motion.{Motion}
 use Rattle.run.specs.declared.dynamics.Force.{Force}
-use Rattle.run.specs.Widths.{mostTiles}
-use Rattle.certificate.specs.Certificate.{layNumber}
-use Rattle.certificate.proofs.BatchLaws.{tolds-many}
-use Rattle.certificate.proofs.ReplayLaws.{words-four, numbers-twelve}
+use Rattle.run.specs.Grader.Widths.{mostTiles}
+use Rattle.certificate.specs.Claim.Certificate.{layNumber}
+use Rattle.certificate.proofs.ReplayLaws.{tolds-many}
+use Rattle.certificate.proofs.CallColumnLaws.{words-four, numbers-twelve}
 
 -- forces are four, one to a wheel
 abbrev pub Whole : Answer → Type 0
@@ -113,7 +113,7 @@ module _ (c : List TrackPoint) where
   plain-many (suc k) b ts = length-replicate (length ts) (refused 4)
 
 -- what a replay of n calls on the course c wrote gives back the plain scorer's answers to them, whatever stands beyond
-read-on : (l : Lent) (seed : ℕ) (c : CoursePoints) (k : ℕ) (b : Opening) (n : ℕ) (ts : List Told) (words : List ℕ) (numbers : List Float) → length ts ≡ n
+read-on : (l : CourseColumns) (seed : ℕ) (c : CoursePoints) (k : ℕ) (b : Opening) (n : ℕ) (ts : List Told) (words : List ℕ) (numbers : List Float) → length ts ≡ n
     → answersFrom n (replayOn l seed c k b n ts words numbers .words) (replayOn l seed c k b n ts words numbers .numbers) ≡ plainAnswers k (c .points) b ts
 unfolding replayOn
 read-on l seed c k b n ts words numbers e =
@@ -122,7 +122,7 @@ read-on l seed c k b n ts words numbers e =
     ∙ all-back (plainAnswers k (c .points) b ts) (plain-whole (c .points) k b ts) (drop (answerWords * n) words) (drop (answerNumbers * n) numbers)
 
 -- the same of the call: where the columns of calls and answers have room for n calls, what they hold after it is read as the plain scorer's answers
-pub replay-read : (seed : ℕ) (l : Lent) (b : Opening) (n : ℕ) (calls : List ℕ) (given : List Float) (words : List ℕ) (numbers : List Float)
+pub replay-read : (seed : ℕ) (l : CourseColumns) (b : Opening) (n : ℕ) (calls : List ℕ) (given : List Float) (words : List ℕ) (numbers : List Float)
     → roomFor n (length calls) (length given) (length words) (length numbers) ≡ true
     → answersFrom n (replayOf seed l b n calls given words numbers .words) (replayOf seed l b n calls given words numbers .numbers)
     ≡ plainAnswers (startNumber (laidCourse (layNumber seed l) seed .points) mostTiles (lengthsIn l) b) (laidCourse (layNumber seed l) seed .points) b (toldsTo (lengthsIn l) calls given n)

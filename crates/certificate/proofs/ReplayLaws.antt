@@ -1,329 +1,372 @@
--- Calls and answers in columns: what is written over a column, and a list of calls with one more at its end. Assumes nothing.
+-- What a replay leaves, from what its calls leave: the plain scorer's answers. Assumes nothing.
+use mathlib.Core.Bool.{Bool, true, false, cond, not, _&&_, or-true}
+use mathlib.Core.List.{List, [], _∷_, _++_, map-append}
 use mathlib.Core.Path.{_≡_, refl, sym, ap, ap₂, _∙_, subst}
-use mathlib.Core.List.{List, [], _∷_, _++_, append-nil, append-assoc}
-use mathlib.Core.Bool.{Bool, true, false, cond}
-use Prim.Native.Nat.{ℕ, zero, suc, _+_, _-_, _*_, _≤_, _<_, min}
-use native.Mathlib.Omega.{arith}
-use native.Mathlib.Nat.{zero-min, min-zero, suc-min-suc, le-of-eq}
+use Prim.Native.Nat.{ℕ, zero, suc, _*_, _≤_, _<_, min}
 use native.Mathlib.Numerals.{add-one}
-use lib.Dec.{eqb}
-use lib.ListN.{length, getD, replicate, take, drop, set, length-append, length-drop, drop-of-length-le}
-use lib.Seq.{sets, sets-eq, take-at, drop-at, drop-drop, length-take-le}
+use native.Mathlib.Omega.{arith}
+use lib.Dec.{ltb, leb, eqb}
+use lib.ListN.{length, getD, take, drop, replicate, length-append, length-take, take-append-drop}
+use lib.Seq.{take-take, take-length}
 use lib.Ieee.{Float}
-use Rattle.course.specs.Arithmetic.{nought}
-use Rattle.course.specs.Counting.{digit}
-use Rattle.run.specs.State.{State, Columns, columns}
-use Rattle.run.specs.Drive.{Driven, driven, driveOf}
-use Rattle.run.specs.Settle.{Done, done, settleOf}
-use Rattle.certificate.specs.Calls.{Call, driveSaid, settleSaid, replyOf, repliesOf, stateAfter}
-use Rattle.certificate.specs.Calls.Call.{drive, settle}
-use Rattle.course.specs.Tiles.{numberAt}
-use Rattle.certificate.specs.Numbers.{forceNumbers, motionsFrom, posesFrom}
-use Rattle.certificate.specs.Replay.{answerWords, answerNumbers, wordsOf, numbersOf}
-use Rattle.certificate.specs.Replay.{callWords, callNumbers, partAt, allWords, allNumbers}
-use Rattle.certificate.specs.ReplaySteps.{lentTo, callFrom, callsTo}
-use Rattle.certificate.specs.Answers.{Answer}
-use Rattle.certificate.specs.Answers.Answer.{drove, settled, refused}
-use Rattle.run.specs.declared.state.Pose.{Pose}
-use Rattle.run.specs.declared.dynamics.Motion.{Motion}
-use Rattle.run.specs.Pass.{noForces}
-use Rattle.run.specs.declared.drive.DriveAnswer.{DriveAnswer}
-use Rattle.run.specs.declared.drive.DriveAnswer.the-variants.{Forces, Refused as NotDriven}
-use Rattle.run.specs.declared.settle.SettleAnswer.{SettleAnswer}
-use Rattle.run.specs.declared.settle.SettleValues.{SettleValues}
-use Rattle.run.specs.declared.settle.SettleAnswer.the-variants.{Settled, Refused as NotSettled}
-use Rattle.run.specs.declared.dynamics.Force.{Force}
+use borrow.Author.Tests.{ltb-false, leb-true}
+use Rattle.course.specs.Rules.Constants.{maxAttempts}
+use Rattle.course.specs.Rules.Lengths.{mostPoints, columnLength, quadNumbers, offsetCount}
+use Rattle.course.specs.Grader.Course.{cellsOf}
+use Rattle.course.specs.Grader.Outcome as course
+use Rattle.course.specs.Grader.Outcome.{Outcome, layInto, laidFigures, laidAnswer, laidCauseOf, laidValuesOf}
+use Rattle.course.specs.Rules.Lay.{CoursePoints, courseOf}
+use Rattle.course.specs.Grader.LayCall.{layCall}
+use Rattle.course.specs.declared.tiles.TrackPoint.{TrackPoint}
+use Rattle.course.specs.declared.points.Laid.{Laid}
+use Rattle.course.specs.declared.points.LaidCourse.{LaidCourse}
+use Rattle.course.specs.declared.points.Laid.the-variants.{Course as Made, Short, Refused as NotLaid}
+use Rattle.course.proofs.BoolLaws.{and-left, and-right, or-no}
+use Rattle.course.proofs.CourseSizes.{course-sized}
+use Rattle.course.proofs.LayLaws.{roomy, lay-cause, lay-columns}
+use Rattle.run.specs.Rules.Arguments.{settingsOk, shortColumns}
+use Rattle.run.specs.Grader.Widths.{fullWords, mostTiles}
+use Rattle.run.specs.Grader.State.{State, Columns, columns, shortOf, unfit}
+use Rattle.run.specs.Grader.Start.{Settings, startShort, startCause, startAnswer, setupOf, firstProgress, zeroState, Begun, begun, startAt, startOf}
+use Rattle.run.specs.Grader.Sheet.{figuresOf, sheetAnswer, noFigures, sheetCause, sheetOf}
+use Rattle.certificate.specs.Grader.Calls.{Call, repliesOf, stateAfter}
+use Rattle.certificate.specs.Rules.Answers.{Answer}
+use Rattle.certificate.specs.Rules.Answers.Answer.{refused}
+use Rattle.certificate.specs.Claim.Scorer.{LentLengths, Opening, Told, History, touchedCount, lapDone, startNumber, scores, keptOf}
+use Rattle.certificate.specs.Claim.Certificate.{Lending, lentBy, lengthsOf, CourseCall, callOf, toldOf, callsOf, toldsOf, settingsFor, settingsOn, startOn, layNumber}
+use Rattle.certificate.specs.Claim.Certificate.Lending.{laid, short}
+use Rattle.course.specs.Rules.Tiles.{numberAt}
+use Rattle.certificate.specs.Grader.Numbers.{motionsFrom, posesFrom}
+use Rattle.certificate.specs.Grader.CallColumns.{callWords, callNumbers, answerWords, answerNumbers, allWords, allNumbers, partAt}
+use Rattle.certificate.specs.Steps.Replay.{lentTo, callFrom, callsTo}
+use Rattle.certificate.specs.Grader.Replay.{toldFrom, toldsTo, plainStart, plainAnswers, sheetOn, plainSheet, laidCourse, replayOn, roomFor, replayOf}
+use Rattle.run.specs.declared.start.StartAnswer.{StartAnswer}
+use Rattle.run.specs.declared.sheet.SheetAnswer.{SheetAnswer}
+use Rattle.certificate.proofs.LentColumns.{laid-whole, count, ownLength}
+use Rattle.certificate.proofs.Simulation.{HoldsCourse, historyState, fits-state}
+use Rattle.certificate.proofs.Certificate.{zeros-stay, zeros-after, replies-are, after-is, begins, start-same, start-accepted, lent-holds, no-cause}
 
--- ---- writing
+-- ---- the calls of the columns are calls of the certificate's list
 
--- as many values as a column has, written from its front on, are the column
-pub written-over : {A : Type 0} (vs l : List A) → length l ≡ length vs → sets l 0 vs ≡ vs
-written-over {A} vs l e = sets-eq vs l 0 (omega arith) ∙ ap (λ (r : List A). vs ++ r) (drop-of-length-le l {i = 0 + length vs} (omega arith)) ∙ append-nil vs
+-- a front of a column of which k entries are lent, and the rest of what is lent
+front-of : {A : Type 0} (m k : ℕ) (l : List A) → m ≤ length (take k l) → take m l ++ drop m (take k l) ≡ take k l
+front-of m k l h =
+    ap (λ (x : List _). x ++ drop m (take k l)) (sym (take-take m k l (within m k (length l) (subst (λ (n : ℕ). m ≤ n) (length-take k l) h))))
+    ∙ take-append-drop m (take k l)
+  where
+    within : (m k n : ℕ) → m ≤ min k n → m ≤ k
+    within m k n h = omega arith
 
--- a force from number i on
-abbrev putForce : List Float → ℕ → Force → List Float
-putForce l i f = set (set (set l i (f .motor)) (i + 1) (f .fx)) (i + 2) (f .fy)
+module _ (o : Outcome) where
+  abbrev pub columnsOf : Columns
+  columnsOf = columns (o .lent .tiles) (o .lent .offsets) (o .lent .list)
 
--- four forces, one after the other
-pub all-forces : (fs : List Force) (d : Force) (n₀ n₁ n₂ n₃ n₄ : List Float) → length fs ≡ 4 → length n₀ ≡ 12
-    → n₁ ≡ putForce n₀ 0 (getD fs 0 d) → n₂ ≡ putForce n₁ 3 (getD fs 1 d) → n₃ ≡ putForce n₂ 6 (getD fs 2 d) → n₄ ≡ putForce n₃ 9 (getD fs 3 d)
-    → n₄ ≡ forceNumbers fs
-unfolding forceNumbers
-all-forces [] d n₀ n₁ n₂ n₃ n₄ l m e₁ e₂ e₃ e₄ = absurd (omega arith)
-all-forces (f ∷ []) d n₀ n₁ n₂ n₃ n₄ l m e₁ e₂ e₃ e₄ = absurd (omega arith)
-all-forces (f ∷ g ∷ []) d n₀ n₁ n₂ n₃ n₄ l m e₁ e₂ e₃ e₄ = absurd (omega arith)
-all-forces (f ∷ g ∷ h ∷ []) d n₀ n₁ n₂ n₃ n₄ l m e₁ e₂ e₃ e₄ = absurd (omega arith)
-all-forces (f ∷ g ∷ h ∷ k ∷ []) d n₀ n₁ n₂ n₃ n₄ l m e₁ e₂ e₃ e₄ =
-    e₄
-    ∙ ap (λ (n : List Float). putForce n 9 k)
-    (e₃ ∙ ap (λ (n : List Float). putForce n 6 h) (e₂ ∙ ap (λ (n : List Float). putForce n 3 g) e₁))
-    ∙ written-over
-    (f .motor ∷ f .fx ∷ f .fy ∷ g .motor ∷ g .fx ∷ g .fy ∷ h .motor ∷ h .fx ∷ h .fy ∷ k .motor ∷ k .fx ∷ k .fy ∷ [])
-    n₀ m
-all-forces (f ∷ g ∷ h ∷ k ∷ p ∷ rest) d n₀ n₁ n₂ n₃ n₄ l m e₁ e₂ e₃ e₄ = absurd (omega arith)
+  short-is : (t : ℕ) (l : Columns) (e : shortOf t l ≡ true) → lentBy {n = t} o (short l e) ≡ l
+  unfolding lentBy
+  short-is t l e = refl
 
--- no forces are twelve zeros
-pub no-numbers : forceNumbers noForces ≡ replicate answerNumbers nought
-unfolding forceNumbers
-no-numbers = refl
+  laid-is : (t kt ko : ℕ) → shortOf t (lentTo columnsOf kt ko) ≡ false
+      → lentBy {n = t} o (laid (drop (quadNumbers (columnLength t)) (take kt (o .lent .tiles))) (drop offsetCount (take ko (o .lent .offsets))) (drop (laidValuesOf (o .answer) .entries) (o .lent .list))) ≡ lentTo columnsOf kt ko
+  unfolding lentBy lentTo shortOf shortColumns
+  laid-is t kt ko e =
+      let p = or-no (ltb (length (take kt (o .lent .tiles))) (quadNumbers (columnLength t))) (ltb (length (take ko (o .lent .offsets))) offsetCount) e in
+      λ i. columns (front-of (quadNumbers (columnLength t)) kt (o .lent .tiles) (ltb-false _ _ (p .0)) i) (front-of offsetCount ko (o .lent .offsets) (ltb-false _ _ (p .1)) i)
+      (take-append-drop (laidValuesOf (o .answer) .entries) (o .lent .list) i)
 
--- what is written for each case of an answer
-abbrev DriveWritten : DriveAnswer → List Force → List ℕ → List Float → Type 0
-DriveWritten a fs ws ns = (ws ≡ wordsOf (driveSaid a fs)) × (ns ≡ numbersOf (driveSaid a fs))
+  -- parts of the laid columns, lent with a course of t points, are the course's with what stands beyond, or too short
+  parts : (t kt ko : ℕ) → (by : Lending t) × (lentBy o by ≡ lentTo columnsOf kt ko)
+  parts t kt ko = go (shortOf t (lentTo columnsOf kt ko)) refl
+    where
+      go : (b : Bool) → shortOf t (lentTo columnsOf kt ko) ≡ b → (by : Lending t) × (lentBy o by ≡ lentTo columnsOf kt ko)
+      go true e = (short (lentTo columnsOf kt ko) e, short-is t (lentTo columnsOf kt ko) e)
+      go false e = (
+        laid (drop (quadNumbers (columnLength t)) (take kt (o .lent .tiles))) (drop offsetCount (take ko (o .lent .offsets))) (drop (laidValuesOf (o .answer) .entries) (o .lent .list)),
+        laid-is t kt ko e,
+      )
 
-pub written-forces : (a : DriveAnswer) (fs : List Force) (ws : List ℕ) (ns : List Float) → a ≡ Forces
-    → ws ≡ 0 ∷ 0 ∷ 0 ∷ 0 ∷ [] → ns ≡ forceNumbers fs → DriveWritten a fs ws ns
-unfolding wordsOf numbersOf
-written-forces a fs ws ns e h k = subst (λ (x : DriveAnswer). DriveWritten x fs ws ns) (sym e) (h, k)
+  -- the lengths that the plain scorer is told
+  module _ (t : ℕ) (k : LentLengths) (same-tiles : length (o .lent .tiles) ≡ k .tiles) (same-offsets : length (o .lent .offsets) ≡ k .offsets) where
+    lengths-are : (kt ko : ℕ) → lengthsOf (lentTo columnsOf kt ko) ≡ record { tiles = min kt (k .tiles); offsets = min ko (k .offsets) }
+    unfolding lengthsOf lentTo
+    lengths-are kt ko = λ i.
+        record {
+          tiles = (length-take kt (o .lent .tiles) ∙ ap (min kt) same-tiles) i;
+          offsets = (length-take ko (o .lent .offsets) ∙ ap (min ko) same-offsets) i;
+        }
 
-pub written-not-driven : (a : DriveAnswer) (fs : List Force) (ws : List ℕ) (ns : List Float) (c : ℕ) → a ≡ NotDriven c
-    → ws ≡ 2 ∷ c ∷ 0 ∷ 0 ∷ [] → ns ≡ replicate answerNumbers nought → DriveWritten a fs ws ns
-unfolding wordsOf numbersOf
-written-not-driven a fs ws ns c e h k = subst (λ (x : DriveAnswer). DriveWritten x fs ws ns) (sym e) (h, k)
+    -- a call of the list, as grader and scorer meet it
+    abbrev Meant : List ℕ → List Float → Type 0
+    Meant ws ns = (g : CourseCall t) × (callOf o g ≡ callFrom columnsOf ws ns) × (toldOf o g ≡ toldFrom k ws ns)
 
-abbrev SettleWritten : SettleAnswer → List ℕ → List Float → Type 0
-SettleWritten a ws ns = (ws ≡ wordsOf (settleSaid a)) × (ns ≡ numbersOf (settleSaid a))
+    meant : (ws : List ℕ) (ns : List Float) → Meant ws ns
+    unfolding callOf toldOf callFrom toldFrom
+    meant ws ns = go (eqb (getD ws 0 0) 0) refl
+      where
+        by-parts : (by : Lending t) × (lentBy o by ≡ lentTo columnsOf (getD ws 2 0) (getD ws 3 0))
+        by-parts = parts t (getD ws 2 0) (getD ws 3 0)
 
-pub written-settled : (a : SettleAnswer) (ws : List ℕ) (ns : List Float) (v : SettleValues) (f : ℕ) → a ≡ Settled v
-    → f ≡ digit (v .off) + 2 * digit (v .lap) + 4 * digit (v .ended) → ws ≡ 1 ∷ v .«new_tiles» ∷ v .n ∷ f ∷ [] → ns ≡ replicate answerNumbers nought → SettleWritten a ws ns
-unfolding wordsOf numbersOf
-written-settled a ws ns v f e g h k =
-    subst (λ (x : SettleAnswer). SettleWritten x ws ns) (sym e) (h ∙ ap (λ (x : ℕ). 1 ∷ v .«new_tiles» ∷ v .n ∷ x ∷ []) g, k)
+        go : (b : Bool) → eqb (getD ws 0 0) 0 ≡ b → Meant ws ns
+        go true e = (CourseCall.drive (getD ws 1 0) (motionsFrom ns), sym (simp e), sym (simp e))
+        go false e = (
+          CourseCall.settle (by-parts .0) (numberAt ns 0) (numberAt ns 1) (posesFrom ns),
+          ap (λ (l : Columns). Call.settle l (numberAt ns 0) (numberAt ns 1) (posesFrom ns)) (by-parts .1) ∙ sym (simp e),
+          ap (λ (l : LentLengths). Told.settle l (numberAt ns 0) (numberAt ns 1) (posesFrom ns)) (ap lengthsOf (by-parts .1) ∙ lengths-are (getD ws 2 0) (getD ws 3 0)) ∙ sym (simp e),
+        )
 
-pub written-not-settled : (a : SettleAnswer) (ws : List ℕ) (ns : List Float) (c : ℕ) → a ≡ NotSettled c
-    → ws ≡ 2 ∷ c ∷ 0 ∷ 0 ∷ [] → ns ≡ replicate answerNumbers nought → SettleWritten a ws ns
-unfolding wordsOf numbersOf
-written-not-settled a ws ns c e h k = subst (λ (x : SettleAnswer). SettleWritten x ws ns) (sym e) (h, k)
+    pub all-meant : (ws : List ℕ) (ns : List Float) (n : ℕ) → (cs : List (CourseCall t)) × (callsOf o cs ≡ callsTo columnsOf ws ns n) × (toldsOf o cs ≡ toldsTo k ws ns n)
+    unfolding callsTo toldsTo
+    all-meant ws ns zero = ([], refl, refl)
+    all-meant ws ns (suc n) =
+        let r = all-meant ws ns n in
+        let g = meant (partAt callWords ws n) (partAt callNumbers ns n) in (
+          r .0 ++ (g .0 ∷ []),
+          map-append (callOf o) (r .0) (g .0 ∷ []) ∙ ap₂ (λ (x : List Call) (y : Call). x ++ (y ∷ [])) (r .1) (g .1),
+          map-append (toldOf o) (r .0) (g .0 ∷ []) ∙ ap₂ (λ (x : List Told) (y : Told). x ++ (y ∷ [])) (r .2) (g .2),
+        )
 
--- ---- one call
-
--- the state after a call, and its answer in words and numbers
-abbrev pub Answered : ℕ → ℕ → State → Call → State → List ℕ → List Float → Type 0
-Answered m most s c after ws ns =
-    (after ≡ replyOf m most s c .state) × ((ws ≡ wordsOf (replyOf m most s c .answer)) × (ns ≡ numbersOf (replyOf m most s c .answer)))
-
-pub answered-drive : (m most : ℕ) (s : State) (a : ℕ) (ms : List Motion) (g : List Float) (r : DriveAnswer) (fs : List Force) (after : State) (ws : List ℕ) (ns : List Float)
-    → ms ≡ motionsFrom g → driven r fs after ≡ driveOf m most s a ms → ws ≡ wordsOf (driveSaid r fs) → ns ≡ numbersOf (driveSaid r fs)
-    → Answered m most s (drive a (motionsFrom g)) after ws ns
-unfolding replyOf
-answered-drive m most s a ms g r fs after ws ns e f h k =
-    let q : driven r fs after ≡ driveOf m most s a (motionsFrom g) = f ∙ ap (driveOf m most s a) e in
-    (ap (λ (d : Driven). d .state) q, (h ∙ ap (λ (d : Driven). wordsOf (driveSaid (d .answer) (d .forces))) q, k ∙ ap (λ (d : Driven). numbersOf (driveSaid (d .answer) (d .forces))) q))
-
-pub answered-settle : (m most : ℕ) (s : State) (l : Columns) (x y : Float) (ps : List Pose) (g : List Float) (a : SettleAnswer) (after : State) (ws : List ℕ) (ns : List Float)
-    → ps ≡ posesFrom g → done a after ≡ settleOf m most s l x y ps → ws ≡ wordsOf (settleSaid a) → ns ≡ numbersOf (settleSaid a)
-    → Answered m most s (settle l x y (posesFrom g)) after ws ns
-unfolding replyOf
-answered-settle m most s l x y ps g a after ws ns e f h k =
-    let q : done a after ≡ settleOf m most s l x y (posesFrom g) = f ∙ ap (settleOf m most s l x y) e in
-    (ap (λ (d : Done). d .state) q, (h ∙ ap (λ (d : Done). wordsOf (settleSaid (d .answer))) q, k ∙ ap (λ (d : Done). numbersOf (settleSaid (d .answer))) q))
-
--- a length past the end asks for all that there is
-take-min : {A : Type 0} (k : ℕ) (l : List A) → take (min k (length l)) l ≡ take k l
-take-min zero l = ap (λ (n : ℕ). take n l) (zero-min (length l))
-take-min (suc k) [] = ap (λ (n : ℕ). take n []) (min-zero (suc k))
-take-min {A} (suc k) (x ∷ xs) = ap (λ (n : ℕ). take n (x ∷ xs)) (suc-min-suc k (length xs)) ∙ ap (λ (r : List A). x ∷ r) (take-min k xs)
-
-lent-is : (l : Columns) (k j a b : ℕ) → a ≡ min k (length (l .tiles)) → b ≡ min j (length (l .offsets))
-    → columns (take a (l .tiles)) (take b (l .offsets)) (l .list) ≡ lentTo l k j
-unfolding lentTo
-lent-is l k j a b e f =
-    ap₂ (λ (t : List Float) (o : List ℕ). columns t o (l .list))
-    (ap (λ (n : ℕ). take n (l .tiles)) e ∙ take-min k (l .tiles))
-    (ap (λ (n : ℕ). take n (l .offsets)) f ∙ take-min j (l .offsets))
-
--- by its first word a call is a drive or a settle
-pub answered-as-drive : (m most : ℕ) (s : State) (l : Columns) (ws₀ : List ℕ) (g : List Float) (after : State) (ws : List ℕ) (ns : List Float)
-    → eqb (getD ws₀ 0 0) 0 ≡ true → Answered m most s (drive (getD ws₀ 1 0) (motionsFrom g)) after ws ns → Answered m most s (callFrom l ws₀ g) after ws ns
-unfolding callFrom
-answered-as-drive m most s l ws₀ g after ws ns t h =
-    subst (λ (b : Bool). Answered m most s (cond b (drive (getD ws₀ 1 0) (motionsFrom g)) (settle (lentTo l (getD ws₀ 2 0) (getD ws₀ 3 0)) (numberAt g 0) (numberAt g 1) (posesFrom g))) after ws ns)
-    (sym t) h
-
-pub answered-as-settle : (m most : ℕ) (s : State) (l : Columns) (ws₀ : List ℕ) (g : List Float) (after : State) (ws : List ℕ) (ns : List Float) (a b : ℕ)
-    → eqb (getD ws₀ 0 0) 0 ≡ false → a ≡ min (getD ws₀ 2 0) (length (l .tiles)) → b ≡ min (getD ws₀ 3 0) (length (l .offsets))
-    → Answered m most s (settle (columns (take a (l .tiles)) (take b (l .offsets)) (l .list)) (numberAt g 0) (numberAt g 1) (posesFrom g)) after ws ns
-    → Answered m most s (callFrom l ws₀ g) after ws ns
-unfolding callFrom
-answered-as-settle m most s l ws₀ g after ws ns a b t e f h =
-    subst (λ (z : Bool). Answered m most s (cond z (drive (getD ws₀ 1 0) (motionsFrom g)) (settle (lentTo l (getD ws₀ 2 0) (getD ws₀ 3 0)) (numberAt g 0) (numberAt g 1) (posesFrom g))) after ws ns)
-    (sym t)
-    (subst (λ (c : Columns). Answered m most s (settle c (numberAt g 0) (numberAt g 1) (posesFrom g)) after ws ns) (lent-is l (getD ws₀ 2 0) (getD ws₀ 3 0) a b e f) h)
-
--- ---- a call more at the end of a list
-
-pub replies-more : (m most : ℕ) (s : State) (cs : List Call) (c : Call)
-    → repliesOf m most s (cs ++ (c ∷ [])) ≡ repliesOf m most s cs ++ (replyOf m most (stateAfter m most s cs) c .answer ∷ [])
-unfolding repliesOf stateAfter
-replies-more m most s [] c = refl
-replies-more m most s (d ∷ cs) c = ap (λ (r : List Answer). replyOf m most s d .answer ∷ r) (replies-more m most (replyOf m most s d .state) cs c)
-
-pub after-more : (m most : ℕ) (s : State) (cs : List Call) (c : Call) → stateAfter m most s (cs ++ (c ∷ [])) ≡ replyOf m most (stateAfter m most s cs) c .state
-unfolding stateAfter
-after-more m most s [] c = refl
-after-more m most s (d ∷ cs) c = after-more m most (replyOf m most s d .state) cs c
-
-pub words-more : (rs : List Answer) (r : Answer) → allWords (rs ++ (r ∷ [])) ≡ allWords rs ++ wordsOf r
-unfolding allWords
-words-more [] r = append-nil (wordsOf r)
-words-more (q ∷ rs) r = ap (λ (l : List ℕ). wordsOf q ++ l) (words-more rs r) ∙ sym (append-assoc (wordsOf q) (allWords rs) (wordsOf r))
-
-pub numbers-more : (rs : List Answer) (r : Answer) → allNumbers (rs ++ (r ∷ [])) ≡ allNumbers rs ++ numbersOf r
-unfolding allNumbers
-numbers-more [] r = append-nil (numbersOf r)
-numbers-more (q ∷ rs) r = ap (λ (l : List Float). numbersOf q ++ l) (numbers-more rs r) ∙ sym (append-assoc (numbersOf q) (allNumbers rs) (numbersOf r))
-
--- ---- lengths: four words and twelve numbers to an answer, and an answer to a call
-
-pub words-four : (r : Answer) → length (wordsOf r) ≡ 4
-unfolding wordsOf
-words-four (drove fs) = refl
-words-four (settled v) = refl
-words-four (refused k) = refl
-
-pub numbers-twelve : (r : Answer) → length (numbersOf r) ≡ 12
-unfolding numbersOf forceNumbers
-numbers-twelve (drove fs) = refl
-numbers-twelve (settled v) = refl
-numbers-twelve (refused k) = refl
-
-pub all-words-long : (rs : List Answer) → length (allWords rs) ≡ 4 * length rs
-unfolding allWords
-all-words-long [] = refl
-all-words-long (r ∷ rs) = length-append (wordsOf r) (allWords rs) ∙ omega (arith, words-four r, all-words-long rs)
-
-pub all-numbers-long : (rs : List Answer) → length (allNumbers rs) ≡ 12 * length rs
-unfolding allNumbers
-all-numbers-long [] = refl
-all-numbers-long (r ∷ rs) = length-append (numbersOf r) (allNumbers rs) ∙ omega (arith, numbers-twelve r, all-numbers-long rs)
-
-replies-long : (m most : ℕ) (s : State) (cs : List Call) → length (repliesOf m most s cs) ≡ length cs
-unfolding repliesOf
-replies-long m most s [] = refl
-replies-long m most s (c ∷ cs) = ap suc (replies-long m most (replyOf m most s c .state) cs)
-
-calls-long : (l : Columns) (ws : List ℕ) (ns : List Float) (k : ℕ) → length (callsTo l ws ns k) ≡ k
+-- ---- lengths
+pub calls-many : (l : Columns) (ws : List ℕ) (ns : List Float) (n : ℕ) → length (callsTo l ws ns n) ≡ n
 unfolding callsTo
-calls-long l ws ns zero = refl
-calls-long l ws ns (suc k) =
-    length-append (callsTo l ws ns k) (callFrom l (partAt callWords ws k) (partAt callNumbers ns k) ∷ []) ∙ omega (arith, calls-long l ws ns k)
+calls-many l ws ns zero = refl
+calls-many l ws ns (suc n) = length-append (callsTo l ws ns n) _ ∙ add-one (length (callsTo l ws ns n)) ∙ ap suc (calls-many l ws ns n)
 
--- ---- a column that is written part by part
+pub tolds-many : (k : LentLengths) (ws : List ℕ) (ns : List Float) (n : ℕ) → length (toldsTo k ws ns n) ≡ n
+unfolding toldsTo
+tolds-many k ws ns zero = refl
+tolds-many k ws ns (suc n) = length-append (toldsTo k ws ns n) _ ∙ add-one (length (toldsTo k ws ns n)) ∙ ap suc (tolds-many k ws ns n)
 
-size : (a k : ℕ) → a + k - a ≡ k
-size a k = omega arith
+-- ---- a start and the calls after it, by the number of start's cause
 
-part-long : {A : Type 0} (a k : ℕ) (l : List A) → a + k ≤ length l → length (take (a + k - a) (drop a l)) ≡ k
-part-long a k l h = length-take-le (a + k - a) (drop a l) (omega (arith, length-drop a l)) ∙ size a k
+-- the sheet of a state
+abbrev pub sheetIn : State → SheetAnswer
+sheetIn s = sheetOf mostTiles (s .setup) (s .progress)
 
--- a part more behind what is written
-part-more : {A : Type 0} (a k b : ℕ) (front p col col₀ : List A) → length front ≡ a → col ≡ front ++ drop a col₀ → a + k ≡ b
-    → take a col ++ (p ++ drop (a + k - a) (drop a col)) ≡ (front ++ p) ++ drop b col₀
-part-more {A} a k b front p col col₀ e h s =
-    ap₂ (λ (x y : List A). x ++ (p ++ y))
-    (ap (take a) h ∙ take-at front (drop a col₀) a e)
-    (ap₂ (λ (j : ℕ) (x : List A). drop j x) (size a k) (ap (drop a) h ∙ drop-at front (drop a col₀) a e) ∙ drop-drop k a col₀ ∙ ap (λ (j : ℕ). drop j col₀) s)
-    ∙ sym (append-assoc front p (drop b col₀))
+module _ (b : Opening) (k : LentLengths) (n : ℕ) (calls : List ℕ) (given : List Float) where
+  abbrev ts : List Told
+  ts = toldsTo k calls given n
 
-column-long : {A : Type 0} (a : ℕ) (front col₀ : List A) → length front ≡ a → a ≤ length col₀ → length (front ++ drop a col₀) ≡ length col₀
-column-long a front col₀ e h = length-append front (drop a col₀) ∙ omega (arith, length-drop a col₀)
+  -- what they leave on the course c, lent the columns l: the plain scorer's answers
+  pub record Plain (j : ℕ) (c : CoursePoints) (l : Columns) (sa : StartAnswer) (s : State) : Type 0 where
+    pub start : sa ≡ plainStart j (c .points) b
+    pub answers : repliesOf fullWords mostTiles s (callsTo l calls given n) ≡ plainAnswers j (c .points) b ts
+    pub sheet : sheetIn (stateAfter fullWords mostTiles s (callsTo l calls given n)) ≡ plainSheet j c b ts
 
--- ---- the calls one after the other
+  -- a refused start
+  no-sheet : sheetIn (zeroState fullWords) ≡ sheetAnswer 4 noFigures
+  unfolding sheetOf sheetCause sheetAnswer unfit zeroState firstProgress
+  no-sheet = refl
 
--- the answers to the first k calls of the columns
-abbrev answersTo : ℕ → ℕ → State → Columns → List ℕ → List Float → ℕ → List Answer
-answersTo m most s l ws ns k = repliesOf m most s (callsTo l ws ns k)
-
--- after i of the calls: the state, and the answers at the front of the columns W and N
-pub record Replying (m most : ℕ) (l : Columns) (calls : List ℕ) (given : List Float) (s₀ : State) (W₀ : List ℕ) (N₀ : List Float) (many : ℕ) (s : State) (W : List ℕ) (N : List Float) (i : ℕ) : Type 0 where
-  pub upto : i ≤ many
-  pub words-long : length W ≡ length W₀
-  pub numbers-long : length N ≡ length N₀
-  pub state : s ≡ stateAfter m most s₀ (callsTo l calls given i)
-  pub words : W ≡ allWords (answersTo m most s₀ l calls given i) ++ drop (4 * i) W₀
-  pub numbers : N ≡ allNumbers (answersTo m most s₀ l calls given i) ++ drop (12 * i) N₀
-
-module _ (m most : ℕ) (l : Columns) (calls : List ℕ) (given : List Float) (s₀ : State) where
-  answers-long : (i : ℕ) → length (answersTo m most s₀ l calls given i) ≡ i
-  answers-long i = replies-long m most s₀ (callsTo l calls given i) ∙ calls-long l calls given i
-
-  front-words : (i : ℕ) → length (allWords (answersTo m most s₀ l calls given i)) ≡ 4 * i
-  front-words i = all-words-long (answersTo m most s₀ l calls given i) ∙ ap (λ (k : ℕ). 4 * k) (answers-long i)
-
-  front-numbers : (i : ℕ) → length (allNumbers (answersTo m most s₀ l calls given i)) ≡ 12 * i
-  front-numbers i = all-numbers-long (answersTo m most s₀ l calls given i) ∙ ap (λ (k : ℕ). 12 * k) (answers-long i)
-
-  calls-more : (i : ℕ) → callsTo l calls given (i + 1) ≡ callsTo l calls given i ++ (callFrom l (partAt callWords calls i) (partAt callNumbers given i) ∷ [])
-  unfolding callsTo
-  calls-more i = ap (callsTo l calls given) (add-one i)
-
-pub no-reply : {m most : ℕ} {l : Columns} {calls : List ℕ} {given : List Float} {s₀ : State} {W₀ : List ℕ} {N₀ : List Float} {many : ℕ} → Replying m most l calls given s₀ W₀ N₀ many s₀ W₀ N₀ 0
-unfolding callsTo repliesOf stateAfter allWords allNumbers
-no-reply = record { upto = omega arith; words-long = refl; numbers-long = refl; state = refl; words = refl; numbers = refl }
-
--- the columns of calls, of their numbers and of the answers have room for so many
-abbrev pub Roomy : ℕ → List ℕ → List Float → List ℕ → List Float → Type 0
-Roomy many calls given W N = (callWords * many ≤ length calls) × ((callNumbers * many ≤ length given) × ((answerWords * many ≤ length W) × (answerNumbers * many ≤ length N)))
-
-module _ {m most : ℕ} {l : Columns} {calls : List ℕ} {given : List Float} {s₀ : State} {W₀ : List ℕ} {N₀ : List Float} {many : ℕ} {s : State} {W : List ℕ} {N : List Float} {i : ℕ}
-    (h : Replying m most l calls given s₀ W₀ N₀ many s W N i) where
-  -- the parts that the next call is lent have the lengths of one
-  pub own-parts : Roomy many calls given W₀ N₀ → i < many
-      → (4 ≤ length (take (4 * i + 4 - 4 * i) (drop (4 * i) calls))) × ((20 ≤ length (take (20 * i + 20 - 20 * i) (drop (20 * i) given)))
-      × ((length (take (4 * i + 4 - 4 * i) (drop (4 * i) W)) ≡ 4) × (length (take (12 * i + 12 - 12 * i) (drop (12 * i) N)) ≡ 12)))
-  own-parts room b = (
-    le-of-eq (sym (part-long (4 * i) 4 calls (omega (arith, room)))),
-    (
-      le-of-eq (sym (part-long (20 * i) 20 given (omega (arith, room)))),
-      (part-long (4 * i) 4 W (omega (arith, room, h .words-long)), part-long (12 * i) 12 N (omega (arith, room, h .numbers-long))),
-    ),
-  )
-
-  pub one-reply : {after : State} {ws : List ℕ} {ns : List Float} → Roomy many calls given W₀ N₀ → i < many
-      → Answered m most s (callFrom l (take (4 * i + 4 - 4 * i) (drop (4 * i) calls)) (take (20 * i + 20 - 20 * i) (drop (20 * i) given))) after ws ns
-      → Replying m most l calls given s₀ W₀ N₀ many after
-      (take (4 * i) W ++ (ws ++ drop (4 * i + 4 - 4 * i) (drop (4 * i) W)))
-      (take (12 * i) N ++ (ns ++ drop (12 * i + 12 - 12 * i) (drop (12 * i) N))) (i + 1)
-  one-reply {after} {ws} {ns} room b a =
-      let c = callFrom l (partAt callWords calls i) (partAt callNumbers given i) in
-      let was = callsTo l calls given i in
-      let same : callFrom l (take (4 * i + 4 - 4 * i) (drop (4 * i) calls)) (take (20 * i + 20 - 20 * i) (drop (20 * i) given)) ≡ c =
-      ap₂ (λ (j k : ℕ). callFrom l (take j (drop (4 * i) calls)) (take k (drop (20 * i) given))) (size (4 * i) 4) (size (20 * i) 20) in
-      let now : Answered m most (stateAfter m most s₀ was) c after ws ns =
-      subst (λ (z : State). Answered m most z c after ws ns) (h .state) (subst (λ (z : Call). Answered m most s z after ws ns) same a) in
-      let said = replyOf m most (stateAfter m most s₀ was) c .answer in
-      let answers : answersTo m most s₀ l calls given (i + 1) ≡ answersTo m most s₀ l calls given i ++ (said ∷ []) =
-      ap (repliesOf m most s₀) (calls-more m most l calls given s₀ i) ∙ replies-more m most s₀ was c in
-      let w : take (4 * i) W ++ (ws ++ drop (4 * i + 4 - 4 * i) (drop (4 * i) W)) ≡ allWords (answersTo m most s₀ l calls given (i + 1)) ++ drop (4 * (i + 1)) W₀ =
-      part-more (4 * i) 4 (4 * (i + 1)) (allWords (answersTo m most s₀ l calls given i)) ws W W₀ (front-words m most l calls given s₀ i) (h .words) (omega arith)
-      ∙ ap (λ (x : List ℕ). x ++ drop (4 * (i + 1)) W₀)
-      (ap (λ (x : List ℕ). allWords (answersTo m most s₀ l calls given i) ++ x) (now .1 .0) ∙ sym (words-more (answersTo m most s₀ l calls given i) said) ∙ ap allWords (sym answers)) in
-      let n : take (12 * i) N ++ (ns ++ drop (12 * i + 12 - 12 * i) (drop (12 * i) N)) ≡ allNumbers (answersTo m most s₀ l calls given (i + 1)) ++ drop (12 * (i + 1)) N₀ =
-      part-more (12 * i) 12 (12 * (i + 1)) (allNumbers (answersTo m most s₀ l calls given i)) ns N N₀ (front-numbers m most l calls given s₀ i) (h .numbers) (omega arith)
-      ∙ ap (λ (x : List Float). x ++ drop (12 * (i + 1)) N₀)
-      (ap (λ (x : List Float). allNumbers (answersTo m most s₀ l calls given i) ++ x) (now .1 .1) ∙ sym (numbers-more (answersTo m most s₀ l calls given i) said) ∙ ap allNumbers (sym answers)) in
+  refused-plain : (j : ℕ) (c : CoursePoints) (l l′ : Columns) (a : Settings) (sa : StartAnswer) (s : State) → begun sa s ≡ startAt fullWords (suc j) l′ a → Plain (suc j) c l sa s
+  unfolding startAt startAnswer plainStart plainAnswers plainSheet
+  refused-plain j c l l′ a sa s e =
+      let es : s ≡ zeroState fullWords = ap (λ (x : Begun). x .state) e in
       record {
-        upto = omega arith;
-        words-long =
-            ap length w
-            ∙ column-long (4 * (i + 1)) (allWords (answersTo m most s₀ l calls given (i + 1))) W₀ (front-words m most l calls given s₀ (i + 1)) (omega (arith, room .1 .1 .0));
-        numbers-long =
-            ap length n
-            ∙ column-long (12 * (i + 1)) (allNumbers (answersTo m most s₀ l calls given (i + 1))) N₀ (front-numbers m most l calls given s₀ (i + 1)) (omega (arith, room .1 .1 .1));
-        state = now .0 ∙ sym (after-more m most s₀ was c) ∙ ap (stateAfter m most s₀) (sym (calls-more m most l calls given s₀ i));
-        words = w;
-        numbers = n;
+        start = ap (λ (x : Begun). x .answer) e;
+        answers =
+            ap (λ (x : State). repliesOf fullWords mostTiles x (callsTo l calls given n)) es ∙ zeros-stay fullWords mostTiles (callsTo l calls given n)
+            ∙ ap (λ (x : ℕ). replicate x (refused 4)) (calls-many l calls given n ∙ sym (tolds-many k calls given n));
+        sheet =
+            ap (λ (x : State). sheetIn (stateAfter fullWords mostTiles x (callsTo l calls given n))) es
+            ∙ ap sheetIn (zeros-after fullWords mostTiles (callsTo l calls given n)) ∙ no-sheet;
       }
 
-  -- all calls are answered
-  pub all-replies : many ≤ i
-      → (s ≡ stateAfter m most s₀ (callsTo l calls given many))
-      × ((W ≡ allWords (answersTo m most s₀ l calls given many) ++ drop (4 * many) W₀) × (N ≡ allNumbers (answersTo m most s₀ l calls given many) ++ drop (12 * many) N₀))
-  all-replies b =
-      let e : i ≡ many = omega (arith, h .upto) in (
-        h .state ∙ ap (λ (k : ℕ). stateAfter m most s₀ (callsTo l calls given k)) e,
-        (
-          h .words ∙ ap (λ (k : ℕ). allWords (answersTo m most s₀ l calls given k) ++ drop (4 * k) W₀) e,
-          h .numbers ∙ ap (λ (k : ℕ). allNumbers (answersTo m most s₀ l calls given k) ++ drop (12 * k) N₀) e,
-        ),
-      )
+  -- ---- no course: every start is refused
+  abbrev nothing : CoursePoints
+  nothing = record { points = []; fallback = false }
+
+  none-number : startNumber [] mostTiles k b ≡ cond (not (settingsOk (b .share) (b .limit))) 1 2
+  unfolding startNumber
+  none-number = rw (or-true (shortColumns 0 (k .tiles) (k .offsets)))
+
+  none-cause : (l : Columns) (fb : Bool) → startCause mostTiles l (settingsFor 0 fb b) ≡ cond (not (settingsOk (b .share) (b .limit))) 1 2
+  unfolding startCause startShort
+  none-cause l fb = rw (or-true (shortOf 0 l))
+
+  never-none : (p : Bool) → _≡_ {A = ℕ} (cond p 1 2) 0 → ⊥
+  never-none true e = omega (arith, e)
+  never-none false e = omega (arith, e)
+
+  no-course : (l : Columns) (fb : Bool) (sa : StartAnswer) (s : State)
+      → begun sa s ≡ startOf fullWords mostTiles l (settingsFor 0 fb b)
+      → Plain (startNumber [] mostTiles k b) nothing l sa s
+  unfolding startOf
+  no-course l fb sa s e = go (startNumber [] mostTiles k b) refl
+    where
+      a : Settings
+      a = settingsFor 0 fb b
+
+      go : (j : ℕ) → startNumber [] mostTiles k b ≡ j → Plain j nothing l sa s
+      go zero q = absurd (never-none (not (settingsOk (b .share) (b .limit))) (sym none-number ∙ q))
+      go (suc j) q = refused-plain j nothing l l a sa s (e ∙ ap (λ (x : ℕ). startAt fullWords x l a) (none-cause l fb ∙ sym none-number ∙ q))
+
+  -- ---- a course of the points c that was laid in full
+  module _ (c : List TrackPoint) (some : 0 < length c) (fits : length c ≤ mostTiles) (fallback : Bool) (l : course.CourseColumns)
+      (whole : ltb (length (l .list)) (cellsOf c) ≡ false) where
+    abbrev o : Outcome
+    o = layInto (ownLength c) fallback c l
+
+    abbrev room : mostTiles ≤ 64 * fullWords
+    room = omega arith
+
+    abbrev small : mostTiles ≤ mostPoints
+    small = omega arith
+
+    holds : (by : Lending (length c)) → shortOf (length c) (lentBy o by) ≡ false → HoldsCourse fullWords mostTiles c room some fits (lentBy o by)
+    holds = lent-holds fullWords mostTiles c room some fits small fallback l whole
+
+    counted : laidValuesOf (o .answer) .n ≡ length c
+    counted = count (ownLength c) fallback c l whole
+
+    same-fallback : laidValuesOf (o .answer) .fallback ≡ fallback
+    unfolding laidValuesOf laidAnswer laidFigures
+    same-fallback = ap (λ (x : Outcome). laidValuesOf (x .answer) .fallback) (laid-whole (ownLength c) fallback c l whole)
+
+    -- the whole columns, as they are lent to start
+    whole-lent : (by : Lending (length c)) × (lentBy o by ≡ columnsOf o)
+    unfolding lentTo
+    whole-lent =
+        let p = parts o (length c) (length (o .lent .tiles)) (length (o .lent .offsets)) in
+        (p .0, p .1 ∙ (λ i. columns (take-length (o .lent .tiles) i) (take-length (o .lent .offsets) i) (o .lent .list)))
+
+    figures : (h : History) → sheetIn (historyState fullWords mostTiles c room some fits fallback h) ≡ sheetOn c fallback h
+    unfolding sheetOf sheetCause figuresOf setupOf sheetOn
+    figures h = rw (fits-state fullWords mostTiles c room some fits fallback h)
+
+    module _ (same-tiles : length (o .lent .tiles) ≡ k .tiles) (same-offsets : length (o .lent .offsets) ≡ k .offsets) where
+      abbrev by : Lending (length c)
+      by = whole-lent .0
+
+      told-lengths : lengthsOf (lentBy o by) ≡ k
+      unfolding lengthsOf
+      told-lengths = ap lengthsOf (whole-lent .1) ∙ (λ i. record { tiles = same-tiles i; offsets = same-offsets i })
+
+      accepted-plain : (sa : StartAnswer) (s : State)
+          → begun sa s ≡ record { answer = startAnswer 0 (record { count = touchedCount c (History.begun b); lap = lapDone c (History.begun b) }); state = historyState fullWords mostTiles c room some fits fallback (History.begun b) }
+          → Plain 0 (record { points = c; fallback = fallback }) (columnsOf o) sa s
+      unfolding plainStart plainAnswers plainSheet
+      accepted-plain sa s e =
+          let es = ap (λ (x : Begun). x .state) e in
+          let m = all-meant o (length c) k same-tiles same-offsets calls given n in
+          let first = begins fullWords mostTiles c room some fits o counted holds b in
+          record {
+            start = ap (λ (x : Begun). x .answer) e;
+            answers =
+                ap₂ (λ (x : State) (y : List Call). repliesOf fullWords mostTiles x y) es (sym (m .1))
+                ∙ replies-are fullWords mostTiles c room some fits o counted holds fallback (m .0) (History.begun b) first
+                ∙ ap (scores c (History.begun b)) (m .2);
+            sheet =
+                ap₂ (λ (x : State) (y : List Call). sheetIn (stateAfter fullWords mostTiles x y)) es (sym (m .1))
+                ∙ ap sheetIn (after-is fullWords mostTiles c room some fits o counted holds fallback (m .0) (History.begun b) first)
+                ∙ figures (keptOf c (History.begun b) (toldsOf o (m .0)))
+                ∙ ap (λ (x : List Told). sheetOn c fallback (keptOf c (History.begun b) x)) (m .2);
+          }
+
+      pub course-plain : (sa : StartAnswer) (s : State)
+          → begun sa s ≡ startOf fullWords mostTiles (columnsOf o) (settingsOn o (laidValuesOf (o .answer) .fallback) b)
+          → Plain (startNumber c mostTiles k b) (record { points = c; fallback = fallback }) (columnsOf o) sa s
+      course-plain sa s e = go (startNumber c mostTiles k b) refl
+        where
+          on : begun sa s ≡ startOn fullWords mostTiles o by fallback b
+          on =
+              e ∙ ap₂ (λ (x : Columns) (f : Bool). startOf fullWords mostTiles x (settingsOn o f b))
+              (sym (whole-lent .1)) same-fallback
+
+          number : startNumber c mostTiles (lengthsOf (lentBy o by)) b ≡ startNumber c mostTiles k b
+          number = ap (λ (x : LentLengths). startNumber c mostTiles x b) told-lengths
+
+          a : Settings
+          a = settingsFor (length c) fallback b
+
+          go : (j : ℕ) → startNumber c mostTiles k b ≡ j → Plain j (record { points = c; fallback = fallback }) (columnsOf o) sa s
+          go zero q = accepted-plain sa s (on ∙ start-accepted fullWords mostTiles c room some fits o counted holds by fallback b (number ∙ q))
+          go (suc j) q =
+              refused-plain j (record { points = c; fallback = fallback }) (columnsOf o) (lentBy o by) a sa s
+              (on ∙ start-same fullWords mostTiles c room some fits o counted holds by fallback b ∙ ap (λ (x : ℕ). startAt fullWords x (lentBy o by) a) (number ∙ q))
+
+-- ---- the whole replay
+few-points : (seed : ℕ) → length (courseOf seed .points) ≤ mostTiles
+few-points seed = omega (arith, course-sized seed .few)
+
+lays : (seed : ℕ) (l : course.CourseColumns) → laidCauseOf (layCall maxAttempts seed l .answer) ≡ layNumber seed l
+unfolding layNumber courseOf
+lays seed l = lay-cause maxAttempts seed l
+
+no-count : (r : Laid) (q : ℕ) → laidCauseOf r ≡ suc q → laidValuesOf r .n ≡ 0
+unfolding laidCauseOf laidValuesOf
+no-count (Made v) q e = absurd (omega (arith, e))
+no-count (Short need) q e = refl
+no-count (NotLaid k) q e = refl
+
+module _ (seed : ℕ) (l : course.CourseColumns) (b : Opening) (n : ℕ) (calls : List ℕ) (given : List Float) where
+  abbrev lengths : LentLengths
+  lengths = record { tiles = length (l .tiles); offsets = length (l .offsets) }
+
+  -- lay, then a start with what it answered, then the calls
+  replay-plain : (j : ℕ) → layNumber seed l ≡ j → (o : Outcome) → o ≡ layCall maxAttempts seed l → length (o .lent .tiles) ≡ length (l .tiles) → length (o .lent .offsets) ≡ length (l .offsets)
+      → (sa : StartAnswer) (s : State)
+      → begun sa s ≡ startOf fullWords mostTiles (columnsOf o) (settingsOn o (laidValuesOf (o .answer) .fallback) b)
+      → Plain b lengths n calls given (startNumber (laidCourse j seed .points) mostTiles lengths b) (laidCourse j seed) (columnsOf o) sa s
+  unfolding laidCourse layNumber
+  replay-plain zero q o eo et ef sa s es =
+      let p = no-cause (roomy l) (ltb (length (l .list)) (cellsOf (courseOf seed .points))) q in
+      subst (λ (x : Outcome). length (x .lent .tiles) ≡ length (l .tiles) → length (x .lent .offsets) ≡ length (l .offsets)
+      → begun sa s ≡ startOf fullWords mostTiles (columnsOf x) (settingsOn x (laidValuesOf (x .answer) .fallback) b)
+      → Plain b lengths n calls given (startNumber (courseOf seed .points) mostTiles lengths b) (courseOf seed) (columnsOf x) sa s)
+      (sym (eo ∙ lay-columns seed l (p .0)))
+      (λ t f e. course-plain b lengths n calls given (courseOf seed .points) (course-sized seed .some) (few-points seed) (courseOf seed .fallback) l (p .1) t f sa s e) et ef es
+  replay-plain (suc j) q o eo et ef sa s es =
+      no-course b lengths n calls given (columnsOf o) (laidValuesOf (o .answer) .fallback) sa s
+      (es ∙ ap (λ (x : ℕ). startOf fullWords mostTiles (columnsOf o) (settingsFor x (laidValuesOf (o .answer) .fallback) b))
+      (no-count (o .answer) j (ap (λ (x : Outcome). laidCauseOf (x .answer)) eo ∙ lays seed l ∙ q)))
+
+-- what each call of a replay leaves, where there is room for the calls told and their answers
+pub record ReplayCalls (seed : ℕ) (l : course.CourseColumns) (b : Opening) (n : ℕ) (calls : List ℕ) (given : List Float) (words : List ℕ) (numbers : List Float)
+    (o : Outcome) (v : LaidCourse) (sa : StartAnswer) (s last : State) (sh : SheetAnswer) (words′ : List ℕ) (numbers′ : List Float) : Type 0 where
+  pub room : roomFor n (length calls) (length given) (length words) (length numbers) ≡ true
+  pub laid : o ≡ layCall maxAttempts seed l
+  pub tiles : length (o .lent .tiles) ≡ length (l .tiles)
+  pub offsets : length (o .lent .offsets) ≡ length (l .offsets)
+  pub values : v ≡ laidValuesOf (o .answer)
+  pub start : begun sa s ≡ startOf fullWords mostTiles (columnsOf o) (settingsFor (v .n) (v .fallback) b)
+  pub state : last ≡ stateAfter fullWords mostTiles s (callsTo (columnsOf o) calls given n)
+  pub answered : words′ ≡ allWords (repliesOf fullWords mostTiles s (callsTo (columnsOf o) calls given n)) ++ drop (answerWords * n) words
+  pub numbered : numbers′ ≡ allNumbers (repliesOf fullWords mostTiles s (callsTo (columnsOf o) calls given n)) ++ drop (answerNumbers * n) numbers
+  pub sheet : sh ≡ sheetIn last
+
+-- all that the replay leaves
+pub replayed : {seed : ℕ} {l : course.CourseColumns} {b : Opening} {n : ℕ} {calls : List ℕ} {given : List Float} {words : List ℕ} {numbers : List Float}
+    {o : Outcome} {v : LaidCourse} {sa : StartAnswer} {s last : State} {sh : SheetAnswer} {words′ : List ℕ} {numbers′ : List Float}
+    → ReplayCalls seed l b n calls given words numbers o v sa s last sh words′ numbers′
+    → record { laid = o .answer; start = sa; sheet = sh; lent = o .lent; words = words′; numbers = numbers′ } ≡ replayOf seed l b n calls given words numbers
+unfolding replayOf replayOn
+replayed {seed} {l} {b} {n} {calls} {given} {words} {numbers} {o} {v} {sa} {s} h =
+    let p = replay-plain seed l b n calls given (layNumber seed l) refl o (h .laid) (h .tiles) (h .offsets) sa s
+    (h .start ∙ (λ i. startOf fullWords mostTiles (columnsOf o) (settingsFor (h .values i .n) (h .values i .fallback) b))) in
+    rw (h .room) (λ i.
+    record {
+      laid = h .laid i .answer;
+      start = p .start i;
+      sheet = (h .sheet ∙ ap sheetIn (h .state) ∙ p .sheet) i;
+      lent = h .laid i .lent;
+      words = (h .answered ∙ ap (λ (x : List Answer). allWords x ++ drop (answerWords * n) words) (p .answers)) i;
+      numbers = (h .numbered ∙ ap (λ (x : List Answer). allNumbers x ++ drop (answerNumbers * n) numbers) (p .answers)) i;
+    })
+
+-- room for n calls, column by column
+pub record Room (n c g w v : ℕ) : Type 0 where
+  pub calls : callWords * n ≤ c
+  pub given : callNumbers * n ≤ g
+  pub words : answerWords * n ≤ w
+  pub numbers : answerNumbers * n ≤ v
+
+pub room-each : {n calls given words numbers : ℕ} → roomFor n calls given words numbers ≡ true → Room n calls given words numbers
+unfolding roomFor
+room-each {n} {calls} {given} {words} {numbers} e =
+    let p = and-right (leb (callWords * n) calls) (leb (callNumbers * n) given && (leb (answerWords * n) words && leb (answerNumbers * n) numbers)) e in
+    let q = and-right (leb (callNumbers * n) given) (leb (answerWords * n) words && leb (answerNumbers * n) numbers) p in
+    record {
+      calls = leb-true _ _ (and-left (leb (callWords * n) calls) (leb (callNumbers * n) given && (leb (answerWords * n) words && leb (answerNumbers * n) numbers)) e);
+      given = leb-true _ _ (and-left (leb (callNumbers * n) given) (leb (answerWords * n) words && leb (answerNumbers * n) numbers) p);
+      words = leb-true _ _ (and-left (leb (answerWords * n) words) (leb (answerNumbers * n) numbers) q);
+      numbers = leb-true _ _ (and-right (leb (answerWords * n) words) (leb (answerNumbers * n) numbers) q);
+    }

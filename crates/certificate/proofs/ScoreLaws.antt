@@ -9,12 +9,12 @@ use lib.ListN.{length}
 use lib.Ieee.{Float}
 use borrow.Author.Tests.{ltb-true, ltb-false, lt-ltb, leb-false, not-false}
 use Rattle.course.specs.declared.tiles.TrackPoint.{TrackPoint}
-use Rattle.run.specs.Arguments.{shortColumns, placesOk, motionsOk}
-use Rattle.certificate.specs.Answers.{Answer}
-use Rattle.certificate.specs.Answers.Answer.{refused}
-use Rattle.certificate.specs.Scorer.{Lengths, Told, History, opening, drives, settles, off, touched, touches, touchedCount, newTiles, lapDone, over, ended, driveNumber, settleNumber, driveScore, settleScore, score, scores, keptOf}
-use Rattle.course.specs.Lent.{Outcome}
-use Rattle.certificate.specs.Certificate.{Given, lentBy, lengthsOf, toldOf, toldsOf, newSum, endedBy, occurs, allOccur}
+use Rattle.run.specs.Rules.Arguments.{shortColumns, placesOk, motionsOk}
+use Rattle.certificate.specs.Rules.Answers.{Answer}
+use Rattle.certificate.specs.Rules.Answers.Answer.{refused}
+use Rattle.certificate.specs.Claim.Scorer.{LentLengths, Told, History, opening, drives, settles, off, touched, touches, touchedCount, newTiles, lapDone, over, ended, driveNumber, settleNumber, driveScore, settleScore, score, scores, keptOf}
+use Rattle.course.specs.Grader.Outcome.{Outcome}
+use Rattle.certificate.specs.Claim.Certificate.{CourseCall, lentBy, lengthsOf, toldOf, toldsOf, newSum, endedBy, occurs, allOccur}
 use Rattle.run.specs.declared.state.Pose.{Pose}
 use Rattle.run.specs.declared.dynamics.Motion.{Motion}
 use Rattle.run.proofs.WordLaws.{howMany-or}
@@ -55,7 +55,7 @@ module _ (c : List TrackPoint) where
       record { ahead = omega arith; close = omega arith; time = λ _. left }
   drive-turn h v a ms (suc k) e = v
 
-  settle-turn : (h : History) → InTurn h → (l : Lengths) (x y : Float) (ps : List Pose) (k : ℕ) → settleNumber c h l x y ps ≡ k → InTurn (settleScore c k h x y ps .kept)
+  settle-turn : (h : History) → InTurn h → (l : LentLengths) (x y : Float) (ps : List Pose) (k : ℕ) → settleNumber c h l x y ps ≡ k → InTurn (settleScore c k h x y ps .kept)
   unfolding settleScore settleNumber opening drives settles
   settle-turn h v l x y ps zero e =
       let p = cleared (not (ltb (settles h) (drives h))) 4 _ (cleared (ended c h) 3 _ e .1) in
@@ -143,29 +143,29 @@ module _ (c : List TrackPoint) where
   ended-over h l = rw (lt-ltb 0 (settles h) l)
 
   -- ---- no call is refused by 10, and no settle by 6
-  drive-occurs : (n k : ℕ) (h : History) (a : ℕ) (ms : List Motion) → not (eqb k 10) ≡ true → occurs {n = n} (Given.drive a ms) (driveScore c k h a ms .answer) ≡ true
+  drive-occurs : (n k : ℕ) (h : History) (a : ℕ) (ms : List Motion) → not (eqb k 10) ≡ true → occurs {n = n} (CourseCall.drive a ms) (driveScore c k h a ms .answer) ≡ true
   unfolding driveScore occurs
   drive-occurs n zero h a ms e = refl
   drive-occurs n (suc k) h a ms e = e
 
-  settle-occurs : {n : ℕ} (k : ℕ) (h : History) (g : Given n) (x y : Float) (ps : List Pose) → (not (eqb k 10) && not (eqb k 6)) ≡ true
+  settle-occurs : {n : ℕ} (k : ℕ) (h : History) (g : CourseCall n) (x y : Float) (ps : List Pose) → (not (eqb k 10) && not (eqb k 6)) ≡ true
       → ((r : Answer) → r ≡ refused k → occurs g r ≡ (not (eqb k 10) && not (eqb k 6))) → occurs g (settleScore c k h x y ps .answer) ≡ true
   unfolding settleScore occurs
   settle-occurs zero h g x y ps e f = refl
   settle-occurs (suc k) h g x y ps e f = f (refused (suc k)) refl ∙ e
 
-  one-occurs : {n : ℕ} (o : Outcome) (g : Given n) (h : History) → occurs g (score c h (toldOf o g) .answer) ≡ true
+  one-occurs : {n : ℕ} (o : Outcome) (g : CourseCall n) (h : History) → occurs g (score c h (toldOf o g) .answer) ≡ true
   unfolding score toldOf driveNumber settleNumber occurs
-  one-occurs {n} o (Given.drive a ms) h =
+  one-occurs {n} o (CourseCall.drive a ms) h =
       drive-occurs n (driveNumber c h a ms) h a ms
       (no-ten (ended c h) (ltb (settles h) (drives h)) (leb (opening h .limit) (settles h)) (ltb 4 a) (not (motionsOk ms)))
-  one-occurs {n} o (Given.settle by x y ps) h =
-      let l : Lengths = lengthsOf (lentBy o by) in
-      settle-occurs (settleNumber c h l x y ps) h (Given.settle by x y ps) x y ps
+  one-occurs {n} o (CourseCall.settle by x y ps) h =
+      let l : LentLengths = lengthsOf (lentBy o by) in
+      settle-occurs (settleNumber c h l x y ps) h (CourseCall.settle by x y ps) x y ps
       (no-ten-six (ended c h) (not (ltb (settles h) (drives h))) (shortColumns (length c) (l .tiles) (l .offsets)) (not (placesOk x y ps)))
-      (λ r e. ap (occurs (Given.settle by x y ps)) e)
+      (λ r e. ap (occurs (CourseCall.settle by x y ps)) e)
 
-  pub all-occur : {n : ℕ} (o : Outcome) (cs : List (Given n)) (h : History) → allOccur cs (scores c h (toldsOf o cs)) ≡ true
+  pub all-occur : {n : ℕ} (o : Outcome) (cs : List (CourseCall n)) (h : History) → allOccur cs (scores c h (toldsOf o cs)) ≡ true
   unfolding allOccur scores
   all-occur o [] h = refl
   all-occur o (g ∷ cs) h = both _ _ (one-occurs o g h) (all-occur o cs (score c h (toldOf o g) .kept))

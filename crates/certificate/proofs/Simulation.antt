@@ -11,23 +11,23 @@ use lib.ListN.{length, replicate, length-replicate, replicate-append-replicate}
 use lib.Ieee.{Float}
 use borrow.Author.Tests.{ltb-true, lt-ltb, le-ltb, lt-leb, not-false}
 use Rattle.course.specs.declared.tiles.TrackPoint.{TrackPoint}
-use Rattle.run.specs.Below.{anyBelow, howMany}
-use Rattle.run.specs.Arguments.{placesOk}
-use Rattle.run.specs.State.{State, awaiting, Columns, shortOf, unfit}
-use Rattle.run.specs.Words.{setOf}
-use Rattle.run.specs.Wheel.{quadOf}
-use Rattle.run.specs.Touch.{touchedBy, soundPoses}
-use Rattle.run.specs.Contact.{wheelSets, Contacted, contacted, contactOf}
-use Rattle.run.specs.Grip.{onRoad, roadsOf}
-use Rattle.run.specs.Lap.{aboveShare, lapOf, offField, endOf}
-use Rattle.run.specs.Pass.{passOf}
-use Rattle.run.specs.Start.{setupOf, firstProgress, startAnswer, firstContact, startedBy}
-use Rattle.run.specs.Drive.{driveAnswer, driveCause, driveAt, drivePartsOf, driveOf}
-use Rattle.run.specs.Settle.{settleAnswer, settleCause, settledProgress, SettledParts, settledParts, settledBy, settleAt, settlePartsOf, settleOf}
-use Rattle.certificate.specs.Calls.{Call, Replied, driveSaid, settleSaid, replyOf}
-use Rattle.certificate.specs.Scorer.{Opening, Told, History, opening, drives, settles, lastPoses, off, Scored, touch, touches, touched, touchedCount, newTiles, meetsLap, lapDone, over, ended, grip, grips, passed, driveNumber, settleNumber, driveScore, settleScore, score}
-use Rattle.certificate.specs.Scorer.History.{begun, thenDrive, thenSettle}
-use Rattle.certificate.specs.Certificate.{lengthsOf, settingsFor, progressBy}
+use Rattle.run.specs.Rules.Below.{anyBelow, howMany}
+use Rattle.run.specs.Rules.Arguments.{placesOk}
+use Rattle.run.specs.Grader.State.{State, awaiting, Columns, shortOf, unfit}
+use Rattle.run.specs.Grader.Words.{setOf}
+use Rattle.run.specs.Rules.Wheel.{quadOf}
+use Rattle.run.specs.Grader.Touch.{touchedBy, soundPoses}
+use Rattle.run.specs.Grader.Contact.{wheelSets, Contacted, contacted, contactOf}
+use Rattle.run.specs.Grader.Grip.{onRoad, roadsOf}
+use Rattle.run.specs.Rules.Lap.{aboveShare, lapOf, offField, endOf}
+use Rattle.run.specs.Rules.Pass.{passOf}
+use Rattle.run.specs.Grader.Start.{setupOf, firstProgress, startAnswer, firstContact, startedBy}
+use Rattle.run.specs.Grader.Drive.{driveAnswer, driveCause, driveAt, drivePartsOf, driveOf}
+use Rattle.run.specs.Grader.Settle.{settleAnswer, settleCause, settledProgress, SettledParts, settledParts, settledBy, settleAt, settlePartsOf, settleOf}
+use Rattle.certificate.specs.Grader.Calls.{Call, Replied, driveSaid, settleSaid, replyOf}
+use Rattle.certificate.specs.Claim.Scorer.{Opening, Told, History, opening, drives, settles, lastPoses, off, Scored, touch, touches, touched, touchedCount, newTiles, meetsLap, lapDone, over, ended, grip, grips, passed, driveNumber, settleNumber, driveScore, settleScore, score}
+use Rattle.certificate.specs.Claim.Scorer.History.{begun, thenDrive, thenSettle}
+use Rattle.certificate.specs.Claim.Certificate.{lengthsOf, settingsFor, progressBy}
 use Rattle.run.specs.declared.state.Pose.{Pose}
 use Rattle.run.specs.declared.state.Progress.{Progress}
 use Rattle.run.specs.declared.dynamics.Motion.{Motion}
@@ -59,13 +59,13 @@ module _ (m most : ℕ) (c : List TrackPoint) (room : most ≤ 64 * m) (some : 0
   held = le-trans fits room
 
   -- the lent columns hold the course: look-up and lent tiles say what the rectangles and the course's tiles say, and nothing in the index is out of place
-  pub record Holds (l : Columns) : Type 0 where
+  pub record HoldsCourse (l : Columns) : Type 0 where
     pub same : (ps : List Pose) (w t : ℕ) → touchedBy (l .tiles) (l .offsets) (l .list) (quadOf ps w) t ≡ below (length c) (touch c ps w) t
     pub sound : (ps : List Pose) → soundPoses (l .offsets) (l .list) (length c) ps ≡ true
 
   -- the state that the accepted calls lead to
-  abbrev pub stateOf : Bool → History → State
-  stateOf fb h =
+  abbrev pub historyState : Bool → History → State
+  historyState fb h =
       record {
         setup = setupOf (settingsFor (length c) fb (opening h));
         progress = progressBy c h;
@@ -75,7 +75,7 @@ module _ (m most : ℕ) (c : List TrackPoint) (room : most ≤ 64 * m) (some : 0
       }
 
   abbrev pub withState : Bool → Scored → Replied
-  withState fb s = record { answer = s .answer; state = stateOf fb (s .kept) }
+  withState fb s = record { answer = s .answer; state = historyState fb (s .kept) }
 
   -- tiles of the last contact are touched
   last-touched : (h : History) (t : ℕ) → touched c h t ≡ false → anyBelow 4 (λ w. touch c (lastPoses h) w t) ≡ false
@@ -85,7 +85,7 @@ module _ (m most : ℕ) (c : List TrackPoint) (room : most ≤ 64 * m) (some : 0
   last-touched (thenSettle h x y ps) t e = right-false (touched c h t) (touches c ps t) e
 
   -- ---- contacts
-  settle-contact : (h : History) (l : Columns) (x y : Float) (ps : List Pose) → Holds l
+  settle-contact : (h : History) (l : Columns) (x y : Float) (ps : List Pose) → HoldsCourse l
       → contactOf m (creditedBy m (length c) held (touched c h)) (wheelsBy m (length c) held (touch c (lastPoses h))) (λ w. touchedBy (l .tiles) (l .offsets) (l .list) (quadOf ps w))
       ≡ contacted (creditedBy m (length c) held (touched c (thenSettle h x y ps))) (wheelsBy m (length c) held (touch c ps)) (newTiles c h ps)
       (anyBelow 4 (λ w. touch c ps w 0 && not (touch c (lastPoses h) w 0)))
@@ -94,7 +94,7 @@ module _ (m most : ℕ) (c : List TrackPoint) (room : most ≤ 64 * m) (some : 0
       contact-is m (length c) held (touched c h) (touch c (lastPoses h)) (λ v. touchedBy (l .tiles) (l .offsets) (l .list) (quadOf ps v)) (touch c ps)
       some (last-touched h) (w .same ps)
 
-  first-contact : (l : Columns) (b : Opening) → Holds l
+  first-contact : (l : Columns) (b : Opening) → HoldsCourse l
       → firstContact m l (b .poses)
       ≡ contacted (creditedBy m (length c) held (touched c (begun b))) (wheelsBy m (length c) held (touch c (b .poses))) (touchedCount c (begun b))
       (anyBelow 4 (λ w. touch c (b .poses) w 0 && not false))
@@ -119,9 +119,9 @@ module _ (m most : ℕ) (c : List TrackPoint) (room : most ≤ 64 * m) (some : 0
       all = howMany-cong (length c) (λ t. anyBelow 4 (λ v. touch c (b .poses) v t) && not false) (touches c (b .poses)) (λ t _. and-true (touches c (b .poses) t))
 
   -- ---- start
-  pub started : (l : Columns) (b : Opening) (fb : Bool) → Holds l
+  pub started : (l : Columns) (b : Opening) (fb : Bool) → HoldsCourse l
       → startedBy (settingsFor (length c) fb b) (firstContact m l (b .poses))
-      ≡ record { answer = startAnswer 0 (record { count = touchedCount c (begun b); lap = lapDone c (begun b) }); state = stateOf fb (begun b) }
+      ≡ record { answer = startAnswer 0 (record { count = touchedCount c (begun b); lap = lapDone c (begun b) }); state = historyState fb (begun b) }
   unfolding startedBy firstProgress lapOf lapDone meetsLap opening settles drives lastPoses ended passed
   started l b fb w = ap (startedBy (settingsFor (length c) fb b)) (first-contact l b w)
 
@@ -172,7 +172,7 @@ module _ (m most : ℕ) (c : List TrackPoint) (room : most ≤ 64 * m) (some : 0
   drive-at fb h v a ms roads (suc k) e = refl
 
   -- ---- settle
-  settle-number : (fb : Bool) (h : History) → InTurn h → (l : Columns) (x y : Float) (ps : List Pose) → (shortOf (length c) l ≡ false → Holds l)
+  settle-number : (fb : Bool) (h : History) → InTurn h → (l : Columns) (x y : Float) (ps : List Pose) → (shortOf (length c) l ≡ false → HoldsCourse l)
       → settleCause most (setupOf (settingsFor (length c) fb (opening h))) (progressBy c h) l x y ps ≡ settleNumber c h (lengthsOf l) x y ps
   unfolding settleCause settleNumber shortOf lengthsOf setupOf
   settle-number fb h v l x y ps w =
@@ -220,7 +220,7 @@ module _ (m most : ℕ) (c : List TrackPoint) (room : most ≤ 64 * m) (some : 0
         state = record { setup = setupOf (settingsFor (length c) fb (opening h)); progress = d .progress; car = passed c h .car; credited = d .credited; wheels = d .wheels };
       }
 
-  settle-at : (fb : Bool) (h : History) → InTurn h → (l : Columns) (x y : Float) (ps : List Pose) (k : ℕ) → (k ≡ 0 → Holds l)
+  settle-at : (fb : Bool) (h : History) → InTurn h → (l : Columns) (x y : Float) (ps : List Pose) (k : ℕ) → (k ≡ 0 → HoldsCourse l)
       → settledFrom fb h (settleAt m k (setupOf (settingsFor (length c) fb (opening h))) (progressBy c h) (creditedBy m (length c) held (touched c h)) (wheelsBy m (length c) held (touch c (lastPoses h))) l x y ps)
       ≡ withState fb (settleScore c k h x y ps)
   unfolding settleAt settleAnswer settleScore settledBy setupOf off lastPoses opening passed
@@ -244,11 +244,11 @@ module _ (m most : ℕ) (c : List TrackPoint) (room : most ≤ 64 * m) (some : 0
   toldBy (Call.settle l x y ps) = Told.settle (lengthsOf l) x y ps
 
   -- a settle is lent the course, or too short a column
-  abbrev pub Lent : Call → Type 0
-  Lent (Call.drive a ms) = Unit
-  Lent (Call.settle l x y ps) = shortOf (length c) l ≡ false → Holds l
+  abbrev pub WellLent : Call → Type 0
+  WellLent (Call.drive a ms) = Unit
+  WellLent (Call.settle l x y ps) = shortOf (length c) l ≡ false → HoldsCourse l
 
-  pub reply-is : (fb : Bool) (h : History) → InTurn h → (g : Call) → Lent g → replyOf m most (stateOf fb h) g ≡ withState fb (score c h (toldBy g))
+  pub reply-is : (fb : Bool) (h : History) → InTurn h → (g : Call) → WellLent g → replyOf m most (historyState fb h) g ≡ withState fb (score c h (toldBy g))
   unfolding replyOf score driveOf drivePartsOf settleOf settlePartsOf
   reply-is fb h v (Call.drive a ms) w =
       ap (λ (k : ℕ). droveBy fb h (driveAt k (progressBy c h) (passed c h .car) (passOf (passed c h .car) a ms (roadsOf m (wheelsBy m (length c) held (touch c (lastPoses h))))))) (drive-number fb h a ms)

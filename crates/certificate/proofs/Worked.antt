@@ -6,32 +6,32 @@ use native.Mathlib.Omega.{arith}
 use lib.Dec.{ltb}
 use lib.ListN.{length}
 use lib.Ieee.{Float, ofInt, round, add, sub, mul, div, neg, lt, le, isNan, ofBits}
-use Rattle.course.specs.Arithmetic.{natural, decimal}
-use Rattle.course.specs.Lengths.{quadNumbers, offsetCount}
-use Rattle.course.specs.Course.{fromPoints, cellsOf}
-use Rattle.course.specs.Lent.{Lent, Outcome, layInto}
-use Rattle.course.specs.Constants.{scale, playfield, trackWidth, gridCell, halfPi, f64Max, f64Min}
-use Rattle.course.specs.Numeric.{absOf, minOf, maxOf, leastOf, greatestOf, within}
-use Rattle.course.specs.Trig.{factorial, plus, minus, horner, sineTerms, cosineTerms, sinePoly, cosinePoly, floor, wholeBelow, turnsOf, restOf, quarterOf, pick, cosineOf, sineOf}
-use Rattle.course.specs.Counting.{howMany}
-use Rattle.course.specs.Cell.{along, cellOf, cellAt}
-use Rattle.course.specs.Rect.{leastX, leastY, greatestX, greatestY, rectOf, holds}
-use Rattle.course.specs.Tiles.{beforeOf, tileQuad, eight, tileOf, tileAt, tilesTo, tilesOf}
+use Rattle.course.specs.Rules.Arithmetic.{natural, decimal}
+use Rattle.course.specs.Rules.Lengths.{quadNumbers, offsetCount}
+use Rattle.course.specs.Grader.Course.{fromPoints, cellsOf}
+use Rattle.course.specs.Grader.Outcome.{CourseColumns, Outcome, layInto}
+use Rattle.course.specs.Rules.Constants.{scale, playfield, trackWidth, gridCell, halfPi, f64Max, f64Min}
+use Rattle.course.specs.Rules.Numeric.{absOf, minOf, maxOf, leastOf, greatestOf, within}
+use Rattle.course.specs.Rules.Trig.{factorial, plus, minus, horner, sineTerms, cosineTerms, sinePoly, cosinePoly, floor, wholeBelow, turnsOf, restOf, quarterOf, pick, cosineOf, sineOf}
+use Rattle.course.specs.Rules.Counting.{howMany}
+use Rattle.course.specs.Rules.Cell.{along, cellOf, cellAt}
+use Rattle.course.specs.Rules.Rect.{leastX, leastY, greatestX, greatestY, rectOf, holds}
+use Rattle.course.specs.Rules.Tiles.{beforeOf, tileQuad, eight, tileOf, tileAt, tilesTo, tilesOf}
 use Rattle.course.specs.declared.tiles.TrackPoint.{TrackPoint}
-use Rattle.run.specs.Below.{anyBelow, everyBelow, someOf}
-use Rattle.run.specs.Wheel.{size, wheelW, wheelR, placed, wheelQuad, quadOf, boxCells}
-use Rattle.run.specs.Overlap.{leastOn, greatestOn, apartOn, apartAlong, apartByEdges, overlapOf}
-use Rattle.run.specs.Arguments.{settingsOk, shortColumns, inRange, poseOk, posesOk, placesOk, motionOk, motionsOk}
-use Rattle.run.specs.Lap.{offField}
-use Rattle.certificate.specs.Answers.Answer.{drove, settled, refused}
-use Rattle.certificate.specs.Scorer.{Lengths, Opening, Told, opening, drives, settles, lastPoses, off, touch, touches, touched, touchedCount, newTiles, meetsLap, lapDone, over, ended, passed, startNumber, driveNumber, settleNumber, driveScore, settleScore, score, scores}
-use Rattle.certificate.specs.Scorer.History.{begun, thenDrive}
+use Rattle.run.specs.Rules.Below.{anyBelow, everyBelow, someOf}
+use Rattle.run.specs.Rules.Wheel.{size, wheelW, wheelR, placed, wheelQuad, quadOf, boxCells}
+use Rattle.run.specs.Rules.Overlap.{leastOn, greatestOn, apartOn, apartAlong, apartByEdges, overlapOf}
+use Rattle.run.specs.Rules.Arguments.{settingsOk, shortColumns, inRange, poseOk, posesOk, placesOk, motionOk, motionsOk}
+use Rattle.run.specs.Rules.Lap.{offField}
+use Rattle.certificate.specs.Rules.Answers.Answer.{drove, settled, refused}
+use Rattle.certificate.specs.Claim.Scorer.{LentLengths, Opening, Told, opening, drives, settles, lastPoses, off, touch, touches, touched, touchedCount, newTiles, meetsLap, lapDone, over, ended, passed, startNumber, driveNumber, settleNumber, driveScore, settleScore, score, scores}
+use Rattle.certificate.specs.Claim.Scorer.History.{begun, thenDrive}
 use Rattle.run.specs.declared.dynamics.Motion.{Motion}
-use Rattle.run.specs.Widths.{fullWords, mostTiles}
-use Rattle.run.specs.State.{columns, shortOf}
-use Rattle.certificate.specs.Calls.{repliesOf}
-use Rattle.certificate.specs.Certificate.{Given, lentBy, lengthsOf, toldOf, callsOf, toldsOf, startOn}
-use Rattle.certificate.specs.Certificate.Lending.{laid, short}
+use Rattle.run.specs.Grader.Widths.{fullWords, mostTiles}
+use Rattle.run.specs.Grader.State.{columns, shortOf}
+use Rattle.certificate.specs.Grader.Calls.{repliesOf}
+use Rattle.certificate.specs.Claim.Certificate.{CourseCall, lentBy, lengthsOf, toldOf, callsOf, toldsOf, startOn}
+use Rattle.certificate.specs.Claim.Certificate.Lending.{laid, short}
 use Rattle.certificate.proofs.LentColumns.{tiles-few, own-long, offsets-long, ownLength, zerosPast, lent-laid}
 use Rattle.certificate.proofs.Certificate.{laid-demand3}
 use Rattle.run.specs.declared.state.Pose.{Pose}
@@ -63,7 +63,7 @@ still =
     let m : Motion = record { «joint_angle» = natural 0; sin = natural 0; cos = natural 1; vx = natural 0; vy = natural 0 } in
     m ∷ m ∷ m ∷ m ∷ []
 
-abbrev enough : Lengths
+abbrev enough : LentLengths
 enough = record { tiles = quadNumbers (ownLength points); offsets = offsetCount }
 
 -- what the plain scorer is told: a settle out of turn, a drive, a settle with no columns, a settle on the strip, and a drive after the end
@@ -97,18 +97,18 @@ unfolding shortOf shortColumns
 no-columns = refl
 
 -- ---- the grader, lent the course of these points as it was laid into any columns with room for the list
-module _ (l : Lent) (whole : ltb (length (l .list)) (cellsOf points) ≡ false) where
+module _ (l : CourseColumns) (whole : ltb (length (l .list)) (cellsOf points) ≡ false) where
   abbrev o : Outcome
   o = layInto (ownLength points) false points l
 
   -- the same calls: the first and the fourth are lent the course as laid, the third is lent nothing
-  abbrev pub given : List (Given (length points))
+  abbrev pub given : List (CourseCall (length points))
   given =
-      Given.settle (laid [] [] []) (natural 0) (natural 10) on
-      ∷ Given.drive 3 still
-      ∷ Given.settle (short (columns [] [] []) no-columns) (natural 0) (natural 10) on
-      ∷ Given.settle (laid [] [] []) (natural 0) (natural 10) on
-      ∷ Given.drive 0 still
+      CourseCall.settle (laid [] [] []) (natural 0) (natural 10) on
+      ∷ CourseCall.drive 3 still
+      ∷ CourseCall.settle (short (columns [] [] []) no-columns) (natural 0) (natural 10) on
+      ∷ CourseCall.settle (laid [] [] []) (natural 0) (natural 10) on
+      ∷ CourseCall.drive 0 still
       ∷ []
 
   lent-enough : lengthsOf (lentBy {n = length points} o (laid [] [] [])) ≡ enough
@@ -139,5 +139,5 @@ module _ (l : Lent) (whole : ltb (length (l .list)) (cellsOf points) ≡ false) 
       ∷ []
   graded =
       laid-demand3 fullWords mostTiles points (omega arith) (omega arith) (omega arith) (omega arith) false l whole (laid [] [] []) false beside given .runs
-      (ap (λ (k : Lengths). startNumber points mostTiles k beside) lent-enough ∙ accepted) .answers
+      (ap (λ (k : LentLengths). startNumber points mostTiles k beside) lent-enough ∙ accepted) .answers
       ∙ ap (scores points (begun beside)) told-same ∙ plain

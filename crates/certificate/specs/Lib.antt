@@ -1,22 +1,9 @@
--- Definitions in the order in which to read them: the plain scorer, the claim, and the replay whose contract it is.
-
--- ---- the plain scorer
--- the answer to a drive or a settle
-pub mod Answers
--- the plain scorer
-pub mod Scorer
--- ---- the claim
--- the grader's side: a list of calls
-pub mod Calls
--- demand 3, clause by clause
-pub mod Certificate
--- ---- the replay
--- motions, poses, forces and a car as numbers
-pub mod Numbers
--- calls and answers in columns of words and numbers
-pub mod Replay
--- what a replay writes and answers
-pub mod Batch
--- ---- for private functions alone: no public contract reaches these
--- of replay
-pub mod ReplaySteps
+-- The definitions of the certificate, room by room. Each room's own file lists what is in it, a line for each file, in the order in which to read them.
+-- what the documents say, without a word of the grader's: for every reader
+pub mod Rules
+-- the plain scorer, and what is claimed of the grader: for every reader
+pub mod Claim
+-- the grader's own: a list of calls, and the replay
+pub mod Grader
+-- for private functions alone: no public contract reaches these
+pub mod Steps

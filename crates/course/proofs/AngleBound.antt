@@ -12,10 +12,10 @@ use borrow.Author.Tests.{eq-eqb}
 use lib.Ieee.{Float, nan, inf, fin, binary64, up, down, neg, lt, le, eq, round, ofInt, add, sub, mul, div}
 use lib.Ieee.Fits.{up-pos, down-pos, and-l, and-r}
 use lib.Ieee.Order.{round-mono}
-use Rattle.course.specs.Arithmetic.{_⊕_, _⊖_, _⊗_, _⊘_, natural, decimal}
-use Rattle.course.specs.Constants.{halfPi}
-use Rattle.course.specs.Numeric.{absOf, within}
-use Rattle.course.specs.Trig.{plus, minus, horner, atanTerms, atanPoly, arc, arcOf, ratioOf, steepOf, leftward, downward, directionOf, atan2Of}
+use Rattle.course.specs.Rules.Arithmetic.{_⊕_, _⊖_, _⊗_, _⊘_, natural, decimal}
+use Rattle.course.specs.Rules.Constants.{halfPi}
+use Rattle.course.specs.Rules.Numeric.{absOf, within}
+use Rattle.course.specs.Rules.Trig.{plus, minus, horner, atanTerms, atanPoly, arc, arcOf, ratioOf, steepOf, leftward, downward, directionOf, atan2Of}
 use Rattle.course.proofs.Intervals.{In, Near, either, neg-in, near-of-within, wider, add-in, sub-in, mul-near, div-near, above-in, not-above-in, nonzero}
 
 -- ---- the polynomial: for |z| ≤ 0.18 and coefficients within ±1 it stays within ±1.5

@@ -7,14 +7,14 @@ use mathlib.Core.List.{List, [], _∷_, _++_, map}
 use lib.ListN.{length, take, drop, length-map, length-drop}
 use lib.Seq.{take-at, drop-append-le, take-append-le}
 use lib.Ieee.{Float}
-use Rattle.course.specs.Lengths.{stepLimit, laidLength}
-use Rattle.course.specs.Step.{Walk, TrackStep, Stepped, On, Refused, stepOf}
-use Rattle.course.specs.Track.{stepBetas, stepXs, stepYs, trackOf}
-use Rattle.course.specs.Walk.{Trail, follow, onward, walkFrom, walkStart, walkOf}
-use Rattle.course.specs.Tiles.{betas, xs, ys}
-use Rattle.course.specs.Lay.{pointOf, accepted, attemptOn}
-use Rattle.course.specs.LaySteps.{drawnOf, Trod, Before, Front, Cut, InFront}
-use Rattle.course.specs.Checkpoints.{checkpointsOf}
+use Rattle.course.specs.Rules.Lengths.{stepLimit, laidLength}
+use Rattle.course.specs.Rules.Step.{Walk, TrackStep, Stepped, On, Refused, stepOf}
+use Rattle.course.specs.Rules.Track.{stepBetas, stepXs, stepYs, trackOf}
+use Rattle.course.specs.Rules.Walk.{Trail, follow, onward, walkFrom, walkStart, walkOf}
+use Rattle.course.specs.Rules.Tiles.{betas, xs, ys}
+use Rattle.course.specs.Rules.Lay.{pointOf, accepted, attemptOn}
+use Rattle.course.specs.Steps.Lay.{drawnOf, Trod, Before, Front, Cut, InFront}
+use Rattle.course.specs.Rules.Checkpoints.{checkpointsOf}
 use Rattle.course.specs.declared.checkpoints.Drawn.{Drawn}
 use Rattle.rng.specs.declared.SplitMix64.{SplitMix64}
 use Rattle.course.specs.declared.checkpoints.Checkpoint.{Checkpoint}

@@ -5,7 +5,7 @@ use mathlib.Core.Logic.{_⊎_, inl, inr}
 use mathlib.Core.Path.{_≡_, refl, sym, _∙_}
 use native.Mathlib.Omega.{arith}
 use lib.Dec.{T}
-use Rattle.course.specs.Counting.{digit}
+use Rattle.course.specs.Rules.Counting.{digit}
 
 -- ---- one test
 -- a test, with what it says

@@ -12,8 +12,8 @@ use lib.Ieee.Fits.{up-pos, down-pos, and-l, and-r, round-is, core}
 use lib.Ieee.Exact.{HasValue}
 use lib.Ieee.Back.{round-whole}
 use lib.Ieee.Order.{round-mono}
-use Rattle.course.specs.Steps.{Bounded}
-use Rattle.course.specs.Numeric.{within}
+use Rattle.course.specs.Steps.Numbers.{Bounded}
+use Rattle.course.specs.Rules.Numeric.{within}
 
 -- ---- a rounded value has its sign, and rounding does not look at it
 neg-odd : (d q k l : ℕ) → odd d true q k l ≡ neg (odd d false q k l)

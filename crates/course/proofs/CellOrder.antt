@@ -13,9 +13,9 @@ use lib.Ieee.Fits.{up-pos, down-pos, and-l, and-r}
 use lib.Ieee.Nearest.{div-mono}
 use lib.Ieee.Order.{round-mono}
 use lib.Ieee.Casts.{toUnsigned-lt}
-use Rattle.course.specs.Arithmetic.{natural}
-use Rattle.course.specs.Constants.{playfield, scale, gridCell}
-use Rattle.course.specs.Cell.{along, cellOf}
+use Rattle.course.specs.Rules.Arithmetic.{natural}
+use Rattle.course.specs.Rules.Constants.{playfield, scale, gridCell}
+use Rattle.course.specs.Rules.Cell.{along, cellOf}
 use Rattle.course.proofs.Bounds.{plain, plain-round, or-le, or-ge, neg-round}
 use Rattle.course.proofs.Cells.{cell-cut}
 

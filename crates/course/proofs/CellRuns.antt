@@ -9,7 +9,7 @@ use native.Mathlib.Numerals.{add-one}
 use native.Mathlib.Decide.{ℕ-discrete}
 use lib.ListN.{length, getD, set, length-set}
 use lib.Seq.{getD-set-same, getD-set-other}
-use Rattle.course.specs.IndexSteps.{Inside, RunCounted, RunPlaced, sumBelow}
+use Rattle.course.specs.Steps.Index.{Inside, RunCounted, RunPlaced, sumBelow}
 
 -- two numbers are equal or not
 pub same? : (a b : ℕ) → (a ≡ b) ⊎ (a ≡ b → ⊥)

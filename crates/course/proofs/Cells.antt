@@ -13,10 +13,10 @@ use lib.Ieee.Back.{round-whole}
 use lib.Ieee.Order.{le-of-values}
 use lib.Ieee.Positive.{positive, positive-of-value, above-of-le, values-of-le}
 use borrow.Author.Tests.{le-leb, lt-leb, leb-true, leb-false}
-use Rattle.course.specs.Arithmetic.{natural}
+use Rattle.course.specs.Rules.Arithmetic.{natural}
 use Rattle.course.proofs.Naturals.{natural-le}
-use Rattle.course.specs.Counting.{digit, howMany}
-use Rattle.course.specs.Cell.{along, cellOf}
+use Rattle.course.specs.Rules.Counting.{digit, howMany}
+use Rattle.course.specs.Rules.Cell.{along, cellOf}
 
 -- ---- counting
 step : (n q : ℕ) → min n q + digit (leb (suc n) q) ≡ min (suc n) q

@@ -10,12 +10,12 @@ use lib.Seq.{take-suc-set, take-all}
 use lib.Ieee.{Float, binary64, ofBits}
 use Rattle.rng.specs.declared.SplitMix64.{SplitMix64}
 use Rattle.rng.specs.declared.UnitDraw.{UnitDraw}
-use Rattle.rng.specs.SplitMix.{after}
-use Rattle.rng.specs.Unit.{uniformDrawOf}
+use Rattle.rng.specs.Rules.SplitMix.{after}
+use Rattle.rng.specs.Rules.Unit.{uniformDrawOf}
 use Rattle.rng.proofs.Draws.{after-next, after-zero}
-use Rattle.course.specs.Arithmetic.{nought}
-use Rattle.course.specs.Checkpoints.{checkpointOf, checkpointAt, checkpointsOf}
-use Rattle.course.specs.LaySteps.{drawnOf}
+use Rattle.course.specs.Rules.Arithmetic.{nought}
+use Rattle.course.specs.Rules.Checkpoints.{checkpointOf, checkpointAt, checkpointsOf}
+use Rattle.course.specs.Steps.Lay.{drawnOf}
 use Rattle.course.specs.declared.checkpoints.Checkpoint.{Checkpoint}
 use Rattle.course.specs.declared.checkpoints.Drawn.{Drawn}
 use Rattle.course.proofs.Literals.{tau12-bits, rad-bits, rad3-bits}

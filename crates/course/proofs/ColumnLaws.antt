@@ -8,7 +8,7 @@ use mathlib.Core.List.{List, [], _∷_, _++_, append-assoc, append-nil}
 use lib.ListN.{length, getD, take, drop, set, replicate, length-set, length-append, length-drop, replicate-append-replicate, take-append-drop}
 use lib.Seq.{getD-drop, getD-append-add, drop-append-add, drop-drop, drop-cons, set-at, append-snoc, take-suc, length-take-le}
 use lib.Ieee.{Float}
-use Rattle.course.specs.CourseSteps.{puts}
+use Rattle.course.specs.Steps.Tiles.{puts}
 
 module _ {A : Type 0} where
   -- c is l with its first i entries replaced by p

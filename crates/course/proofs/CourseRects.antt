@@ -9,11 +9,11 @@ use borrow.Author.Tests.{lt-ltb, le-ltb}
 use native.Mathlib.Numerals.{add-one}
 use native.Mathlib.Omega.{arith}
 use lib.Ieee.{Float}
-use Rattle.course.specs.Lengths.{cellCount, offsetCount}
+use Rattle.course.specs.Rules.Lengths.{cellCount, offsetCount}
 use Rattle.course.specs.declared.index.Rect.{Rect}
-use Rattle.course.specs.Index.{start, offsetsOf, indexOf}
-use Rattle.course.specs.Rect.{rectOf, holdsOf, areaOf, needed}
-use Rattle.course.specs.IndexSteps.{Small, Built}
+use Rattle.course.specs.Grader.Index.{start, offsetsOf, indexOf}
+use Rattle.course.specs.Rules.Rect.{rectOf, holdsOf, areaOf, needed}
+use Rattle.course.specs.Steps.Index.{Small, Built}
 use Rattle.course.proofs.Cells.{cell-high}
 use Rattle.course.proofs.IndexLaws.{start-tile, start-no-tile}
 use Rattle.course.proofs.Rects.{held-area, area-small}

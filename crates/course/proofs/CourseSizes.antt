@@ -8,14 +8,14 @@ use mathlib.Core.List.{List, [], _∷_, map}
 use lib.Dec.{eqb, ltb}
 use lib.ListN.{length, take, drop, length-map, length-append, length-take}
 use Rattle.rng.specs.declared.SplitMix64.{SplitMix64}
-use Rattle.rng.specs.SplitMix.{after, seeded}
-use Rattle.course.specs.Lengths.{stepLimit}
-use Rattle.course.specs.Constants.{maxAttempts}
-use Rattle.course.specs.Checkpoints.{checkpointsOf}
-use Rattle.course.specs.Step.{Walk, TrackStep, Stepped, On, Refused, stepOf}
-use Rattle.course.specs.Track.{stepAlphas, laterPass, earlierPass, betweenPasses, wellGlued, trackOf}
-use Rattle.course.specs.Walk.{Trail, follow, onward, walkFrom, walkStart, walkOf}
-use Rattle.course.specs.Lay.{pointOf, accepted, attemptOn, ringPoint, ringOf, CoursePoints, orElse, courseOn, courseFrom, courseWithin, courseOf}
+use Rattle.rng.specs.Rules.SplitMix.{after, seeded}
+use Rattle.course.specs.Rules.Lengths.{stepLimit}
+use Rattle.course.specs.Rules.Constants.{maxAttempts}
+use Rattle.course.specs.Rules.Checkpoints.{checkpointsOf}
+use Rattle.course.specs.Rules.Step.{Walk, TrackStep, Stepped, On, Refused, stepOf}
+use Rattle.course.specs.Rules.Track.{stepAlphas, laterPass, earlierPass, betweenPasses, wellGlued, trackOf}
+use Rattle.course.specs.Rules.Walk.{Trail, follow, onward, walkFrom, walkStart, walkOf}
+use Rattle.course.specs.Rules.Lay.{pointOf, accepted, attemptOn, ringPoint, ringOf, CoursePoints, orElse, courseOn, courseFrom, courseWithin, courseOf}
 use Rattle.course.specs.declared.checkpoints.Checkpoint.{Checkpoint}
 use Rattle.course.specs.declared.tiles.TrackPoint.{TrackPoint}
 use Rattle.course.proofs.TrackParts.{pass-le, none-a}

@@ -9,10 +9,10 @@ use lib.ListN.{length, getD, take, drop, set, replicate, length-append, length-m
 use lib.Seq.{ext-getD, take-suc, getD-at, length-take-le, take-append-le, getD-take, drop-at, take-at, drop-drop, drop-append-add}
 use lib.Ieee.{Float, nan}
 use native.Mathlib.Decide.{decLt}
-use Rattle.course.specs.Arithmetic.{nought}
-use Rattle.course.specs.Tiles.{betas, xs, ys, pointAt, pointsOf, tileQuad, eight, beforeOf, noPoint, tileAt, tilesTo}
-use Rattle.course.specs.CourseSteps.{puts, edgesAt, quadBetween}
-use Rattle.course.specs.Points.{goodPoint, allGood}
+use Rattle.course.specs.Rules.Arithmetic.{nought}
+use Rattle.course.specs.Rules.Tiles.{betas, xs, ys, pointAt, pointsOf, tileQuad, eight, beforeOf, noPoint, tileAt, tilesTo}
+use Rattle.course.specs.Steps.Tiles.{puts, edgesAt, quadBetween}
+use Rattle.course.specs.Grader.Points.{goodPoint, allGood}
 use Rattle.course.specs.declared.tiles.TrackPoint.{TrackPoint}
 use Rattle.course.specs.declared.tiles.Edges.{Edges}
 use Rattle.course.proofs.BoolLaws.{swap}

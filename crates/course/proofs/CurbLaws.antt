@@ -10,20 +10,20 @@ use lib.Seq.{take-at}
 use lib.Dec.{leb, ltb, eqb}
 use borrow.Author.Tests.{leb-true, lt-ltb, le-ltb}
 use lib.Ieee.{Float}
-use Rattle.course.specs.Lengths.{mostPoints, columnLength, quadNumbers}
-use Rattle.course.specs.Arithmetic.{nought}
-use Rattle.course.specs.Tiles.{pointAt, pointsOf, beforeOf, eight}
-use Rattle.course.specs.CourseSteps.{puts}
-use Rattle.course.specs.Points.{givenCause, givenOf, allGood}
-use Rattle.course.specs.Curbs.{curbRoom, afterOf, bordered, curbQuad, whiteOf, quadsTo, whitesTo, filledMarks, Edged, edged, curbAnswer, curbCauseOf, curbCountOf, curbCause, curbsAt, curbsCall}
-use Rattle.course.specs.CourseSteps.{Curbed, CurbsTo}
+use Rattle.course.specs.Rules.Lengths.{mostPoints, columnLength, quadNumbers}
+use Rattle.course.specs.Rules.Arithmetic.{nought}
+use Rattle.course.specs.Rules.Tiles.{pointAt, pointsOf, beforeOf, eight}
+use Rattle.course.specs.Steps.Tiles.{puts}
+use Rattle.course.specs.Grader.Points.{givenCause, givenOf, allGood}
+use Rattle.course.specs.Grader.Curbs.{curbRoom, afterOf, bordered, curbQuad, whiteOf, quadsTo, whitesTo, filledMarks, Edged, edged, curbAnswer, curbCauseOf, curbCountOf, curbCause, curbsAt, curbsCall}
+use Rattle.course.specs.Steps.Tiles.{Curbed, CurbsTo}
 use Rattle.course.specs.declared.curbs.CurbAnswer.{CurbAnswer}
 use Rattle.course.specs.declared.tiles.TrackPoint.{TrackPoint}
 use Rattle.course.specs.declared.curbs.CurbAnswer.the-variants.{Count, Refused}
 use Rattle.course.proofs.LengthLaws.{column-fits, column-small}
 use Rattle.course.proofs.ColumnLaws.{Grown, grown-more, puts-grown, drop-past}
-use Rattle.course.proofs.LaidColumns.{Given, given-long, passed, positive, at-most, fill-tiles}
-use Rattle.course.specs.Counting.{digit}
+use Rattle.course.proofs.LaidColumns.{GivenLong, given-long, all-clear, positive, at-most, fill-tiles}
+use Rattle.course.specs.Rules.Counting.{digit}
 use Rattle.course.proofs.BoolLaws.{and-left, and-right, digit-le}
 
 quads-step : (has : Bool) (vs p c c′ l : List Float) (m m′ : ℕ) → Grown p c l (m * 8) → length vs ≡ 8 → m * 8 + 8 ≤ length l → m′ ≡ m + digit has → c′ ≡ cond has (puts vs (m * 8) c) c
@@ -102,12 +102,12 @@ pub record Fits (z : ℕ) (b e n : List Float) (k : ℕ) (q : List Float) (w : L
   pub small : z ≤ mostPoints
   pub quads : quadNumbers z ≤ length q
   pub white : z ≤ length w
-  pub given : Given b e n k
+  pub given : GivenLong b e n k
 
 pub fits : (z : ℕ) (b e n : List Float) (k : ℕ) (q : List Float) (w : List ℕ) → z ≡ columnLength k → givenCause (curbRoom z q w) b e n k ≡ 0 → Fits z b e n k q w
 unfolding givenCause curbRoom
 fits z b e n k q w c h =
-    let p = passed (eqb k 0) (ltb mostPoints k) (curbRoom z q w) (givenOf b e n k) (allGood (pointsOf b e n k)) h in
+    let p = all-clear (eqb k 0) (ltb mostPoints k) (curbRoom z q w) (givenOf b e n k) (allGood (pointsOf b e n k)) h in
     record {
       some = positive k (p .some);
       few = column-fits k z c (at-most mostPoints k (p .few));

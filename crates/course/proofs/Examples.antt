@@ -3,11 +3,11 @@
 use mathlib.Core.Path.{_≡_, refl}
 use mathlib.Core.Bool.{true}
 use lib.Ieee.{nan, binary64, ofInt, add, sub, div, le, lt, neg, ofBits}
-use Rattle.course.specs.Arithmetic.{_⊖_, natural}
-use Rattle.course.specs.Constants.{playfield, scale, gridCell}
-use Rattle.course.specs.Counting.{howMany}
-use Rattle.course.specs.Cell.{along, cellOf}
-use Rattle.course.specs.Root.{sqrtOf}
+use Rattle.course.specs.Rules.Arithmetic.{_⊖_, natural}
+use Rattle.course.specs.Rules.Constants.{playfield, scale, gridCell}
+use Rattle.course.specs.Rules.Counting.{howMany}
+use Rattle.course.specs.Rules.Cell.{along, cellOf}
+use Rattle.course.specs.Rules.Root.{sqrtOf}
 -- examples 1 and 2, passed on
 pub use Rattle.rng.proofs.Examples.{marked as draws}
 

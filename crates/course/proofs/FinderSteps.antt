@@ -10,9 +10,9 @@ use lib.ListN.{length, drop, getD, length-drop}
 use lib.Seq.{drop-cons}
 use lib.Ieee.{Float, binary64, sub, le}
 use Rattle.course.specs.declared.checkpoints.Checkpoint.{Checkpoint}
-use Rattle.course.specs.Constants.{tau}
-use Rattle.course.specs.Finder.{Destination, Going, NotFound, scan, searched, destOf}
-use Rattle.course.specs.LaySteps.{noCheckpoint}
+use Rattle.course.specs.Rules.Constants.{tau}
+use Rattle.course.specs.Rules.Finder.{Destination, Going, NotFound, scan, searched, destOf}
+use Rattle.course.specs.Steps.Lay.{noCheckpoint}
 
 -- a pass from place i on goes on from the next place where alpha is above the angle there, and finds place i where it is not
 pub scan-past : (l : List Checkpoint) (i : ℕ) (a : Float) (d : Checkpoint) (none : Destination) → i < length l → le a (getD l i d .angle) ≡ false → scan (drop i l) i a none ≡ scan (drop (i + 1) l) (i + 1) a none

@@ -13,9 +13,9 @@ use lib.Ieee.Order.{le-of-values}
 use lib.Ieee.Positive.{first-pos}
 use mathlib.Core.Logic.{inl, inr}
 use borrow.Author.Tests.{ltb-true, ltb-false, lt-ltb, le-ltb}
-use Rattle.course.specs.Arithmetic.{natural}
-use Rattle.course.specs.Steps.{Bounded}
-use Rattle.course.specs.Trig.{floor, quarterOf}
+use Rattle.course.specs.Rules.Arithmetic.{natural}
+use Rattle.course.specs.Steps.Numbers.{Bounded}
+use Rattle.course.specs.Rules.Trig.{floor, quarterOf}
 use Rattle.course.proofs.BoolLaws.{same-test}
 use Rattle.course.proofs.Naturals.{natural-val}
 use Rattle.course.proofs.Bounds.{neg-round}

@@ -16,10 +16,10 @@ use lib.Ieee.Order.{le-of-values}
 use lib.Ieee.Positive.{first-pos}
 use lib.Ieee.Scale.{round-same}
 use borrow.Author.Tests.{lt-ltb, le-ltb}
-use Rattle.course.specs.Steps.{Bounded}
-use Rattle.course.specs.Arithmetic.{natural}
-use Rattle.course.specs.Numeric.{within}
-use Rattle.course.specs.Trig.{floor, wholeBelow}
+use Rattle.course.specs.Steps.Numbers.{Bounded}
+use Rattle.course.specs.Rules.Arithmetic.{natural}
+use Rattle.course.specs.Rules.Numeric.{within}
+use Rattle.course.specs.Rules.Trig.{floor, wholeBelow}
 use Rattle.course.proofs.Naturals.{natural-val}
 use Rattle.course.proofs.Bounds.{or-le, or-ge, bounded-of-within}
 use Rattle.course.proofs.FloatOrder.{is-so}

@@ -9,12 +9,12 @@ use lib.ListN.{length, take, drop, set, length-map}
 use lib.Seq.{take-at}
 use lib.Ieee.{Float}
 use Rattle.rng.specs.declared.SplitMix64.{SplitMix64}
-use Rattle.rng.specs.SplitMix.{after, seeded}
-use Rattle.course.specs.Lengths.{laidLength}
-use Rattle.course.specs.Checkpoints.{checkpointsOf}
-use Rattle.course.specs.Tiles.{betas, xs, ys}
-use Rattle.course.specs.Lay.{attemptOn, ringPoint, ringOf, CoursePoints, ringCourse, orElse, courseOn, courseFrom, courseWithin}
-use Rattle.course.specs.LaySteps.{InFront}
+use Rattle.rng.specs.Rules.SplitMix.{after, seeded}
+use Rattle.course.specs.Rules.Lengths.{laidLength}
+use Rattle.course.specs.Rules.Checkpoints.{checkpointsOf}
+use Rattle.course.specs.Rules.Tiles.{betas, xs, ys}
+use Rattle.course.specs.Rules.Lay.{attemptOn, ringPoint, ringOf, CoursePoints, ringCourse, orElse, courseOn, courseFrom, courseWithin}
+use Rattle.course.specs.Steps.Lay.{InFront}
 use Rattle.course.specs.declared.checkpoints.Checkpoint.{Checkpoint}
 use Rattle.course.specs.declared.tiles.TrackPoint.{TrackPoint}
 use Rattle.course.proofs.ColumnLaws.{Grown, grown-none, drop-past}

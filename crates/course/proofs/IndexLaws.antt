@@ -13,8 +13,8 @@ use lib.Seq.{ext-getD, getD-at, getD-take, getD-drop, take-add, take-at, drop-at
 use lib.ListN.{length-take, length-drop}
 use lib.Dec.{leb, ltb}
 use borrow.Author.Tests.{lt-ltb, le-ltb, le-leb, ltb-true, leb-true}
-use Rattle.course.specs.Index.{addIf, listed, start, indexOf, table, offsetsOf, partOk, lookup}
-use Rattle.course.specs.Counting.{digit, howMany}
+use Rattle.course.specs.Grader.Index.{addIf, listed, start, indexOf, table, offsetsOf, partOk, lookup}
+use Rattle.course.specs.Rules.Counting.{digit, howMany}
 use Rattle.course.proofs.BoolLaws.{and-left, and-right}
 
 -- two numbers, in order or not

@@ -11,8 +11,8 @@ use lib.Ieee.{Float, nan, inf, fin, binary64, up, down, unlike, neg, lt, le, rou
 use lib.Ieee.Fits.{up-pos, down-pos, and-i, and-l, and-r}
 use lib.Ieee.Positive.{positive, positive-finite, first-pos, num, den}
 use lib.Ieee.Scale.{finite}
-use Rattle.course.specs.Arithmetic.{_⊕_, _⊖_, _⊗_, _⊘_}
-use Rattle.course.specs.Numeric.{within}
+use Rattle.course.specs.Rules.Arithmetic.{_⊕_, _⊖_, _⊗_, _⊘_}
+use Rattle.course.specs.Rules.Numeric.{within}
 use Rattle.course.proofs.Bounds.{neg-round}
 use Rattle.course.proofs.FloatOrder.{not-lt, under-of-le, le-of-lt, le-of-not-lt, le-chain, finite-between}
 use Rattle.course.proofs.RoundOrder.{neg-le, round-le, add-le}

@@ -10,20 +10,20 @@ use lib.Dec.{leb, ltb, eqb}
 use borrow.Author.Tests.{leb-true, lt-ltb}
 use native.Mathlib.Decide.{decLt}
 use lib.Ieee.{Float}
-use Rattle.course.specs.Lengths.{mostPoints, columnLength, quadNumbers, cellCount, offsetCount}
-use Rattle.course.specs.Rect.{holdsOf, needed}
-use Rattle.course.specs.IndexSteps.{Built}
+use Rattle.course.specs.Rules.Lengths.{mostPoints, columnLength, quadNumbers, cellCount, offsetCount}
+use Rattle.course.specs.Rules.Rect.{holdsOf, needed}
+use Rattle.course.specs.Steps.Index.{Built}
 use Rattle.course.proofs.BoolLaws.{and-left, and-right}
-use Rattle.course.specs.Index.{offsetsOf, indexOf}
+use Rattle.course.specs.Grader.Index.{offsetsOf, indexOf}
 use Rattle.course.proofs.IndexLaws.{index-length}
 use Rattle.course.proofs.CourseRects.{needed-start, needed-small}
 use Rattle.course.proofs.PackedRects.{scratch-cleared}
-use Rattle.course.specs.Arithmetic.{nought}
-use Rattle.course.specs.Course.{fromPoints, cellsOf}
-use Rattle.course.specs.Tiles.{betas, xs, ys, pointAt, pointsOf, tilesTo, tilesOf}
-use Rattle.course.specs.Lent.{Lent, lent, Outcome, outcome, filled, written, noValues, laidFigures, laidAnswer, answered, layInto, roomyOf}
-use Rattle.course.specs.CourseSteps.{Roomy}
-use Rattle.course.specs.Points.{givenOf, allGood, givenCause, pointsCause, pointsAt, pointsCall}
+use Rattle.course.specs.Rules.Arithmetic.{nought}
+use Rattle.course.specs.Grader.Course.{fromPoints, cellsOf}
+use Rattle.course.specs.Rules.Tiles.{betas, xs, ys, pointAt, pointsOf, tilesTo, tilesOf}
+use Rattle.course.specs.Grader.Outcome.{CourseColumns, lent, Outcome, outcome, filled, written, noValues, laidFigures, laidAnswer, answered, layInto, roomyOf}
+use Rattle.course.specs.Steps.Tiles.{Roomy}
+use Rattle.course.specs.Grader.Points.{givenOf, allGood, givenCause, pointsCause, pointsAt, pointsCall}
 use Rattle.course.specs.declared.tiles.TrackPoint.{TrackPoint}
 use Rattle.course.specs.declared.points.LaidCourse.{LaidCourse}
 use Rattle.course.specs.declared.points.Laid.{Laid}
@@ -59,12 +59,12 @@ unfolding filled
 front-tiles own t t1 t2 k m e h p q = ap (take k) (fill-tiles own t t1 t2 k m e h p q) ∙ take-at own _ k e
 
 -- the points that stand in front of lent columns
-abbrev points-in : Lent → ℕ → List TrackPoint
+abbrev points-in : CourseColumns → ℕ → List TrackPoint
 points-in l k = pointsOf (l .beta) (l .x) (l .y) k
 
 -- after the code: the columns of m points that `finish` was lent, and what its calls made of them; the index is built with `alpha` for scratch,
 -- and the tiles stand in their column before its rest is cleared
-pub record Done (m : ℕ) (l : Lent) (k : ℕ) (l′ : Lent) (scratch written-tiles : List Float) (short : Bool) (need : ℕ) : Type 0 where
+pub record Finished (m : ℕ) (l : CourseColumns) (k : ℕ) (l′ : CourseColumns) (scratch written-tiles : List Float) (short : Bool) (need : ℕ) : Type 0 where
   pub size : (0 < k) × (k ≤ m) × (m ≤ mostPoints)
   pub room : Roomy m (l .alpha) (l .beta) (l .x) (l .y) (l .tiles) (l .offsets)
   pub kept : drop k scratch ≡ drop k (l .alpha)
@@ -76,7 +76,7 @@ pub record Done (m : ℕ) (l : Lent) (k : ℕ) (l′ : Lent) (scratch written-ti
   pub tiles : l′ .tiles ≡ take (k * 8) written-tiles ++ (replicate (quadNumbers m - k * 8) nought ++ drop (quadNumbers m) written-tiles)
   pub index : Built (take (k * 8) (l′ .tiles)) k (l .offsets) (l .list) (l′ .offsets) (l′ .list) short need
 
-module _ {m : ℕ} {l : Lent} {k : ℕ} {l′ : Lent} {scratch written-tiles : List Float} {short : Bool} {need : ℕ} (d : Done m l k l′ scratch written-tiles short need) where
+module _ {m : ℕ} {l : CourseColumns} {k : ℕ} {l′ : CourseColumns} {scratch written-tiles : List Float} {short : Bool} {need : ℕ} (d : Finished m l k l′ scratch written-tiles short need) where
   few : k ≤ m
   few = d .size .1
 
@@ -190,19 +190,19 @@ room {m} {a} {b} {e} {n} {t} {o} h =
       offsets = leb-true offsetCount (length o) (and-right (leb (quadNumbers m) (length t)) _ h4);
     }
 
-pub record Given (b e n : List Float) (k : ℕ) : Type 0 where
+pub record GivenLong (b e n : List Float) (k : ℕ) : Type 0 where
   pub beta : k ≤ length b
   pub x : k ≤ length e
   pub y : k ≤ length n
 
-pub given-long : (b e n : List Float) (k : ℕ) → givenOf b e n k ≡ true → Given b e n k
+pub given-long : (b e n : List Float) (k : ℕ) → givenOf b e n k ≡ true → GivenLong b e n k
 unfolding givenOf
 given-long b e n k h =
     let h1 = and-right (leb k (length b)) _ h in
     record { beta = leb-true k (length b) (and-left _ _ h); x = leb-true k (length e) (and-left _ _ h1); y = leb-true k (length n) (and-right (leb k (length e)) _ h1) }
 
 -- where no cause holds
-pub record Passed (p q r s : Bool) : Type 0 where
+pub record AllClear (p q r s : Bool) : Type 0 where
   pub some : p ≡ false
   pub few : q ≡ false
   pub room : r ≡ true
@@ -211,12 +211,12 @@ pub record Passed (p q r s : Bool) : Type 0 where
 abbrev pub first-cause : Bool → Bool → Bool → Bool → Bool → ℕ
 first-cause p q r s t = cond p 9 (cond q 9 (cond (not r) 2 (cond (not s) 2 (cond (not t) 8 0))))
 
-pub passed : (p q r s t : Bool) → first-cause p q r s t ≡ 0 → Passed p q r s
-passed true q r s t h = absurd (omega (arith, h))
-passed false true r s t h = absurd (omega (arith, h))
-passed false false false s t h = absurd (omega (arith, h))
-passed false false true false t h = absurd (omega (arith, h))
-passed false false true true t h = record { some = refl; few = refl; room = refl; given = refl }
+pub all-clear : (p q r s t : Bool) → first-cause p q r s t ≡ 0 → AllClear p q r s
+all-clear true q r s t h = absurd (omega (arith, h))
+all-clear false true r s t h = absurd (omega (arith, h))
+all-clear false false false s t h = absurd (omega (arith, h))
+all-clear false false true false t h = absurd (omega (arith, h))
+all-clear false false true true t h = record { some = refl; few = refl; room = refl; given = refl }
 
 pub positive : (k : ℕ) → eqb k 0 ≡ false → 0 < k
 positive zero h = absurd (off-on (sym h))
@@ -231,7 +231,7 @@ pub record Fit (m : ℕ) (b e n : List Float) (k : ℕ) (a′ b′ e′ n′ t�
   pub few : k ≤ m
   pub small : m ≤ mostPoints
   pub room : Roomy m a′ b′ e′ n′ t′ o′
-  pub given : Given b e n k
+  pub given : GivenLong b e n k
 
 -- no cause: what was tested, and what the tests answered
 pub none-of : (r : ℕ) → r ≤ 0 → r ≡ 0
@@ -243,7 +243,7 @@ no-cause b e n k room wide r h w z = sym (h ∙ ap (λ (x : Bool). givenCause x 
 pub fit : (m : ℕ) (b e n : List Float) (k : ℕ) (a′ b′ e′ n′ t′ : List Float) (o′ : List ℕ) → m ≡ columnLength k → givenCause (roomyOf m a′ b′ e′ n′ t′ o′) b e n k ≡ 0 → Fit m b e n k a′ b′ e′ n′ t′ o′
 unfolding givenCause
 fit m b e n k a′ b′ e′ n′ t′ o′ c h =
-    let p = passed (eqb k 0) (ltb mostPoints k) (roomyOf m a′ b′ e′ n′ t′ o′) (givenOf b e n k) (allGood (pointsOf b e n k)) h in
+    let p = all-clear (eqb k 0) (ltb mostPoints k) (roomyOf m a′ b′ e′ n′ t′ o′) (givenOf b e n k) (allGood (pointsOf b e n k)) h in
     record {
       some = positive k (p .some);
       few = column-fits k m c (at-most mostPoints k (p .few));
@@ -266,16 +266,16 @@ refused-by : (b e n : List Float) (k : ℕ) (room : Bool) → 0 < givenCause roo
 unfolding givenCause
 refused-by b e n k room z = none-needs (eqb k 0) (ltb mostPoints k) room (givenOf b e n k) (allGood (pointsOf b e n k)) z
 
-turned-away : (m k : ℕ) (ps : List TrackPoint) (l : Lent) → 0 < k → pointsAt m k ps l ≡ outcome (laidAnswer k noValues) l
+turned-away : (m k : ℕ) (ps : List TrackPoint) (l : CourseColumns) → 0 < k → pointsAt m k ps l ≡ outcome (laidAnswer k noValues) l
 unfolding pointsAt
 turned-away m zero ps l z = absurd (omega (arith, z))
 turned-away m (suc k) ps l z = refl
 
 -- the call of points with columns of m
-abbrev pointsIn : ℕ → List Float → List Float → List Float → ℕ → Lent → Outcome
+abbrev pointsIn : ℕ → List Float → List Float → List Float → ℕ → CourseColumns → Outcome
 pointsIn m b e n k l = pointsAt m (givenCause (roomyOf m (l .alpha) (l .beta) (l .x) (l .y) (l .tiles) (l .offsets)) b e n k) (pointsOf b e n k) l
 
-points-call : (m : ℕ) (b e n : List Float) (k : ℕ) (l : Lent) → m ≡ columnLength k → pointsIn m b e n k l ≡ pointsCall b e n k l
+points-call : (m : ℕ) (b e n : List Float) (k : ℕ) (l : CourseColumns) → m ≡ columnLength k → pointsIn m b e n k l ≡ pointsCall b e n k l
 unfolding pointsCall pointsCause
 points-call m b e n k l h = ap (λ (z : ℕ). pointsIn z b e n k l) h
 

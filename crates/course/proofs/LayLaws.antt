@@ -9,15 +9,16 @@ use lib.ListN.{length, take, drop, replicate, length-append, length-replicate, l
 use lib.Seq.{take-at}
 use borrow.Author.Tests.{ne-eqb}
 use lib.Ieee.{Float}
-use Rattle.course.specs.Arithmetic.{nought}
-use Rattle.course.specs.Constants.{maxAttempts}
-use Rattle.course.specs.Lengths.{mostPoints, laidLength, columnLength, quadNumbers}
-use Rattle.course.specs.Tiles.{betas, xs, ys, pointsOf, tilesOf}
-use Rattle.course.specs.Course.{fromPoints, cellsOf}
-use Rattle.course.specs.Lent.{Lent, lent, Outcome, outcome, roomyOf, filled, written, laidFigures, laidAnswer, answered, layInto, laidCauseOf, laidValuesOf}
-use Rattle.course.specs.CourseSteps.{Roomy}
-use Rattle.course.specs.Lay.{CoursePoints, courseWithin, courseOf, layCause, layAt, layCall}
-use Rattle.course.specs.LaySteps.{InFront}
+use Rattle.course.specs.Rules.Arithmetic.{nought}
+use Rattle.course.specs.Rules.Constants.{maxAttempts}
+use Rattle.course.specs.Rules.Lengths.{mostPoints, laidLength, columnLength, quadNumbers}
+use Rattle.course.specs.Rules.Tiles.{betas, xs, ys, pointsOf, tilesOf}
+use Rattle.course.specs.Grader.Course.{fromPoints, cellsOf}
+use Rattle.course.specs.Grader.Outcome.{CourseColumns, lent, Outcome, outcome, roomyOf, filled, written, laidFigures, laidAnswer, answered, layInto, laidCauseOf, laidValuesOf}
+use Rattle.course.specs.Steps.Tiles.{Roomy}
+use Rattle.course.specs.Rules.Lay.{CoursePoints, courseWithin, courseOf}
+use Rattle.course.specs.Grader.LayCall.{layCause, layAt, layCall}
+use Rattle.course.specs.Steps.Lay.{InFront}
 use Rattle.course.specs.declared.tiles.TrackPoint.{TrackPoint}
 use Rattle.course.specs.declared.points.LaidCourse.{LaidCourse}
 use Rattle.course.specs.declared.points.Laid.the-variants.{Refused}
@@ -27,15 +28,15 @@ use Rattle.course.proofs.LengthLaws.{laid-few, column-laid}
 use Rattle.course.proofs.LaidColumns.{lay-past, room}
 
 -- the columns lent to lay have their lengths
-abbrev pub roomy : Lent → Bool
+abbrev pub roomy : CourseColumns → Bool
 roomy l = roomyOf laidLength (l .alpha) (l .beta) (l .x) (l .y) (l .tiles) (l .offsets)
 
 -- ---- for the proofs of the calls
-pub refused-short : (c : CoursePoints) (l : Lent) → roomy l ≡ false → outcome (Refused 2) l ≡ layAt (layCause l) c l
+pub refused-short : (c : CoursePoints) (l : CourseColumns) → roomy l ≡ false → outcome (Refused 2) l ≡ layAt (layCause l) c l
 unfolding layCause layAt laidAnswer
 refused-short c l h = rw h
 
-pub laid-roomy : (c : CoursePoints) (l : Lent) → roomy l ≡ true → layInto laidLength (c .fallback) (c .points) l ≡ layAt (layCause l) c l
+pub laid-roomy : (c : CoursePoints) (l : CourseColumns) → roomy l ≡ true → layInto laidLength (c .fallback) (c .points) l ≡ layAt (layCause l) c l
 unfolding layCause layAt
 laid-roomy c l h = rw h
 
@@ -43,7 +44,7 @@ in-front : (own c : List Float) (n : ℕ) → take n c ≡ own → c ≡ own ++ 
 in-front own c n e = sym (take-append-drop n c) ∙ ap (λ (z : List Float). z ++ drop n c) e
 
 -- when `finish` is called: the columns that lay was lent have their lengths, and the course's points stand in front
-pub record Ready (c : CoursePoints) (l : Lent) (a′ b′ x′ y′ : List Float) (n : ℕ) (fallback : Bool) : Type 0 where
+pub record Ready (c : CoursePoints) (l : CourseColumns) (a′ b′ x′ y′ : List Float) (n : ℕ) (fallback : Bool) : Type 0 where
   pub room : roomy l ≡ true
   pub front : InFront (c .points) (l .alpha) (l .beta) (l .x) (l .y) a′ b′ x′ y′ n
   pub ring : fallback ≡ c .fallback
@@ -52,7 +53,7 @@ pub record Ready (c : CoursePoints) (l : Lent) (a′ b′ x′ y′ : List Float
   pub x : length x′ ≡ length (l .x)
   pub y : length y′ ≡ length (l .y)
 
-module _ {c : CoursePoints} {l : Lent} {a′ b′ x′ y′ : List Float} {n : ℕ} {fallback : Bool} (r : Ready c l a′ b′ x′ y′ n fallback) where
+module _ {c : CoursePoints} {l : CourseColumns} {a′ b′ x′ y′ : List Float} {n : ℕ} {fallback : Bool} (r : Ready c l a′ b′ x′ y′ n fallback) where
   points-there : pointsOf b′ x′ y′ n ≡ c .points
   points-there =
       let d = r .front in
@@ -97,33 +98,33 @@ laid-cause : (short fallback : Bool) (ps : List TrackPoint) → laidCauseOf (ans
 unfolding answered
 laid-cause short fallback ps = number-back (cond short 3 0) (laidFigures fallback ps)
 
-cause-at : (c : CoursePoints) (l : Lent) (b : Bool) → roomy l ≡ b → laidCauseOf (layAt (layCause l) c l .answer) ≡ cond b (cond (ltb (length (l .list)) (cellsOf (c .points))) 3 0) 2
+cause-at : (c : CoursePoints) (l : CourseColumns) (b : Bool) → roomy l ≡ b → laidCauseOf (layAt (layCause l) c l .answer) ≡ cond b (cond (ltb (length (l .list)) (cellsOf (c .points))) 3 0) 2
 unfolding layInto laidCauseOf
 cause-at c l true h = ap (λ (w : Outcome). laidCauseOf (w .answer)) (sym (laid-roomy c l h)) ∙ laid-cause (ltb (length (l .list)) (cellsOf (c .points))) (c .fallback) (c .points)
 cause-at c l false h = ap (λ (w : Outcome). laidCauseOf (w .answer)) (sym (refused-short c l h))
 
-pub lay-cause : (attempts seed : ℕ) (l : Lent)
+pub lay-cause : (attempts seed : ℕ) (l : CourseColumns)
     → laidCauseOf (layCall attempts seed l .answer) ≡ cond (roomy l) (cond (ltb (length (l .list)) (cellsOf (courseWithin attempts seed .points))) 3 0) 2
 unfolding layCall
 lay-cause attempts seed l = cause-at (courseWithin attempts seed) l (roomy l) refl
 
 -- a call refused by 2 leaves the columns as they were
-pub lay-untouched : (attempts seed : ℕ) (l : Lent) → roomy l ≡ false → layCall attempts seed l ≡ outcome (Refused 2) l
+pub lay-untouched : (attempts seed : ℕ) (l : CourseColumns) → roomy l ≡ false → layCall attempts seed l ≡ outcome (Refused 2) l
 unfolding layCall
 lay-untouched attempts seed l h = sym (refused-short (courseWithin attempts seed) l h)
 
 -- with room, lay writes and answers by the seed's points
-pub lay-roomy : (attempts seed : ℕ) (l : Lent) → roomy l ≡ true → layCall attempts seed l ≡ layInto laidLength (courseWithin attempts seed .fallback) (courseWithin attempts seed .points) l
+pub lay-roomy : (attempts seed : ℕ) (l : CourseColumns) → roomy l ≡ true → layCall attempts seed l ≡ layInto laidLength (courseWithin attempts seed .fallback) (courseWithin attempts seed .points) l
 unfolding layCall
 lay-roomy attempts seed l h = sym (laid-roomy (courseWithin attempts seed) l h)
 
 -- the same of `lay`, by the seed's course
-pub lay-course : (seed : ℕ) (l : Lent) → roomy l ≡ true → layCall maxAttempts seed l ≡ layInto laidLength (courseOf seed .fallback) (courseOf seed .points) l
+pub lay-course : (seed : ℕ) (l : CourseColumns) → roomy l ≡ true → layCall maxAttempts seed l ≡ layInto laidLength (courseOf seed .fallback) (courseOf seed .points) l
 unfolding courseOf
 lay-course seed l h = lay-roomy maxAttempts seed l h
 
 -- and in columns of that course's length
-pub lay-columns : (seed : ℕ) (l : Lent) → roomy l ≡ true → layCall maxAttempts seed l ≡ layInto (columnLength (length (courseOf seed .points))) (courseOf seed .fallback) (courseOf seed .points) l
+pub lay-columns : (seed : ℕ) (l : CourseColumns) → roomy l ≡ true → layCall maxAttempts seed l ≡ layInto (columnLength (length (courseOf seed .points))) (courseOf seed .fallback) (courseOf seed .points) l
 lay-columns seed l h =
     lay-course seed l h
     ∙ ap (λ (m : ℕ). layInto m (courseOf seed .fallback) (courseOf seed .points) l) (sym (column-laid (length (courseOf seed .points)) (omega (arith, course-sized seed .few))))
@@ -139,7 +140,7 @@ filled-stated m own c h =
     back k e = omega arith
 
 -- two sets of columns agree in the lengths of m points
-pub record Agree (m : ℕ) (l l′ : Lent) : Type 0 where
+pub record Agree (m : ℕ) (l l′ : CourseColumns) : Type 0 where
   pub alpha : take m (l .alpha) ≡ take m (l′ .alpha)
   pub beta : take m (l .beta) ≡ take m (l′ .beta)
   pub x : take m (l .x) ≡ take m (l′ .x)
@@ -149,7 +150,7 @@ pub record Agree (m : ℕ) (l l′ : Lent) : Type 0 where
 same-filled : (m : ℕ) (own c c′ : List Float) → length own ≤ m → take m (filled m own c) ≡ take m (filled m own c′)
 same-filled m own c c′ h = filled-stated m own c h ∙ sym (filled-stated m own c′ h)
 
-into-agree : (m : ℕ) (fallback : Bool) (ps : List TrackPoint) (l l′ : Lent) → length ps ≤ m → Agree m (layInto m fallback ps l .lent) (layInto m fallback ps l′ .lent)
+into-agree : (m : ℕ) (fallback : Bool) (ps : List TrackPoint) (l l′ : CourseColumns) → length ps ≤ m → Agree m (layInto m fallback ps l .lent) (layInto m fallback ps l′ .lent)
 unfolding layInto written fromPoints
 into-agree m fallback ps l l′ few =
     record {
@@ -160,6 +161,6 @@ into-agree m fallback ps l l′ few =
       tiles = same-filled (quadNumbers m) (tilesOf ps) (l .tiles) (l′ .tiles) (rw (tiles-long ps (length ps)) (omega (arith, few)));
     }
 
-pub same-course : (attempts seed : ℕ) (l l′ : Lent) → roomy l ≡ true → roomy l′ ≡ true → Agree laidLength (layCall attempts seed l .lent) (layCall attempts seed l′ .lent)
+pub same-course : (attempts seed : ℕ) (l l′ : CourseColumns) → roomy l ≡ true → roomy l′ ≡ true → Agree laidLength (layCall attempts seed l .lent) (layCall attempts seed l′ .lent)
 same-course attempts seed l l′ h h′ =
     rw (lay-roomy attempts seed l h, lay-roomy attempts seed l′ h′) (into-agree laidLength _ _ l l′ (omega (arith, within-sized attempts seed .few)))

@@ -2,7 +2,7 @@
 use Prim.Native.Nat.{ℕ, _≤_}
 use native.Mathlib.Omega.{arith}
 use mathlib.Core.Path.{_≡_, refl, sym, subst}
-use Rattle.course.specs.Lengths.{mostPoints, laidLength, columnLength}
+use Rattle.course.specs.Rules.Lengths.{mostPoints, laidLength, columnLength}
 
 -- a course's points fit into the columns lent with it
 pub points-fit : (n : ℕ) → n ≤ mostPoints → n ≤ columnLength n

@@ -8,15 +8,15 @@ use mathlib.Core.Bool.{Bool, true, false, cond, true≢false, false≢true}
 use mathlib.Core.List.{List, []}
 use lib.Dec.{T, ltb}
 use lib.Ieee.{Float, nan, inf, fin, up, down, isNan, neg, lt, le, round, ofInt, ofBits, add, sub}
-use Rattle.course.specs.Arithmetic.{_⊕_, _⊖_, _⊗_, natural, decimal}
-use Rattle.course.specs.Constants.{trackTurnRate}
-use Rattle.course.specs.Numeric.{absOf, minOf, within}
-use Rattle.course.specs.Trig.{SinCos, sinCosOf}
-use Rattle.course.specs.Finder.{Destination, Going, NotFound, destOf}
-use Rattle.course.specs.Step.{Walk, TrackStep, Stepped, On, Refused, Sight, Turned, To, TooFar, sightOf, turnOf, projOf, steered, landedOf, thenLanded, movedOf, thenMoved, stepOf}
-use Rattle.course.specs.Walk.{follow, onward, walkFrom, walkStart, walkOf}
-use Rattle.course.specs.Lengths.{stepLimit}
-use Rattle.course.specs.Refusals.{Reached, start, next, ThirdPass, RefusedByPass}
+use Rattle.course.specs.Rules.Arithmetic.{_⊕_, _⊖_, _⊗_, natural, decimal}
+use Rattle.course.specs.Rules.Constants.{trackTurnRate}
+use Rattle.course.specs.Rules.Numeric.{absOf, minOf, within}
+use Rattle.course.specs.Rules.Trig.{SinCos, sinCosOf}
+use Rattle.course.specs.Rules.Finder.{Destination, Going, NotFound, destOf}
+use Rattle.course.specs.Rules.Step.{Walk, TrackStep, Stepped, On, Refused, Sight, Turned, To, TooFar, sightOf, turnOf, projOf, steered, landedOf, thenLanded, movedOf, thenMoved, stepOf}
+use Rattle.course.specs.Rules.Walk.{follow, onward, walkFrom, walkStart, walkOf}
+use Rattle.course.specs.Rules.Lengths.{stepLimit}
+use Rattle.course.specs.Laws.Refusals.{Reached, start, next, ThirdPass, RefusedByPass}
 use Rattle.course.specs.declared.checkpoints.Checkpoint.{Checkpoint}
 use Rattle.course.proofs.FloatOrder.{le-of-lt, is-so}
 use Rattle.course.proofs.Intervals.{In, Near, either, near-of-within, within-of-near, wider, add-in, sub-in}

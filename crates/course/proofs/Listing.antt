@@ -12,10 +12,10 @@ use lib.Seq.{getD-at}
 use lib.Ieee.{Float}
 use lib.Dec.{ltb}
 use borrow.Author.Tests.{le-ltb}
-use Rattle.course.specs.Lengths.{cellCount, offsetCount}
-use Rattle.course.specs.Index.{addIf, listed, partOk, lookup, offsetsOf, indexOf}
-use Rattle.course.specs.Rect.{holdsOf, needed}
-use Rattle.course.specs.IndexSteps.{Built}
+use Rattle.course.specs.Rules.Lengths.{cellCount, offsetCount}
+use Rattle.course.specs.Grader.Index.{addIf, listed, partOk, lookup, offsetsOf, indexOf}
+use Rattle.course.specs.Rules.Rect.{holdsOf, needed}
+use Rattle.course.specs.Steps.Index.{Built}
 use Rattle.course.proofs.IndexLaws.{order, listed-at, offset-at, index-length, part-laid, lookup-laid}
 
 -- what stands at k after one element more

@@ -3,12 +3,12 @@ use mathlib.Core.Path.{_≡_, refl}
 use Prim.Native.Nat.{_+_, ℕ}
 use lib.IntN.{pos}
 use lib.Ieee.{binary64, ofBits, ofInt, round, add, mul, div, neg, toUnsigned}
-use Rattle.course.specs.Arithmetic.{_⊗_, _⊘_, natural, decimal}
-use Rattle.course.specs.Constants.{scale, playfield, gridCell, gridDim, trackRad, trackDetailStep, trackWidth, border, trackTurnRate, pi, tau}
-use Rattle.course.specs.Curbs.{outerWidth}
-use Rattle.course.specs.Checkpoints.{farRad}
-use Rattle.course.specs.Step.{farAbove, farBelow}
-use Rattle.course.specs.Track.{startAlpha}
+use Rattle.course.specs.Rules.Arithmetic.{_⊗_, _⊘_, natural, decimal}
+use Rattle.course.specs.Rules.Constants.{scale, playfield, gridCell, gridDim, trackRad, trackDetailStep, trackWidth, border, trackTurnRate, pi, tau}
+use Rattle.course.specs.Grader.Curbs.{outerWidth}
+use Rattle.course.specs.Rules.Checkpoints.{farRad}
+use Rattle.course.specs.Rules.Step.{farAbove, farBelow}
+use Rattle.course.specs.Rules.Track.{startAlpha}
 
 pub width-bits : trackWidth ≡ ofBits binary64 0x401aaaaaaaaaaaab
 unfolding trackWidth scale natural ofInt ofBits div

@@ -13,7 +13,7 @@ use lib.Ieee.Back.{round-whole}
 use lib.Ieee.Order.{le-of-values}
 use lib.Ieee.Positive.{positive, positive-of-value, above-of-le, values-of-le}
 use borrow.Author.Tests.{le-leb, lt-leb, leb-true, leb-false}
-use Rattle.course.specs.Arithmetic.{natural}
+use Rattle.course.specs.Rules.Arithmetic.{natural}
 use Rattle.course.proofs.BoolLaws.{same-test}
 
 pub natural-val : (k : ℕ) → k ≤ 2 ^ 53 → HasValue (natural k) false k 1

@@ -12,7 +12,7 @@ use lib.Ieee.Digits.{back}
 use lib.Ieee.Fits.{down-pos, and-l, and-r, round-fits}
 use lib.Ieee.Exact.{HasValue, round-exact}
 use lib.Ieee.Scale.{round-same}
-use Rattle.course.specs.Nearest.{plain}
+use Rattle.course.specs.Laws.Nearest.{plain}
 use Rattle.course.proofs.RootLaw.{units-value, same-units}
 
 -- ---- in units of 2 ^ -1074, the smallest value above 0

@@ -6,12 +6,12 @@ use mathlib.Core.Logic.{_⊎_, inl, inr, ⊎-elim}
 use native.Mathlib.Nat.{add-zero, mul-suc, mul-zero, suc-mul, zero-mul, mul-le-mul, div-eq-of-lt, mod-eq-of-lt, mul-add-div-right, mul-add-mod-self-right}
 use native.Mathlib.Omega.{arith}
 use borrow.Author.Tests.{le-leb, lt-leb}
-use Rattle.course.specs.Lengths.{cellCount}
-use Rattle.course.specs.Constants.{gridDim}
+use Rattle.course.specs.Rules.Lengths.{cellCount}
+use Rattle.course.specs.Rules.Constants.{gridDim}
 use Rattle.course.specs.declared.index.Rect.{Rect}
-use Rattle.course.specs.Rect.{holds, areaOf}
-use Rattle.course.specs.IndexSteps.{Small}
-use Rattle.course.specs.Counting.{howMany}
+use Rattle.course.specs.Rules.Rect.{holds, areaOf}
+use Rattle.course.specs.Steps.Index.{Small}
+use Rattle.course.specs.Rules.Counting.{howMany}
 use Rattle.course.proofs.IndexLaws.{order, held-none, held-each}
 
 module _ (r : Rect) (c : ℕ) where

@@ -12,8 +12,8 @@ use lib.Ieee.Fits.{down-pos}
 use lib.Ieee.Bits.{ofBits-toBits, toBits-lt, nanBits-above, is-true, is-false, cond-no}
 use lib.Ieee.Compare.{nan-differs}
 use lib.Ieee.Exact.{HasValue, odd-sign}
-use Rattle.course.specs.Root.{nearestRoot, sqrtOf}
-use Rattle.course.specs.RootSteps.{unitsOf, Scaled}
+use Rattle.course.specs.Rules.Root.{nearestRoot, sqrtOf}
+use Rattle.course.specs.Steps.Root.{unitsOf, Scaled}
 
 -- ---- by the value
 zero-value : (e : ℕ) (a c u : ℕ) → 0 < a → 0 < e → zero * u * c ≡ a * e → ⊥

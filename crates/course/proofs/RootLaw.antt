@@ -13,16 +13,16 @@ use lib.Ieee.Fits.{down-pos, eq→eqb, nan-fits, inf-fits}
 use lib.Ieee.Bits.{ofBits-toBits}
 use lib.Ieee.Exact.{HasValue, units-val}
 use lib.Ieee.Positive.{positive, value-pos, values-of-le}
-use Rattle.course.specs.Root.{inUnits, wholeRoot, nearestRoot, sqrtOf}
-use Rattle.course.specs.Nearest.{plain, operand, halfway, Nearest}
-use Rattle.course.specs.RootSteps.{unitsOf, nearWhole}
+use Rattle.course.specs.Rules.Root.{inUnits, wholeRoot, nearestRoot, sqrtOf}
+use Rattle.course.specs.Laws.Nearest.{plain, operand, halfway, Nearest}
+use Rattle.course.specs.Steps.Root.{unitsOf, nearWhole}
 use Rattle.course.proofs.WholeRoot.{IsRoot, root-law, square-next, square-twice, square-digit, Cmp, cmp}
 use Rattle.course.proofs.RootScale.{nearWhole-is, scaled-root, near-high, near-low, in-range, units-fits, toBits-val, root-high, joined}
 use Rattle.course.proofs.RootFields.{fields-value, from-fields, at-ones, sqrt-value}
 
 -- no other f64 is as near
 pub record Strict (x r : Float) : Type 0 where
-  pub holds : T (fits binary64 r)
+  pub representable : T (fits binary64 r)
   pub finite : T (plain r)
   pub above : (y : Float) → T (fits binary64 y) → T (plain y) → inUnits r < inUnits y → operand x < halfway r y
   pub below : (y : Float) → T (fits binary64 y) → T (plain y) → inUnits y < inUnits r → halfway r y < operand x
@@ -268,7 +268,7 @@ swap-square a b c d p q = cc
 
 strict-units : (x r : Float) (X K : ℕ) → 2 ^ 104 ≤ X → X < 2 ^ 106 → inUnits x * 2 ^ 1074 ≡ X * (2 ^ K * 2 ^ K) → inUnits r ≡ nearWhole X * 2 ^ K → T (fits binary64 r) → T (plain r) → Strict x r
 strict-units x r X K lo hi ex er F p = record {
-  holds = F;
+  representable = F;
   finite = p;
   above = λ y G g h.
       let w = written y G g in
@@ -322,7 +322,7 @@ apart a b n = go (ltb a b) (ltb→lt a b) (nltb→le a b)
 
 of-strict : (x r : Float) → Strict x r → Nearest x r
 of-strict x r s = record {
-  holds = s .holds;
+  representable = s .representable;
   finite = s .finite;
   above = λ y F p h. le-of-lt (s .above y F p h);
   below = λ y F p h. le-of-lt (s .below y F p h);
@@ -358,10 +358,10 @@ nearest-unique x r F p n =
     go s (eqb (inUnits r) (inUnits q)) (eqb→eq (inUnits r) (inUnits q)) (λ k e. T-not (eqb (inUnits r) (inUnits q)) k (eq→eqb e))
   where
     go : Strict x (sqrtOf x) → (c : Bool) → (T c → inUnits r ≡ inUnits (sqrtOf x)) → (T (not c) → inUnits r ≡ inUnits (sqrtOf x) → ⊥) → r ≡ sqrtOf x
-    go s true e k = same-units r (sqrtOf x) (n .holds) (n .finite) (s .holds) (s .finite) (e tt)
+    go s true e k = same-units r (sqrtOf x) (n .representable) (n .finite) (s .representable) (s .finite) (e tt)
     go s false e k = elim (apart (inUnits r) (inUnits (sqrtOf x)) (k tt)) [
-      | inl h ↦ absurd (lt-irrefl (operand x) (lt-of-le-of-lt (n .above (sqrtOf x) (s .holds) (s .finite) h) (lt-of-le-of-lt (le-of-eq (around r (sqrtOf x))) (s .below r (n .holds) (n .finite) h))))
-      | inr h ↦ absurd (lt-irrefl (operand x) (lt-of-lt-of-le (s .above r (n .holds) (n .finite) h) (le-trans (le-of-eq (around (sqrtOf x) r)) (n .below (sqrtOf x) (s .holds) (s .finite) h))))
+      | inl h ↦ absurd (lt-irrefl (operand x) (lt-of-le-of-lt (n .above (sqrtOf x) (s .representable) (s .finite) h) (lt-of-le-of-lt (le-of-eq (around r (sqrtOf x))) (s .below r (n .representable) (n .finite) h))))
+      | inr h ↦ absurd (lt-irrefl (operand x) (lt-of-lt-of-le (s .above r (n .representable) (n .finite) h) (le-trans (le-of-eq (around (sqrtOf x) r)) (n .below (sqrtOf x) (s .representable) (s .finite) h))))
     ]
 
 -- the root of an f64 is an f64
@@ -372,7 +372,7 @@ sqrt-fits (inf true) F = nan-fits binary64
 sqrt-fits (inf false) F = inf-fits binary64 false
 sqrt-fits (fin s zero e) F = F
 sqrt-fits (fin true (suc m) e) F = nan-fits binary64
-sqrt-fits (fin false (suc m) e) F = sqrt-strict (fin false (suc m) e) F (lt→ltb 0 (suc m) (zero-lt-suc m)) .holds
+sqrt-fits (fin false (suc m) e) F = sqrt-strict (fin false (suc m) e) F (lt→ltb 0 (suc m) (zero-lt-suc m)) .representable
 
 -- ---- a bound of the root by a square, with no root taken
 cross-lt : (A d u B g v P : ℕ) → A * P ≡ u * d → B * P ≡ v * g → A * g < B * d → 0 < P → u < v
@@ -402,7 +402,7 @@ no-root-above : (x y : Float) → T (fits binary64 x) → T (positive x) → T (
 no-root-above x y F p G q h t =
     let s = sqrt-strict x F p in
     let r = sqrtOf x in
-    let l : inUnits y < inUnits r = lt-units y r G q (s .holds) (s .finite) t in
+    let l : inUnits y < inUnits r = lt-units y r G q (s .representable) (s .finite) t in
     clash (inUnits x * 2 ^ 1074) (inUnits y) (inUnits r) l (s .below y G q l) h
   where
     more : (Y R : ℕ) → Y < R → 2 * Y < R + Y

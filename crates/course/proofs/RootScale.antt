@@ -14,8 +14,8 @@ use lib.Ieee.Fits.{odd-fits, down-pos, nearest-le}
 use lib.Ieee.Nearest.{nearest-ge}
 use lib.Ieee.Bits.{ofBits-toBits}
 use lib.Ieee.Exact.{HasValue, units-val}
-use Rattle.course.specs.Root.{wholeRoot, nearestRoot}
-use Rattle.course.specs.RootSteps.{Leaves, nearWhole}
+use Rattle.course.specs.Rules.Root.{wholeRoot, nearestRoot}
+use Rattle.course.specs.Steps.Root.{Leaves, nearWhole}
 use Rattle.course.proofs.WholeRoot.{root-law, root-below, root-from, leaves-root, near-half, Cmp, cmp, compare-is}
 
 -- ---- how many digits

@@ -9,8 +9,8 @@ use lib.Dec.{T, ltb, ltb→lt, nltb→le}
 use lib.Ieee.{Float, nan, inf, fin, binary64, up, down, neg, le, round, sum, add}
 use lib.Ieee.Order.{round-mono}
 use lib.Ieee.Scale.{finite}
-use Rattle.course.specs.Arithmetic.{_⊕_}
-use Rattle.course.specs.Steps.{Bounded}
+use Rattle.course.specs.Rules.Arithmetic.{_⊕_}
+use Rattle.course.specs.Steps.Numbers.{Bounded}
 use Rattle.course.proofs.Bounds.{plain, plain-round, neg-round, round-bounded}
 use Rattle.course.proofs.FloatOrder.{says, above, under, over, over-pos, Ordered, part, part′, scaled, is-so, under-of-le}
 

@@ -7,12 +7,12 @@ use mathlib.Core.Logic.{_⊎_, inl, inr, ⊎-elim}
 use native.Mathlib.Omega.{arith}
 use lib.ListN.{length, getD}
 use Rattle.course.specs.declared.index.Rect.{Rect}
-use Rattle.course.specs.Rect.{holds}
-use Rattle.course.specs.Constants.{gridDim}
-use Rattle.course.specs.Lengths.{offsetCount}
-use Rattle.course.specs.IndexSteps.{Small}
-use Rattle.course.specs.Counting.{digit}
-use Rattle.course.specs.IndexSteps.{Inside, RunCounted, RectCounted, RunPlaced, RectPlaced}
+use Rattle.course.specs.Rules.Rect.{holds}
+use Rattle.course.specs.Rules.Constants.{gridDim}
+use Rattle.course.specs.Rules.Lengths.{offsetCount}
+use Rattle.course.specs.Steps.Index.{Small}
+use Rattle.course.specs.Rules.Counting.{digit}
+use Rattle.course.specs.Steps.Index.{Inside, RunCounted, RectCounted, RunPlaced, RectPlaced}
 use Rattle.course.proofs.IndexLaws.{order}
 use Rattle.course.proofs.Rects.{holds-in, out-row, out-column}
 

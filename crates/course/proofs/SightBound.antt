@@ -6,11 +6,11 @@ use mathlib.Core.Bool.{Bool, true, false, cond, false≢true}
 use mathlib.Core.List.{List, [], _∷_}
 use lib.ListN.{drop}
 use lib.Ieee.{Float, nan, neg, lt, le, round, ofInt, ofBits, add, sub}
-use Rattle.course.specs.Arithmetic.{_⊕_, _⊖_, natural, decimal, nought}
-use Rattle.course.specs.Constants.{tau}
-use Rattle.course.specs.Trig.{atan2Of}
-use Rattle.course.specs.Finder.{Destination, Going, NotFound, scan, searched, destOf}
-use Rattle.course.specs.Step.{Walk, sightOf}
+use Rattle.course.specs.Rules.Arithmetic.{_⊕_, _⊖_, natural, decimal, nought}
+use Rattle.course.specs.Rules.Constants.{tau}
+use Rattle.course.specs.Rules.Trig.{atan2Of}
+use Rattle.course.specs.Rules.Finder.{Destination, Going, NotFound, scan, searched, destOf}
+use Rattle.course.specs.Rules.Step.{Walk, sightOf}
 use Rattle.course.specs.declared.checkpoints.Checkpoint.{Checkpoint}
 use Rattle.course.proofs.Intervals.{In, Near, wider, add-in, sub-in, below-in, not-below-in}
 use Rattle.course.proofs.AngleBound.{atan2-near}

@@ -11,8 +11,8 @@ use lib.Ieee.{Float, nan, inf, fin, fits, isNan, ne, eq, lt, le, add, sum, sub, 
 use lib.Ieee.Compare.{differs-from-itself, nan-differs}
 use lib.Ieee.Fits.{up-pos, and-l}
 use borrow.Author.Tests.{ltb-true, ltb-false, eq-eqb, eqb-true}
-use Rattle.course.specs.Arithmetic.{natural}
-use Rattle.course.specs.Numeric.{signumOf, absOf}
+use Rattle.course.specs.Rules.Arithmetic.{natural}
+use Rattle.course.specs.Rules.Numeric.{signumOf, absOf}
 use Rattle.course.proofs.BoolLaws.{same-test, or-no, or-other}
 use Rattle.course.proofs.Bounds.{plain, plain-round, neg-round}
 use Rattle.course.proofs.OwnValue.{own-value}

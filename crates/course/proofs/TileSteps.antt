@@ -9,11 +9,11 @@ use native.Mathlib.Numerals.{add-one}
 use lib.ListN.{length, getD}
 use lib.Seq.{ext-getD, take-all}
 use Rattle.course.specs.declared.index.Rect.{Rect}
-use Rattle.course.specs.Index.{listed, start, indexOf, offsetsOf}
-use Rattle.course.specs.Rect.{holds}
-use Rattle.course.specs.Lengths.{cellCount, offsetCount}
-use Rattle.course.specs.IndexSteps.{RectCounted, Counts, RectPlaced, Placed, Summed, sumBelow}
-use Rattle.course.specs.Counting.{digit}
+use Rattle.course.specs.Grader.Index.{listed, start, indexOf, offsetsOf}
+use Rattle.course.specs.Rules.Rect.{holds}
+use Rattle.course.specs.Rules.Lengths.{cellCount, offsetCount}
+use Rattle.course.specs.Steps.Index.{RectCounted, Counts, RectPlaced, Placed, Summed, sumBelow}
+use Rattle.course.specs.Rules.Counting.{digit}
 use Rattle.course.proofs.BoolLaws.{bool}
 use Rattle.course.proofs.IndexLaws.{order, listed-none, listed-more, listed-at, listed-le, listed-small, start-apart, start-more, start-none, index-is, table-length, table-at}
 use Rattle.course.proofs.CellRuns.{same?, sum-more, sum-none}

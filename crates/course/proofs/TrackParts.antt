@@ -13,10 +13,10 @@ use lib.Seq.{getD-take, getD-drop, length-take-le}
 use mir.Val.{Fits}
 use mir.Syntax.{w64}
 use lib.Ieee.{Float, nan}
-use Rattle.course.specs.Lengths.{stepLimit}
-use Rattle.course.specs.Track.{passesAt, lastPass, stepAlphas, gluedOf, wellGlued, laterPass, earlierPass, betweenPasses, trackOf}
-use Rattle.course.specs.LaySteps.{Before, Front, Cut}
-use Rattle.course.specs.Step.{TrackStep}
+use Rattle.course.specs.Rules.Lengths.{stepLimit}
+use Rattle.course.specs.Rules.Track.{passesAt, lastPass, stepAlphas, gluedOf, wellGlued, laterPass, earlierPass, betweenPasses, trackOf}
+use Rattle.course.specs.Steps.Lay.{Before, Front, Cut}
+use Rattle.course.specs.Rules.Step.{TrackStep}
 
 cond-same : {A : Type 0} (b : Bool) (x : A) → cond b x x ≡ x
 cond-same true x = refl

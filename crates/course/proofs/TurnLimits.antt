@@ -5,9 +5,9 @@ use Prim.Native.Nat.{ℕ, zero, suc}
 use mathlib.Core.Bool.{Bool, true, false, _&&_, true≢false}
 use lib.Dec.{T}
 use lib.Ieee.{Float, neg, lt, le, round, ofInt, add, sub, mul}
-use Rattle.course.specs.Arithmetic.{_⊕_, _⊖_, natural, decimal}
-use Rattle.course.specs.Constants.{pi, tau}
-use Rattle.course.specs.Step.{Turned, To, TooFar, farAbove, farBelow, turnDown, turnUp, thenUp, turnOf}
+use Rattle.course.specs.Rules.Arithmetic.{_⊕_, _⊖_, natural, decimal}
+use Rattle.course.specs.Rules.Constants.{pi, tau}
+use Rattle.course.specs.Rules.Step.{Turned, To, TooFar, farAbove, farBelow, turnDown, turnUp, thenUp, turnOf}
 use Rattle.course.proofs.Intervals.{In, Near, finites, finites3, wider, add-in, sub-in, split-in, not-above, not-below, not-beyond, not-short}
 
 -- bounds in tenths, and below 0

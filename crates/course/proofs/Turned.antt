@@ -3,8 +3,8 @@ use mathlib.Core.Path.{_≡_, refl, sym, ap, _∙_, subst}
 use Prim.Native.Nat.{ℕ, zero, suc}
 use lib.IntN.{ℤ}
 use lib.Ieee.{Float, neg, ofInt, binary64}
-use Rattle.course.specs.Trig.{SinCos, quarterOf, turnsOf, restOf, sinePoly, cosinePoly, cosineOf, sineOf, sinCosOf, pick}
-use Rattle.course.specs.Steps.{turnsAt, sinCosAs}
+use Rattle.course.specs.Rules.Trig.{SinCos, quarterOf, turnsOf, restOf, sinePoly, cosinePoly, cosineOf, sineOf, sinCosOf, pick}
+use Rattle.course.specs.Steps.Numbers.{turnsAt, sinCosAs}
 use Rattle.course.specs.declared.trig.Turns.{Turns}
 use Rattle.course.specs.declared.trig.SinCos.{SinCos as CodeSinCos}
 

@@ -5,8 +5,8 @@ use mathlib.Core.Path.{_≡_, refl, sym, ap, _∙_}
 use mathlib.Core.Bool.{true, false}
 use lib.Ieee as Ieee
 use lib.Ieee.{Float, binary64, ofBits}
-use Rattle.course.specs.Arithmetic.{_⊕_, _⊖_}
-use Rattle.course.specs.Step.{To, TooFar, turnDown, turnUp}
+use Rattle.course.specs.Rules.Arithmetic.{_⊕_, _⊖_}
+use Rattle.course.specs.Rules.Step.{To, TooFar, turnDown, turnUp}
 use Rattle.course.proofs.Literals.{tau-bits, far-above-bits, far-below-bits}
 
 abbrev pub tauB : Float

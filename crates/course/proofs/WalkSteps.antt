@@ -7,15 +7,15 @@ use mathlib.Core.List.{List, [], _∷_, _++_, map, map-append, append-assoc, app
 use borrow.Author.Tests.{lt-ltb, le-ltb}
 use lib.ListN.{length, drop, set, length-map}
 use lib.Ieee.{Float}
-use Rattle.course.specs.Lengths.{stepLimit}
-use Rattle.course.specs.Arithmetic.{natural}
-use Rattle.course.specs.Numeric.{within}
-use Rattle.course.specs.Trig.{SinCos}
-use Rattle.course.specs.Finder.{Destination, Going, NotFound, destOf}
-use Rattle.course.specs.Step.{Walk, TrackStep, Stepped, On, Refused, Sight, Turned, To, TooFar, sightOf, turnOf, landedOf, thenLanded, movedOf, thenMoved, stepOf}
-use Rattle.course.specs.Track.{stepAlphas, stepBetas, stepXs, stepYs}
-use Rattle.course.specs.Walk.{Trail, follow, onward, walkFrom, walkStart, walkOf}
-use Rattle.course.specs.LaySteps.{Trod}
+use Rattle.course.specs.Rules.Lengths.{stepLimit}
+use Rattle.course.specs.Rules.Arithmetic.{natural}
+use Rattle.course.specs.Rules.Numeric.{within}
+use Rattle.course.specs.Rules.Trig.{SinCos}
+use Rattle.course.specs.Rules.Finder.{Destination, Going, NotFound, destOf}
+use Rattle.course.specs.Rules.Step.{Walk, TrackStep, Stepped, On, Refused, Sight, Turned, To, TooFar, sightOf, turnOf, landedOf, thenLanded, movedOf, thenMoved, stepOf}
+use Rattle.course.specs.Rules.Track.{stepAlphas, stepBetas, stepXs, stepYs}
+use Rattle.course.specs.Rules.Walk.{Trail, follow, onward, walkFrom, walkStart, walkOf}
+use Rattle.course.specs.Steps.Lay.{Trod}
 use Rattle.course.specs.declared.checkpoints.Checkpoint.{Checkpoint}
 use Rattle.course.proofs.FinderSteps.{In, dest-in}
 use Rattle.course.proofs.ColumnLaws.{Grown, grown-none, grown-more}

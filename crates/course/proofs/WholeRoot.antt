@@ -8,8 +8,8 @@ use lib.Dec.{T, leb, leb→le, nleb→lt, isLe, isEq, eqb, eqb→eq, eqb-refl}
 use lib.Arith.{lt-of-le-ne}
 use lib.Ieee.{size, nearest}
 use lib.Ieee.Digits.{size-lt}
-use Rattle.course.specs.RootSteps.{Leaves, nearWhole}
-use Rattle.course.specs.Root.{further, rootIn, wholeRoot}
+use Rattle.course.specs.Steps.Root.{Leaves, nearWhole}
+use Rattle.course.specs.Rules.Root.{further, rootIn, wholeRoot}
 
 -- w is the whole part of the root of n
 pub record IsRoot (n w : ℕ) : Type 0 where

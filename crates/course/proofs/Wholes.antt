@@ -7,8 +7,8 @@ use lib.Dec.{lit≤}
 use lib.IntN.{pos}
 use lib.Ieee.{Float, binary64, le, ofInt, toUnsigned}
 use borrow.Author.Tests.{leb-true, leb-false}
-use Rattle.course.specs.Arithmetic.{natural}
-use Rattle.course.specs.Steps.{wholeAt}
+use Rattle.course.specs.Rules.Arithmetic.{natural}
+use Rattle.course.specs.Steps.Numbers.{wholeAt}
 use Rattle.course.specs.declared.trig.Whole.{Whole}
 use Rattle.course.proofs.Naturals.{natural-le}
 

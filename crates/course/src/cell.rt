@@ -1,6 +1,6 @@
 // The cells of the grid (document 01, "Tiles and index").
 ghost use mathlib.Core.Path.{_≡_};
-ghost use Rattle.course.specs.Cell.{cellOf, cellAt};
+ghost use Rattle.course.specs.Rules.Cell.{cellOf, cellAt};
 use crate::constants::GRID_CELL;
 use crate::constants::GRID_DIM;
 use crate::constants::PLAYFIELD;

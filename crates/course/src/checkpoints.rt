@@ -1,7 +1,7 @@
 // The twelve checkpoints of an attempt (document 01, "Lay": `try_generate`), from 24 draws.
 ghost use mathlib.Core.Path.{_≡_};
-ghost use Rattle.course.specs.Checkpoints.{spotOf, checkpointOf};
-ghost use Rattle.course.specs.LaySteps.{drawnOf};
+ghost use Rattle.course.specs.Rules.Checkpoints.{spotOf, checkpointOf};
+ghost use Rattle.course.specs.Steps.Lay.{drawnOf};
 use crate::constants::FAR_RAD;
 use crate::constants::TAU;
 use crate::constants::TRACK_RAD;

@@ -3,7 +3,7 @@ ghost use mathlib.Core.Path.{_≡_};
 ghost use mathlib.Core.List.{_++_};
 ghost use Prim.Native.Nat.{_+_, _-_, _<_, _≤_};
 ghost use lib.ListN.{length, take, drop, replicate};
-ghost use Rattle.course.specs.Arithmetic.{nought};
+ghost use Rattle.course.specs.Rules.Arithmetic.{nought};
 
 // The first n entries of `from` go to the front of the column.
 pub(crate) fn copy_front(from: &[f64], n: usize, col: &mut [f64])

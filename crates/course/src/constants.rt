@@ -1,7 +1,7 @@
 // The constants of the reference's track.rs, as its expressions, and the lengths of lent columns.
 ghost use mathlib.Core.Path.{_≡_};
 ghost use Prim.Native.Nat.{_≤_};
-ghost use Rattle.course.specs.Lengths.{mostPoints, columnLength};
+ghost use Rattle.course.specs.Rules.Lengths.{mostPoints, columnLength};
 
 pub const SCALE: f64 = 6.0;
 

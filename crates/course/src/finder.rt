@@ -3,8 +3,8 @@
 ghost use mathlib.Core.Path.{_≡_};
 ghost use Prim.Native.Nat.{_<_};
 ghost use lib.ListN.{getD};
-ghost use Rattle.course.specs.Finder.{destOf};
-ghost use Rattle.course.specs.LaySteps.{noCheckpoint, foundAs, destAs};
+ghost use Rattle.course.specs.Rules.Finder.{destOf};
+ghost use Rattle.course.specs.Steps.Lay.{noCheckpoint, foundAs, destAs};
 use crate::checkpoints::Checkpoint;
 use crate::constants::TAU;
 

@@ -2,7 +2,7 @@
 ghost use mathlib.Core.Path.{_≡_};
 ghost use mathlib.Core.Bool.{false};
 ghost use lib.Ieee.{isNan};
-ghost use Rattle.course.specs.Numeric.{absOf, minOf, maxOf, leastOf, greatestOf, clampOf, signumOf, within};
+ghost use Rattle.course.specs.Rules.Numeric.{absOf, minOf, maxOf, leastOf, greatestOf, clampOf, signumOf, within};
 use crate::constants::MAX;
 use crate::constants::MIN;
 

@@ -3,9 +3,9 @@
 ghost use mathlib.Core.Path.{_≡_};
 ghost use mathlib.Core.Bool.{true};
 ghost use Prim.Native.Nat.{_+_, _*_, _/_, _%_, _^_, _<_, _≤_};
-ghost use Rattle.course.specs.Root.{nearestRoot, sqrtOf};
+ghost use Rattle.course.specs.Rules.Root.{nearestRoot, sqrtOf};
 ghost use lib.Ieee.{binary64, ofBits};
-ghost use Rattle.course.specs.RootSteps.{unitsOf, significand, power, Scaled, Leaves};
+ghost use Rattle.course.specs.Steps.Root.{unitsOf, significand, power, Scaled, Leaves};
 
 // The weight of a significand's leading digit, and so of the exponent's field; and that of the sign.
 const LEAD: u64 = 0x10_0000_0000_0000;

@@ -2,10 +2,10 @@
 ghost use mathlib.Core.Path.{_≡_};
 ghost use Prim.Native.Nat.{_≤_, _<_};
 ghost use lib.ListN.{getD};
-ghost use Rattle.course.specs.Trig.{turnsOf, sinCosOf};
-ghost use Rattle.course.specs.Steps.{turnsAt, sinCosAs};
-ghost use Rattle.course.specs.Step.{walkLap, lapsOf, sightOf, turnDown, turnUp, turnOf, steered, projOf, landedOf, movedOf, stepOf};
-ghost use Rattle.course.specs.LaySteps.{noCheckpoint, walkAs, steppedAs, sightAs, turnedAs};
+ghost use Rattle.course.specs.Rules.Trig.{turnsOf, sinCosOf};
+ghost use Rattle.course.specs.Steps.Numbers.{turnsAt, sinCosAs};
+ghost use Rattle.course.specs.Rules.Step.{walkLap, lapsOf, sightOf, turnDown, turnUp, turnOf, steered, projOf, landedOf, movedOf, stepOf};
+ghost use Rattle.course.specs.Steps.Lay.{noCheckpoint, walkAs, steppedAs, sightAs, turnedAs};
 use crate::checkpoints::Checkpoint;
 use crate::constants::PI;
 use crate::constants::SCALE;

@@ -4,8 +4,8 @@ ghost use mathlib.Core.List.{_++_};
 ghost use Prim.Native.Nat.{_+_, _*_, _-_, _<_, _≤_};
 ghost use lib.ListN.{length, getD, take, drop, set};
 ghost use lib.Ieee.{nan};
-ghost use Rattle.course.specs.Tiles.{pointAt, pointsOf, beforeOf, eight, tilesTo};
-ghost use Rattle.course.specs.CourseSteps.{puts, edgesAt, quadBetween};
+ghost use Rattle.course.specs.Rules.Tiles.{pointAt, pointsOf, beforeOf, eight, tilesTo};
+ghost use Rattle.course.specs.Steps.Tiles.{puts, edgesAt, quadBetween};
 use crate::constants::TRACK_WIDTH;
 use crate::trig;
 

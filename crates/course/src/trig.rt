@@ -6,9 +6,9 @@ ghost use Prim.Native.Nat.{_^_};
 ghost use lib.Dec.{T};
 ghost use lib.IntN.{pos};
 ghost use lib.Ieee.{fin, lt, toUnsigned};
-ghost use Rattle.course.specs.Trig.{sinePoly, cosinePoly, atanPoly, floor, wholeBelow, turnsOf, sinCosOf, arc, arcOf, ratioOf, steepOf, leftward, downward, directionOf, atan2Of};
-ghost use Rattle.course.specs.Angle.{sineCall, cosineCall, atan2Call};
-ghost use Rattle.course.specs.Steps.{Bounded, wholeAt, turnsAt, OfAngle, sinCosAs};
+ghost use Rattle.course.specs.Rules.Trig.{sinePoly, cosinePoly, atanPoly, floor, wholeBelow, turnsOf, sinCosOf, arc, arcOf, ratioOf, steepOf, leftward, downward, directionOf, atan2Of};
+ghost use Rattle.course.specs.Grader.Angle.{sineCall, cosineCall, atan2Call};
+ghost use Rattle.course.specs.Steps.Numbers.{Bounded, wholeAt, turnsAt, OfAngle, sinCosAs};
 use crate::constants::HALF_PI;
 use crate::numeric;
 

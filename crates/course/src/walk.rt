@@ -2,9 +2,9 @@
 ghost use mathlib.Core.Path.{_≡_};
 ghost use Prim.Native.Nat.{_≤_};
 ghost use lib.ListN.{length};
-ghost use Rattle.course.specs.Lengths.{stepLimit};
-ghost use Rattle.course.specs.Walk.{walkStart};
-ghost use Rattle.course.specs.LaySteps.{walkAs, Trod};
+ghost use Rattle.course.specs.Rules.Lengths.{stepLimit};
+ghost use Rattle.course.specs.Rules.Walk.{walkStart};
+ghost use Rattle.course.specs.Steps.Lay.{walkAs, Trod};
 use crate::checkpoints::Checkpoint;
 use crate::constants::FAR_RAD;
 use crate::constants::STEP_LIMIT;

@@ -13,7 +13,7 @@ use lib.Ieee.{Float, binary64, fits, toBits, ofBits}
 use lib.Ieee.Bits.{ofBits-toBits, toBits-lt}
 use borrow.Author.Tests.{le-leb, lt-leb}
 use Rattle.form.proofs.Filling.{Filling, part-on, part-length}
-use Rattle.form.specs.Bytes.{low, number, allZero, eachBytes, eachFrom, wordBytes, wordsFrom, floatBytes, floatsFrom, Leaves, leaves, store, fillEach}
+use Rattle.form.specs.Rules.Bytes.{low, number, allZero, eachBytes, eachFrom, wordBytes, wordsFrom, floatBytes, floatsFrom, Leaves, leaves, store, fillEach}
 
 -- ---- numbers
 pub low-length : (k v : ℕ) → length (low k v) ≡ k

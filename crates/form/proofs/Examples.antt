@@ -4,9 +4,9 @@ use mathlib.Core.List.{List, [], _∷_}
 use mathlib.Core.Path.{_≡_, refl}
 use Prim.Native.Nat.{ℕ}
 use lib.Ieee.{nan, toBits, ofBits}
-use Rattle.form.specs.Bytes.{low, number, allZero, eachBytes, eachFrom, floatBytes, floatsFrom}
-use Rattle.form.specs.Form.{Row, rowsOf, mapOf, standing, packed, mayStand, parse, mapIn, parsed}
-use Rattle.form.specs.Form.Parsed.{fields, broken}
+use Rattle.form.specs.Rules.Bytes.{low, number, allZero, eachBytes, eachFrom, floatBytes, floatsFrom}
+use Rattle.form.specs.Rules.Form.{Row, rowsOf, mapOf, standing, packed, mayStand, parse, mapIn, parsed}
+use Rattle.form.specs.Rules.Form.Parsed.{fields, broken}
 
 -- NaN has one pattern when it is written; read, the one above infinity is as good
 nan-written : floatBytes (nan ∷ []) ≡ 0 ∷ 0 ∷ 0 ∷ 0 ∷ 0 ∷ 0 ∷ 248 ∷ 127 ∷ []

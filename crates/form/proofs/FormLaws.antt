@@ -10,9 +10,9 @@ use lib.ListN.{length, getD, take, drop, replicate, length-append, take-append-d
 use lib.Seq.{take-at, drop-at, length-take-le}
 use borrow.Author.Tests.{le-leb, ne-eqb, eqb-true}
 use Rattle.form.proofs.ReadLaws.{stand-within}
-use Rattle.form.specs.Bytes.{allZero}
-use Rattle.form.specs.Form.{Row, odd, standing, Parsed, before, mayStand, parse, read}
-use Rattle.form.specs.Form.Parsed.{fields, broken}
+use Rattle.form.specs.Rules.Bytes.{allZero}
+use Rattle.form.specs.Rules.Form.{Row, odd, standing, Parsed, before, mayStand, parse, read}
+use Rattle.form.specs.Rules.Form.Parsed.{fields, broken}
 
 -- ---- a map fits the fields of a table: what stands may stand, what does not is zeros, and no bit is past the last field
 pub data Fits : List Row → ℕ → List (List ℕ) → Type 0 where

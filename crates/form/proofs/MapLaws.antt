@@ -12,9 +12,9 @@ use borrow.Author.Tests.{le-leb, eqb-true}
 use Rattle.form.proofs.ByteLaws.{Bytes, low-length, number-back, bytes-back}
 use Rattle.form.proofs.ReadLaws.{parsed-long}
 use Rattle.form.proofs.FormLaws.{Fits, none, shown, hidden, parse-back, fits-small, stands, parse-only}
-use Rattle.form.specs.Bytes.{low, number, allZero}
-use Rattle.form.specs.Form.{Row, rowsOf, sum, cut, joined, mostRows, odd, bit, mapOf, standing, packed, Parsed, parse, mapIn, parsed, read, readFields, unpackInto}
-use Rattle.form.specs.Form.Parsed.{fields}
+use Rattle.form.specs.Rules.Bytes.{low, number, allZero}
+use Rattle.form.specs.Rules.Form.{Row, rowsOf, sum, cut, joined, mostRows, odd, bit, mapOf, standing, packed, Parsed, parse, mapIn, parsed, read, readFields, unpackInto}
+use Rattle.form.specs.Rules.Form.Parsed.{fields}
 
 -- ---- the map's bits
 low-bit : (b : Bool) (m : ℕ) → odd (bit b + 2 * m) ≡ b

@@ -10,10 +10,10 @@ use lib.Dec.{leb, eqb}
 use borrow.Author.Tests.{le-leb, lt-leb, leb-true, lt-ltb, le-ltb, eq-eqb, ne-eqb}
 use Rattle.form.proofs.Filling.{Filling, part-on, part-length}
 use Rattle.form.proofs.TableLaws.{row-at, sum-at}
-use Rattle.form.specs.Bytes.{allZero}
-use Rattle.form.specs.Form.{Row, rowsOf, sum, joined, odd, mayStand, Parsed, before, parse, mapIn, parsed, read, readFields, unpackInto}
-use Rattle.form.specs.Form.Parsed.{fields, broken}
-use Rattle.form.specs.FormSteps.{rowOf, fieldStep, whole, standingSum, fieldsIn}
+use Rattle.form.specs.Rules.Bytes.{allZero}
+use Rattle.form.specs.Rules.Form.{Row, rowsOf, sum, joined, odd, mayStand, Parsed, before, parse, mapIn, parsed, read, readFields, unpackInto}
+use Rattle.form.specs.Rules.Form.Parsed.{fields, broken}
+use Rattle.form.specs.Steps.Form.{rowOf, fieldStep, whole, standingSum, fieldsIn}
 use Rattle.form.specs.declared.unpack.Step.{Step}
 
 -- ---- whether a field may stand

@@ -12,8 +12,8 @@ use lib.Dec.{leb}
 use borrow.Author.Tests.{le-leb, lt-leb}
 use Rattle.form.proofs.ByteLaws.{low-length, store-room}
 use Rattle.form.proofs.Filling.{Filling, begins, goes-on, ends, part-on, part-least, past-least}
-use Rattle.form.specs.Bytes.{low, allZero, Leaves, leaves, store}
-use Rattle.form.specs.Form.{sum, cut, odd, bit, mapOf, standing, packed, wrote, packInto}
+use Rattle.form.specs.Rules.Bytes.{low, allZero, Leaves, leaves, store}
+use Rattle.form.specs.Rules.Form.{sum, cut, odd, bit, mapOf, standing, packed, wrote, packInto}
 
 pub row-at : (ws : List ℕ) (k : ℕ) → k < length ws → drop k ws ≡ getD ws k 0 ∷ drop (k + 1) ws
 row-at ws k h = drop-cons ws k 0 h ∙ ap (λ (j : ℕ). getD ws k 0 ∷ drop j ws) (sym (add-one k))

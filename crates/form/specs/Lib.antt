@@ -1,9 +1,5 @@
--- Definitions in the order in which to read them: the saved form of a table of fields.
-
--- numbers, words and floats as bytes, and back
-pub mod Bytes
--- the map, the table of rows, what is written and what is read
-pub mod Form
--- ---- for private functions alone: no public contract reaches these
--- of reading
-pub mod FormSteps
+-- The definitions of the saved form, room by room. Each room's own file lists what is in it, a line for each file, in the order in which to read them.
+-- what the documents say, without a word of the grader's: for every reader
+pub mod Rules
+-- for private functions alone: no public contract reaches these
+pub mod Steps

@@ -1,7 +1,7 @@
 // Floats as bytes: their IEEE bits, the low byte first, with one pattern for every NaN.
 ghost use mathlib.Core.Path.{_≡_};
 ghost use lib.Ieee.{binary64, toBits, ofBits};
-ghost use Rattle.form.specs.Bytes.{floatBytes, leaves, store, fillFloats};
+ghost use Rattle.form.specs.Rules.Bytes.{floatBytes, leaves, store, fillFloats};
 use crate::number;
 
 // The bits of a float; `to_bits` is left open at NaN.

@@ -2,7 +2,7 @@
 ghost use mathlib.Core.Path.{_≡_};
 ghost use Prim.Native.Nat.{_^_, _≤_, _<_, min};
 ghost use lib.ListN.{length, take, drop};
-ghost use Rattle.form.specs.Bytes.{low, number, allZero, wordBytes, leaves, store, fillWords};
+ghost use Rattle.form.specs.Rules.Bytes.{low, number, allZero, wordBytes, leaves, store, fillWords};
 
 // The smaller of two.
 pub(crate) fn least(a: usize, b: usize) -> usize

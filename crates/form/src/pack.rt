@@ -5,7 +5,7 @@ ghost use mathlib.Core.List.{[]};
 ghost use Prim.Native.Nat.{_+_, _≤_};
 ghost use lib.ListN.{length};
 ghost use lib.Seq.{sets};
-ghost use Rattle.form.specs.Form.{cut, standing, packed, wrote, packInto};
+ghost use Rattle.form.specs.Rules.Form.{cut, standing, packed, wrote, packInto};
 use crate::number;
 use crate::table;
 

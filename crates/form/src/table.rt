@@ -5,7 +5,7 @@ ghost use mathlib.Core.Bool.{not};
 ghost use Prim.Native.Nat.{_+_, _*_, _-_, _≤_, min};
 ghost use lib.Dec.{leb};
 ghost use lib.ListN.{length, take};
-ghost use Rattle.form.specs.Form.{sum, cut, bit, mapOf, mostRows};
+ghost use Rattle.form.specs.Rules.Form.{sum, cut, bit, mapOf, mostRows};
 use crate::number;
 
 // As many fields as a map of two bytes has bits.

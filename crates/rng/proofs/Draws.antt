@@ -14,8 +14,8 @@ use lib.Ieee.Exact.{HasValue}
 use Rattle.rng.specs.declared.SplitMix64.{SplitMix64}
 use Rattle.rng.specs.declared.Draw.{Draw}
 use Rattle.rng.specs.declared.UnitDraw.{UnitDraw}
-use Rattle.rng.specs.SplitMix.{gamma, xorShift, product64, mix64, nextState, drawOf, after, drawAt}
-use Rattle.rng.specs.Unit.{unitOf, unitDrawOf, unitAt}
+use Rattle.rng.specs.Rules.SplitMix.{gamma, xorShift, product64, mix64, nextState, drawOf, after, drawAt}
+use Rattle.rng.specs.Rules.Unit.{unitOf, unitDrawOf, unitAt}
 use Rattle.rng.proofs.Units.{unit-value, unit-range, unit-not-nan}
 
 -- ---- every draw is below 2^64

@@ -14,7 +14,7 @@ use lib.Ieee.Exact.{HasValue, round-exact}
 use lib.Ieee.Back.{round-whole}
 use lib.Ieee.Order.{le-of-values}
 use lib.Ieee.Scale.{round-same}
-use Rattle.rng.specs.Unit.{unitOf}
+use Rattle.rng.specs.Rules.Unit.{unitOf}
 
 -- 2^53 as an f64, in lowest terms
 two53 : ofInt binary64 (pos (2 ^ 53)) ≡ fin false 1 (pos 53)

@@ -3,8 +3,8 @@
 // Every function here is proved, and the crate assumes nothing of its own. No public function has a
 // `requires`. The definitions that the contracts cite stand in specs/.
 ghost use mathlib.Core.Path.{_≡_};
-ghost use Rattle.rng.specs.SplitMix.{product64, atState, seeded, drawOf};
-ghost use Rattle.rng.specs.Unit.{unitOf, between, unitDrawOf, uniformDrawOf};
+ghost use Rattle.rng.specs.Rules.SplitMix.{product64, atState, seeded, drawOf};
+ghost use Rattle.rng.specs.Rules.Unit.{unitOf, between, unitDrawOf, uniformDrawOf};
 
 // The generator. Its state is private: only this crate makes one.
 pub struct SplitMix64 {

@@ -7,8 +7,8 @@ use native.Mathlib.Omega.{arith}
 use native.Mathlib.Decide.{ℕ-discrete}
 use lib.Dec.{lit<}
 use lib.ListN.{getD}
-use Rattle.run.specs.Below.{anyBelow}
-use Rattle.run.specs.Words.{bitOf, member}
+use Rattle.run.specs.Rules.Below.{anyBelow}
+use Rattle.run.specs.Grader.Words.{bitOf, member}
 use Rattle.course.proofs.BoolLaws.{left-false, right-false, never-false}
 use Rattle.run.proofs.WordLaws.{member-at, word-ext, bit-none}
 

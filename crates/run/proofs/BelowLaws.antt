@@ -8,8 +8,8 @@ use native.Mathlib.Omega.{arith}
 use native.Mathlib.Decide.{decLt}
 use lib.Dec.{ltb, eqb, eqb·suc-suc}
 use borrow.Author.Tests.{lt-ltb, le-ltb, ne-eqb}
-use Rattle.course.specs.Counting.{digit, howMany}
-use Rattle.run.specs.Below.{anyBelow, everyBelow}
+use Rattle.course.specs.Rules.Counting.{digit, howMany}
+use Rattle.run.specs.Rules.Below.{anyBelow, everyBelow}
 use Rattle.course.proofs.BoolLaws.{and-not, left-false, right-false}
 use Rattle.run.proofs.WordLaws.{howMany-add}
 use Rattle.run.proofs.CreditLaws.{few}

@@ -8,20 +8,20 @@ use lib.Dec.{ltb, leb}
 use lib.ListN.{length}
 use lib.Ieee.{Float}
 use borrow.Author.Tests.{ltb-false, leb-false, not-false}
-use Rattle.course.specs.Lengths.{mostPoints, columnLength, quadNumbers, offsetCount}
+use Rattle.course.specs.Rules.Lengths.{mostPoints, columnLength, quadNumbers, offsetCount}
 use Rattle.course.proofs.LengthLaws.{points-fit}
-use Rattle.run.specs.State.{State, stateOf, Columns, shortOf, unfit}
-use Rattle.run.specs.Arguments.{posesOk, shortColumns, settingsOk, placesOk}
-use Rattle.run.specs.Touch.{soundPoses, touchedBy}
-use Rattle.run.specs.Wheel.{quadOf}
-use Rattle.run.specs.Words.{member}
-use Rattle.run.specs.Contact.{entered, Contacted, contacted, contactOf}
+use Rattle.run.specs.Grader.State.{State, stateOf, Columns, shortOf, unfit}
+use Rattle.run.specs.Rules.Arguments.{posesOk, shortColumns, settingsOk, placesOk}
+use Rattle.run.specs.Grader.Touch.{soundPoses, touchedBy}
+use Rattle.run.specs.Rules.Wheel.{quadOf}
+use Rattle.run.specs.Grader.Words.{member}
+use Rattle.run.specs.Grader.Contact.{entered, Contacted, contacted, contactOf}
 use Rattle.course.proofs.BoolLaws.{or-no, cleared}
 use Rattle.run.proofs.CreditLaws.{few}
-use Rattle.run.specs.Lap.{lapOf, offField}
-use Rattle.run.specs.Start.{Settings, startShort, startCause, startAnswer, setupOf, firstProgress, zeroState, begun, firstContact, startedBy, startAt, startOf}
-use Rattle.run.specs.Pass.{stillCar}
-use Rattle.run.specs.Settle.{settleCause, settleAnswer, settledProgress, SettledParts, settledParts, settledBy, settleAt, settlePartsOf, done, settleOf}
+use Rattle.run.specs.Rules.Lap.{lapOf, offField}
+use Rattle.run.specs.Grader.Start.{Settings, startShort, startCause, startAnswer, setupOf, firstProgress, zeroState, begun, firstContact, startedBy, startAt, startOf}
+use Rattle.run.specs.Rules.Pass.{stillCar}
+use Rattle.run.specs.Grader.Settle.{settleCause, settleAnswer, settledProgress, SettledParts, settledParts, settledBy, settleAt, settlePartsOf, afterSettle, settleOf}
 use Rattle.run.specs.declared.state.Setup.{Setup}
 use Rattle.run.specs.declared.state.Progress.{Progress}
 use Rattle.run.specs.declared.state.Car.{Car}
@@ -134,9 +134,9 @@ settle-accepted {m} {u = u} {p = p} {c = c} {w = w} {l = l} {x = x} {y = y} {ps 
 -- the call on a whole state, put together around the parts that it leaves
 pub settled-from : (m most : ℕ) (s : State) (l : Columns) (x y : Float) (ps : List Pose) (r : SettleAnswer) (p : Progress) (c w : List ℕ)
     → settledParts r p c w ≡ settlePartsOf m most (s .setup) (s .progress) (s .credited) (s .wheels) l x y ps
-    → done r (stateOf (s .setup) p (s .car) c w) ≡ settleOf m most s l x y ps
+    → afterSettle r (stateOf (s .setup) p (s .car) c w) ≡ settleOf m most s l x y ps
 unfolding settleOf
-settled-from m most s l x y ps r p c w e = ap (λ (d : SettledParts). done (d .answer) (stateOf (s .setup) (d .progress) (s .car) (d .credited) (d .wheels))) e
+settled-from m most s l x y ps r p c w e = ap (λ (d : SettledParts). afterSettle (d .answer) (stateOf (s .setup) (d .progress) (s .car) (d .credited) (d .wheels))) e
 
 -- a contact has no more new tiles than its words have bits
 pub contact-few : (m : ℕ) (c w : List ℕ) (P : ℕ → ℕ → Bool) {c′ w′ : List ℕ} {f : ℕ} {z : Bool} → contacted c′ w′ f z ≡ contactOf m c w P → f ≤ 64 * m

@@ -11,15 +11,15 @@ use lib.Seq.{take-all}
 use lib.Dec.{eqb}
 use lib.Ieee.{Float}
 use borrow.Author.Tests.{eqb-true}
-use Rattle.course.specs.Tiles.{tileOf}
-use Rattle.course.specs.Index.{lookup}
+use Rattle.course.specs.Rules.Tiles.{tileOf}
+use Rattle.course.specs.Grader.Index.{lookup}
 use Rattle.course.proofs.BoolLaws.{and-left, and-right}
-use Rattle.run.specs.Below.{someOf, everyOf, everyBelow}
-use Rattle.run.specs.Words.{setOf}
-use Rattle.run.specs.Overlap.{leastOn, greatestOn, apartOn, apartAlong, apartByEdges, overlapOf}
-use Rattle.run.specs.Wheel.{quadOf, boxCells}
-use Rattle.run.specs.Touch.{lists, listedBy, touchedBy, soundCell, soundQuad, soundPoses}
-use Rattle.run.specs.TouchSteps.{sideAlong, firstSide, beyond, apartByOthers, sixteenCells, again, overlapsTile, Tested, Tests, Looked}
+use Rattle.run.specs.Rules.Below.{someOf, everyOf, everyBelow}
+use Rattle.run.specs.Grader.Words.{setOf}
+use Rattle.run.specs.Rules.Overlap.{leastOn, greatestOn, apartOn, apartAlong, apartByEdges, overlapOf}
+use Rattle.run.specs.Rules.Wheel.{quadOf, boxCells}
+use Rattle.run.specs.Grader.Touch.{lists, listedBy, touchedBy, soundCell, soundQuad, soundPoses}
+use Rattle.run.specs.Steps.Touch.{sideAlong, firstSide, beyond, apartByOthers, sixteenCells, again, overlapsTile, Tested, Tests, Looked}
 use Rattle.run.specs.declared.state.Pose.{Pose}
 use Rattle.run.specs.declared.quad.Side.{Side}
 use Rattle.run.proofs.TouchLaws.{some-none, some-take, every-take, tested-cong, tested-is, touch-more, none-tested}

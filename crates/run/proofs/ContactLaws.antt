@@ -10,14 +10,14 @@ use native.Mathlib.Decide.{ℕ-discrete}
 use lib.ListN.{length, take, drop, length-append, length-drop, drop-of-length-le}
 use lib.Seq.{take-at, drop-at, drop-drop, take-all, length-take-le, take-append-le, drop-append-le}
 use lib.Ieee.{Float}
-use Rattle.run.specs.Below.{anyBelow, howMany}
-use Rattle.run.specs.Arguments.{poseAt}
-use Rattle.run.specs.Wheel.{wheelQuad, quadOf}
-use Rattle.run.specs.Touch.{touchedBy}
-use Rattle.run.specs.TouchSteps.{sixteenCells, Room, Looked, Creditable, AllCreditable, inSets, enteredSince, Credits, credits, creditsOf}
+use Rattle.run.specs.Rules.Below.{anyBelow, howMany}
+use Rattle.run.specs.Rules.Arguments.{poseAt}
+use Rattle.run.specs.Rules.Wheel.{wheelQuad, quadOf}
+use Rattle.run.specs.Grader.Touch.{touchedBy}
+use Rattle.run.specs.Steps.Touch.{sixteenCells, Room, Looked, Creditable, AllCreditable, inSets, enteredSince, Credits, credits, creditsOf}
 use Rattle.run.specs.declared.state.Pose.{Pose}
-use Rattle.run.specs.Words.{member, setOf}
-use Rattle.run.specs.Contact.{wheelPart, enters, entered, wheelSets, contacted, contactOf}
+use Rattle.run.specs.Grader.Words.{member, setOf}
+use Rattle.run.specs.Grader.Contact.{wheelPart, enters, entered, wheelSets, contacted, contactOf}
 use Rattle.run.proofs.WordLaws.{Fit, member-setOf, setOf-cong, length-setOf, is-setOf, howMany-cong, howMany-or, or-chain}
 use Rattle.run.proofs.CreditLaws.{few, howMany-false}
 use Rattle.run.proofs.BelowLaws.{any-cong}

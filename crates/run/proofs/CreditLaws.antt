@@ -12,8 +12,8 @@ use lib.Bits.{bitOr, bitAnd, and-le-l, or-lt, or-zero-r, and-zero-l}
 use lib.Count.{ones}
 use lib.Dec.{lit<}
 use borrow.Author.Count.{below-more}
-use Rattle.run.specs.Words.{bitOf, member, wordOf, setOf}
-use Rattle.course.specs.Counting.{digit, howMany}
+use Rattle.run.specs.Grader.Words.{bitOf, member, wordOf, setOf}
+use Rattle.course.specs.Rules.Counting.{digit, howMany}
 use Rattle.run.proofs.WordLaws.{Fit, word-bit, word-lt, word-ext, ones-word, member-at, is-setOf, bit-none, bit-or, bit-and, bit-not, howMany-add, howMany-cong}
 
 -- the bits of the other value

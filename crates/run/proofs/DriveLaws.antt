@@ -4,12 +4,12 @@ use mathlib.Core.Bool.{Bool}
 use mathlib.Core.List.{List}
 use Prim.Native.Nat.{ℕ, zero, suc}
 use lib.Ieee.{Float}
-use Rattle.run.specs.Arguments.{motionAt}
-use Rattle.run.specs.Dynamics.{turningOf, limitOf, heldOf, pushOf, finishOf, tyreOf}
-use Rattle.run.specs.State.{State, stateOf, awaiting}
-use Rattle.run.specs.Grip.{roadsOf}
-use Rattle.run.specs.Pass.{frontOf, rearOf, ctlAt, roadAt, Passed, tyresPassed, gatheredOf, passOf, noForces}
-use Rattle.run.specs.Drive.{driveAnswer, driveCauseOf, driveCause, driveAt, drivePartsOf, driven, driveOf}
+use Rattle.run.specs.Rules.Arguments.{motionAt}
+use Rattle.run.specs.Rules.Dynamics.{turningOf, limitOf, heldOf, pushOf, finishOf, tyreOf}
+use Rattle.run.specs.Grader.State.{State, stateOf, awaiting}
+use Rattle.run.specs.Grader.Grip.{roadsOf}
+use Rattle.run.specs.Rules.Pass.{frontOf, rearOf, ctlAt, roadAt, Passed, tyresPassed, gatheredOf, passOf, noForces}
+use Rattle.run.specs.Grader.Drive.{driveAnswer, driveCauseOf, driveCause, driveAt, drivePartsOf, driven, driveOf}
 use Rattle.run.specs.declared.state.WheelCtl.{WheelCtl}
 use Rattle.run.specs.declared.dynamics.TyreForce.{TyreForce}
 use Rattle.run.specs.declared.dynamics.Turned.{Turned}

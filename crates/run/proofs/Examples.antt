@@ -4,16 +4,16 @@ use mathlib.Core.Bool.{Bool, true, false}
 use mathlib.Core.List.{List}
 use Prim.Native.Nat.{ℕ}
 use lib.Ieee.{binary64, ofBits, ofInt, round, add, sub, mul, div, neg, lt, le, isNan}
-use Rattle.course.specs.Arithmetic.{_⊖_, natural, decimal}
-use Rattle.course.specs.Constants.{f64Max, f64Min}
-use Rattle.course.specs.Numeric.{absOf, minOf, maxOf, leastOf, greatestOf, clampOf, signumOf}
+use Rattle.course.specs.Rules.Arithmetic.{_⊖_, natural, decimal}
+use Rattle.course.specs.Rules.Constants.{f64Max, f64Min}
+use Rattle.course.specs.Rules.Numeric.{absOf, minOf, maxOf, leastOf, greatestOf, clampOf, signumOf}
 use Rattle.course.proofs.Examples as course
-use Rattle.run.specs.Overlap.{leastOn, greatestOn, apartOn, apartAlong, apartByEdges, overlapOf}
-use Rattle.run.specs.Lap.{lapOf}
-use Rattle.run.specs.Dynamics.{brakedOf, tyreOf, finishOf}
-use Rattle.run.specs.Pass.{indicator, gasOf, raisedOf, rearOf, ctlAt, gatheredOf, passOf}
-use Rattle.run.specs.Reward.{atLeastOne, rewardOf, defaultWeights}
-use Rattle.run.specs.Examples.{rectangle, RearGas, Marked}
+use Rattle.run.specs.Rules.Overlap.{leastOn, greatestOn, apartOn, apartAlong, apartByEdges, overlapOf}
+use Rattle.run.specs.Rules.Lap.{lapOf}
+use Rattle.run.specs.Rules.Dynamics.{brakedOf, tyreOf, finishOf}
+use Rattle.run.specs.Rules.Pass.{indicator, gasOf, raisedOf, rearOf, ctlAt, gatheredOf, passOf}
+use Rattle.run.specs.Rules.Reward.{atLeastOne, rewardOf, defaultWeights}
+use Rattle.run.specs.Laws.Examples.{rectangle, RearGas, Marked}
 use Rattle.run.proofs.Literals.{zero-bits, tenth, two-tenths}
 use Rattle.run.proofs.PointQuads.{points-overlap}
 use Rattle.run.specs.declared.state.Car.{Car}

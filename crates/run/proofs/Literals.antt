@@ -1,10 +1,10 @@
 -- The bits of constants: what the compiled code has in the place of the Rust's expressions. Assumes nothing.
 use mathlib.Core.Path.{_≡_, refl}
 use lib.Ieee.{binary64, ofBits, ofInt, round, mul, div}
-use Rattle.course.specs.Arithmetic.{natural, decimal}
-use Rattle.course.specs.Constants.{fps}
-use Rattle.run.specs.Dynamics.{enginePower, wheelMomentOfInertia, frictionLimit, wheelRad, stiffness, dt}
-use Rattle.run.specs.Wheel.{size, wheelR}
+use Rattle.course.specs.Rules.Arithmetic.{natural, decimal}
+use Rattle.course.specs.Rules.Constants.{fps}
+use Rattle.run.specs.Rules.Dynamics.{enginePower, wheelMomentOfInertia, frictionLimit, wheelRad, stiffness, dt}
+use Rattle.run.specs.Rules.Wheel.{size, wheelR}
 
 -- ---- the constants of the reference's dynamics.rs
 

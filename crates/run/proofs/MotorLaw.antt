@@ -8,11 +8,11 @@ use lib.IntN.{ℤ, pos}
 use lib.Dec.{T}
 use lib.Ieee.{Float, nan, inf, fin, binary64, up, down, round, mul, neg, lt, isNan, fits, ofInt}
 use lib.Ieee.Fits.{mul-fits}
-use Rattle.course.specs.Arithmetic.{_⊖_, _⊗_, natural}
-use Rattle.course.specs.Numeric.{absOf, minOf, signumOf}
+use Rattle.course.specs.Rules.Arithmetic.{_⊖_, _⊗_, natural}
+use Rattle.course.specs.Rules.Numeric.{absOf, minOf, signumOf}
 use Rattle.course.proofs.Bounds.{plain, plain-round, neg-round}
 use Rattle.course.proofs.OwnValue.{own-value}
-use Rattle.run.specs.Dynamics.{motorOf}
+use Rattle.run.specs.Rules.Dynamics.{motorOf}
 
 -- ---- the code's literals
 

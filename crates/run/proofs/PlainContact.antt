@@ -5,10 +5,10 @@ use mathlib.Core.List.{List, _++_}
 use mathlib.Core.Path.{_≡_, refl, sym, ap, ap₂, _∙_}
 use Prim.Native.Nat.{ℕ, zero, suc, _*_, _≤_, _<_}
 use native.Mathlib.Omega.{arith}
-use Rattle.run.specs.Below.{anyBelow, howMany}
-use Rattle.run.specs.Words.{member, setOf}
-use Rattle.run.specs.Contact.{wheelPart, enters, entered, wheelSets, contacted, contactOf}
-use Rattle.run.specs.Grip.{onRoad}
+use Rattle.run.specs.Rules.Below.{anyBelow, howMany}
+use Rattle.run.specs.Grader.Words.{member, setOf}
+use Rattle.run.specs.Grader.Contact.{wheelPart, enters, entered, wheelSets, contacted, contactOf}
+use Rattle.run.specs.Grader.Grip.{onRoad}
 use Rattle.run.proofs.WordLaws.{member-setOf, setOf-cong, howMany-cong}
 use Rattle.run.proofs.ContactLaws.{part-of}
 use Rattle.run.proofs.AnyLaws.{any-none}

@@ -11,11 +11,11 @@ use borrow.Author.Tests.{le-ltb}
 use lib.Ieee.{Float, nan, inf, fin, binary64, ofInt, up, down, round, unlike, sum, add, sub, mul, neg, lt, isNan}
 use lib.Ieee.Fits.{down-pos}
 use lib.Ieee.Scale.{finite, round-same}
-use Rattle.course.specs.Arithmetic.{_⊕_, _⊖_, _⊗_, natural, decimal}
-use Rattle.course.specs.Constants.{f64Max, f64Min}
-use Rattle.course.specs.Numeric.{minOf, maxOf, leastOf, greatestOf}
-use Rattle.run.specs.Overlap.{leastOn, greatestOn, apartOn, apartAlong, apartByEdges, overlapOf}
-use Rattle.run.specs.Examples.{rectangle}
+use Rattle.course.specs.Rules.Arithmetic.{_⊕_, _⊖_, _⊗_, natural, decimal}
+use Rattle.course.specs.Rules.Constants.{f64Max, f64Min}
+use Rattle.course.specs.Rules.Numeric.{minOf, maxOf, leastOf, greatestOf}
+use Rattle.run.specs.Rules.Overlap.{leastOn, greatestOn, apartOn, apartAlong, apartByEdges, overlapOf}
+use Rattle.run.specs.Laws.Examples.{rectangle}
 
 -- 0, and −0 where s is true
 abbrev zeroOf : Bool → Float

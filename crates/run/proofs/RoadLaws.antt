@@ -10,10 +10,10 @@ use lib.Dec.{eqb}
 use lib.ListN.{getD, set, drop}
 use lib.Seq.{getD-take, getD-drop}
 use borrow.Author.Tests.{eqb-true, not-false}
-use Rattle.run.specs.Below.{anyBelow}
-use Rattle.run.specs.Contact.{wheelPart}
-use Rattle.run.specs.Grip.{onRoad, roadsOf}
-use Rattle.run.specs.DriveSteps.{stands, anyStands, roadsTo}
+use Rattle.run.specs.Rules.Below.{anyBelow}
+use Rattle.run.specs.Grader.Contact.{wheelPart}
+use Rattle.run.specs.Grader.Grip.{onRoad, roadsOf}
+use Rattle.run.specs.Steps.Drive.{stands, anyStands, roadsTo}
 use Rattle.course.proofs.BoolLaws.{never-false, both-ways}
 use Rattle.run.proofs.AnyLaws.{any-none, any-false, any-found, none-found}
 

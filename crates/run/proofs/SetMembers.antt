@@ -6,8 +6,8 @@ use Prim.Native.Nat.{ℕ, _*_, _/_, _%_, _≤_, _<_}
 use native.Mathlib.Nat.{le-trans, le-div-iff-mul-le}
 use native.Mathlib.Omega.{arith}
 use lib.ListN.{length, List·getD-eq-default}
-use Rattle.run.specs.Words.{bitOf, member, setOf}
-use Rattle.run.specs.Contact.{wheelPart}
+use Rattle.run.specs.Grader.Words.{bitOf, member, setOf}
+use Rattle.run.specs.Grader.Contact.{wheelPart}
 use Rattle.run.proofs.WordLaws.{member-setOf, length-setOf, bit-none}
 use Rattle.run.proofs.BelowLaws.{below, below-out, by-side}
 use Rattle.run.proofs.PlainContact.{creditedBy, wheelsBy}

@@ -6,8 +6,8 @@ use native.Mathlib.Nat.{div-lt-iff-lt-mul}
 use native.Mathlib.Omega.{arith}
 use lib.Dec.{ltb}
 use borrow.Author.Tests.{ltb-false}
-use Rattle.run.specs.State.{unfit}
-use Rattle.run.specs.Reward.{atLeastOne}
+use Rattle.run.specs.Grader.State.{unfit}
+use Rattle.run.specs.Rules.Reward.{atLeastOne}
 use Rattle.run.specs.declared.state.Setup.{Setup}
 use Rattle.run.specs.declared.state.Progress.{Progress}
 use Rattle.course.proofs.BoolLaws.{left-false, right-false}

@@ -3,12 +3,12 @@ use mathlib.Core.Path.{_≡_, refl, sym, subst}
 use mathlib.Core.Bool.{true, false}
 use lib.Dec.{T}
 use lib.Ieee.{Float, binary64, ofBits, ofInt, round, mul, fits, lt, le}
-use Rattle.course.specs.Arithmetic.{natural, decimal}
-use Rattle.course.specs.Root.{sqrtOf}
+use Rattle.course.specs.Rules.Arithmetic.{natural, decimal}
+use Rattle.course.specs.Rules.Root.{sqrtOf}
 use Rattle.course.proofs.BoolLaws.{no-T}
 use Rattle.course.proofs.RootLaw.{root-within}
-use Rattle.run.specs.Dynamics.{frictionLimit, limitOf}
-use Rattle.run.specs.Wheel.{size}
+use Rattle.run.specs.Rules.Dynamics.{frictionLimit, limitOf}
+use Rattle.run.specs.Rules.Wheel.{size}
 
 -- the limits are 400 and 240
 road-bits : limitOf true ≡ ofBits binary64 0x4079000000000000

@@ -3,8 +3,8 @@
 ghost use mathlib.Core.Path.{_≡_};
 ghost use mathlib.Core.Bool.{true, false};
 ghost use lib.Ieee.{lt};
-ghost use Rattle.course.specs.Root.{sqrtOf};
-ghost use Rattle.run.specs.Dynamics.{motorOf, spunOf, brakedOf, turningOf, limitOf, heldOf, pushOf, finishOf};
+ghost use Rattle.course.specs.Rules.Root.{sqrtOf};
+ghost use Rattle.run.specs.Rules.Dynamics.{motorOf, spunOf, brakedOf, turningOf, limitOf, heldOf, pushOf, finishOf};
 use crate::state::WheelCtl;
 use course::constants::FPS;
 use course::numeric;

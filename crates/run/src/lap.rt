@@ -1,6 +1,6 @@
 // The lap flag, off and the end of a run (document 01, "Lap" and "Settle").
 ghost use mathlib.Core.Path.{_≡_};
-ghost use Rattle.run.specs.Lap.{lapOf, offField, endOf};
+ghost use Rattle.run.specs.Rules.Lap.{lapOf, offField, endOf};
 use course::constants::PLAYFIELD;
 use course::numeric;
 

@@ -2,9 +2,9 @@
 ghost use mathlib.Core.Path.{_≡_};
 ghost use mathlib.Core.Bool.{not, _||_};
 ghost use Prim.Native.Nat.{_+_, _*_};
-ghost use Rattle.run.specs.Overlap.{leastOn, greatestOn, apartOn, apartByEdges, overlapOf};
-ghost use Rattle.run.specs.Wheel.{placed, wheelQuad, boxCells};
-ghost use Rattle.run.specs.TouchSteps.{firstSide, beyond, apartByOthers, sixteenCells};
+ghost use Rattle.run.specs.Rules.Overlap.{leastOn, greatestOn, apartOn, apartByEdges, overlapOf};
+ghost use Rattle.run.specs.Rules.Wheel.{placed, wheelQuad, boxCells};
+ghost use Rattle.run.specs.Steps.Touch.{firstSide, beyond, apartByOthers, sixteenCells};
 use crate::dynamics::SIZE;
 use crate::dynamics::WHEEL_R;
 use crate::state::Pose;

@@ -1,6 +1,6 @@
 // The reward of a settle (document 01, "Beside the run"; the Rust's `step_reward`).
 ghost use mathlib.Core.Path.{_≡_};
-ghost use Rattle.run.specs.Reward.{rewardOf, atLeastOne, defaultWeights};
+ghost use Rattle.run.specs.Rules.Reward.{rewardOf, atLeastOne, defaultWeights};
 
 // The Rust's `CarRacingReward`.
 #[repr(C)]

@@ -1,10 +1,10 @@
 // The call `settle`: contact after physics (document 01, "Settle").
 ghost use mathlib.Core.Path.{_≡_};
 ghost use Prim.Native.Nat.{_+_, _<_};
-ghost use Rattle.run.specs.Widths.{fullWords, mostTiles};
-ghost use Rattle.run.specs.State.{view, columns};
-ghost use Rattle.run.specs.Settle.{settleCause, settledProgress, settledParts, settlePartsOf, done, settleOf};
-ghost use Rattle.run.specs.TouchSteps.{sixteenCells};
+ghost use Rattle.run.specs.Grader.Widths.{fullWords, mostTiles};
+ghost use Rattle.run.specs.Grader.State.{view, columns};
+ghost use Rattle.run.specs.Grader.Settle.{settleCause, settledProgress, settledParts, settlePartsOf, afterSettle, settleOf};
+ghost use Rattle.run.specs.Steps.Touch.{sixteenCells};
 use crate::contact;
 use crate::lap;
 use crate::quad;
@@ -177,7 +177,7 @@ pub fn settle(
     poses: [Pose; 4],
 ) -> Settlement
     ensures { λ r. ⌜
-        done (r .answer) (view (r .run))
+        afterSettle (r .answer) (view (r .run))
         ≡ settleOf fullWords mostTiles (view run)
         (columns (now (tiles .entry)) (now (offsets .entry)) (now (list .entry))) x y poses
         ⌝ }

@@ -1,8 +1,8 @@
 // The run sheet (document 01, "Beside the run"; after the Rust's `summary`).
 ghost use mathlib.Core.Path.{_≡_};
 ghost use Prim.Native.Nat.{_≤_, _<_};
-ghost use Rattle.run.specs.Widths.{mostTiles};
-ghost use Rattle.run.specs.Sheet.{shareOf, sheetOf};
+ghost use Rattle.run.specs.Grader.Widths.{mostTiles};
+ghost use Rattle.run.specs.Grader.Sheet.{shareOf, sheetOf};
 use crate::state;
 use crate::state::Progress;
 use crate::state::Setup;

@@ -1,11 +1,11 @@
 // The call `start`: the first contact (document 01, "Start").
 ghost use mathlib.Core.Path.{_≡_};
-ghost use Rattle.run.specs.Widths.{fullWords, mostTiles};
-ghost use Rattle.run.specs.State.{view, columns};
-ghost use Rattle.run.specs.Start.{startCause, firstProgress, zeroState, begun, startOf};
-ghost use Rattle.run.specs.Pass.{stillCar};
-ghost use Rattle.run.specs.Arguments.{settingsOk};
-ghost use Rattle.run.specs.TouchSteps.{sixteenCells};
+ghost use Rattle.run.specs.Grader.Widths.{fullWords, mostTiles};
+ghost use Rattle.run.specs.Grader.State.{view, columns};
+ghost use Rattle.run.specs.Grader.Start.{startCause, firstProgress, zeroState, begun, startOf};
+ghost use Rattle.run.specs.Rules.Pass.{stillCar};
+ghost use Rattle.run.specs.Rules.Arguments.{settingsOk};
+ghost use Rattle.run.specs.Steps.Touch.{sixteenCells};
 use crate::contact;
 use crate::lap;
 use crate::quad;

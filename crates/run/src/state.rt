@@ -1,8 +1,8 @@
 // The state of a run, and the tests of arguments and states that the calls share (document 01,
 // "Refusals by cause").
 ghost use mathlib.Core.Path.{_≡_};
-ghost use Rattle.run.specs.State.{unfit};
-ghost use Rattle.run.specs.Arguments.{inRange, poseOk, posesOk, shortColumns};
+ghost use Rattle.run.specs.Grader.State.{unfit};
+ghost use Rattle.run.specs.Rules.Arguments.{inRange, poseOk, posesOk, shortColumns};
 use crate::widths::FULL_WORDS;
 use crate::widths::WHEEL_WORDS;
 use course::constants;

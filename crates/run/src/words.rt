@@ -5,9 +5,9 @@ ghost use mathlib.Core.Bool.{false, not, _&&_, _||_};
 ghost use Prim.Native.Nat.{ℕ, _*_, _^_, _<_};
 ghost use lib.Dec.{eqb};
 ghost use lib.ListN.{length, getD};
-ghost use Rattle.run.specs.Below.{howMany};
-ghost use Rattle.run.specs.Words.{member, setOf};
-ghost use Rattle.run.specs.TouchSteps.{Creditable};
+ghost use Rattle.run.specs.Rules.Below.{howMany};
+ghost use Rattle.run.specs.Grader.Words.{member, setOf};
+ghost use Rattle.run.specs.Steps.Touch.{Creditable};
 
 // Whether the set has a tile.
 pub(crate) fn has(set: &[u64], id: usize) -> bool

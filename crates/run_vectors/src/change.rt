@@ -1,6 +1,6 @@
 // The records that change the lent course: another course, or one number of it, damaged.
 ghost use Prim.Native.Nat.{_≤_};
-ghost use Rattle.course.specs.Lengths.{mostPoints};
+ghost use Rattle.course.specs.Rules.Lengths.{mostPoints};
 use crate::read;
 use course::constants::LAID_LENGTH;
 use course::constants::MOST_POINTS;

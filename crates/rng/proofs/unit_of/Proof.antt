@@ -6,7 +6,7 @@ use native.Mathlib.Nat.{le-of-lt}
 use lib.Dec.{le→leb}
 use lib.Pow.{shr-lt}
 use lib.Ieee.{inFloat, ofBits, ofInt}
-use Rattle.rng.specs.Unit.{unitOf}
+use Rattle.rng.specs.Rules.Unit.{unitOf}
 use Rattle.rng.proofs.unit_of.Statement.{statement}
 use Rattle.rng.proofs.unit_of.Tie as tie
 use Rattle.rng.proofs.unit_of.Reads as reads

@@ -1,8 +1,8 @@
 -- `abi::flat::angle` meets its contract. Assumes nothing.
 use lib.Ieee.{ofBits, ofInt}
-use Rattle.course.specs.Arithmetic.{natural}
-use Rattle.course.specs.Angle.{angleCauseOf, valueOf}
-use Rattle.abi.specs.Flat.{flatAngle}
+use Rattle.course.specs.Rules.Arithmetic.{natural}
+use Rattle.course.specs.Grader.Angle.{angleCauseOf, valueOf}
+use Rattle.abi.specs.Grader.Flat.{flatAngle}
 use borrow.Author.Needs.{needs}
 use Rattle.abi.proofs.flat.angle.Statement.{statement}
 use Rattle.abi.proofs.flat.angle.Tie as tie

@@ -1,6 +1,6 @@
 -- `abi::flat::curbs` meets its contract. Assumes nothing.
-use Rattle.course.specs.Curbs.{curbCauseOf, curbCountOf}
-use Rattle.abi.specs.Flat.{flatCurbs}
+use Rattle.course.specs.Grader.Curbs.{curbCauseOf, curbCountOf}
+use Rattle.abi.specs.Grader.Flat.{flatCurbs}
 use borrow.Author.Needs.{needs}
 use Rattle.abi.proofs.flat.curbs.Statement.{statement}
 use Rattle.abi.proofs.flat.curbs.Tie as tie

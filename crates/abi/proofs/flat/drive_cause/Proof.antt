@@ -1,5 +1,5 @@
 -- `abi::flat::drive_cause` meets its contract. Assumes nothing.
-use Rattle.run.specs.Drive.{driveCauseOf}
+use Rattle.run.specs.Grader.Drive.{driveCauseOf}
 use borrow.Author.Needs.{needs}
 use Rattle.abi.proofs.flat.drive_cause.Statement.{statement}
 use Rattle.abi.proofs.flat.drive_cause.Tie as tie

@@ -1,5 +1,5 @@
 -- `abi::flat::laid` meets its contract. Assumes nothing.
-use Rattle.abi.specs.Flat.{flatLaid}
+use Rattle.abi.specs.Grader.Flat.{flatLaid}
 use borrow.Author.Needs.{needs}
 use Rattle.abi.proofs.flat.laid.Statement.{statement}
 use Rattle.abi.proofs.flat.laid.Tie as tie

@@ -1,5 +1,5 @@
 -- `abi::flat::settle_cause` meets its contract. Assumes nothing.
-use Rattle.run.specs.Settle.{settleCauseOf}
+use Rattle.run.specs.Grader.Settle.{settleCauseOf}
 use borrow.Author.Needs.{needs}
 use Rattle.abi.proofs.flat.settle_cause.Statement.{statement}
 use Rattle.abi.proofs.flat.settle_cause.Tie as tie

@@ -1,5 +1,5 @@
 -- `abi::flat::settle_values` meets its contract. Assumes nothing.
-use Rattle.run.specs.Settle.{settleValuesOf}
+use Rattle.run.specs.Grader.Settle.{settleValuesOf}
 use borrow.Author.Needs.{needs}
 use Rattle.abi.proofs.flat.settle_values.Statement.{statement}
 use Rattle.abi.proofs.flat.settle_values.Tie as tie

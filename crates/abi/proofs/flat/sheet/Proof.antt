@@ -1,6 +1,6 @@
 -- `abi::flat::sheet` meets its contract. Assumes nothing.
-use Rattle.run.specs.Sheet.{sheetCauseOf, sheetFiguresOf}
-use Rattle.abi.specs.Flat.{flatSheet}
+use Rattle.run.specs.Grader.Sheet.{sheetCauseOf, sheetFiguresOf}
+use Rattle.abi.specs.Grader.Flat.{flatSheet}
 use borrow.Author.Needs.{needs}
 use Rattle.abi.proofs.flat.sheet.Statement.{statement}
 use Rattle.abi.proofs.flat.sheet.Tie as tie

@@ -1,5 +1,5 @@
 -- `abi::flat::start_cause` meets its contract. Assumes nothing.
-use Rattle.run.specs.Start.{startCauseOf}
+use Rattle.run.specs.Grader.Start.{startCauseOf}
 use borrow.Author.Needs.{needs}
 use Rattle.abi.proofs.flat.start_cause.Statement.{statement}
 use Rattle.abi.proofs.flat.start_cause.Tie as tie

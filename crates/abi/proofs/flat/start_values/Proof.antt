@@ -1,5 +1,5 @@
 -- `abi::flat::start_values` meets its contract. Assumes nothing.
-use Rattle.run.specs.Start.{startValuesOf}
+use Rattle.run.specs.Grader.Start.{startValuesOf}
 use borrow.Author.Needs.{needs}
 use Rattle.abi.proofs.flat.start_values.Statement.{statement}
 use Rattle.abi.proofs.flat.start_values.Tie as tie

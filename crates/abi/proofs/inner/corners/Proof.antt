@@ -1,6 +1,6 @@
 -- `abi::inner::corners` meets its contract. Assumes nothing.
 use mathlib.Core.Path.{refl}
-use Rattle.abi.specs.Flat.{pairAt, cornersFrom}
+use Rattle.abi.specs.Grader.Flat.{pairAt, cornersFrom}
 use borrow.Author.Needs.{needs}
 use Rattle.abi.proofs.inner.corners.Statement.{statement}
 use Rattle.abi.proofs.inner.corners.Tie as tie

@@ -1,5 +1,5 @@
 -- `abi::inner::grader_overlap` meets its contract. Assumes nothing.
-use Rattle.run.specs.Overlap.{overlapOf}
+use Rattle.run.specs.Rules.Overlap.{overlapOf}
 use mathlib.Core.Path.{ap₂, _∙_}
 use borrow.Author.Needs.{needs}
 use Rattle.abi.proofs.inner.grader_overlap.Statement.{statement}

@@ -1,6 +1,6 @@
 -- `abi::inner::spot` meets its contract. Assumes nothing.
 use mathlib.Core.Path.{refl}
-use Rattle.abi.specs.Flat.{spotFrom}
+use Rattle.abi.specs.Grader.Flat.{spotFrom}
 use Rattle.abi.proofs.inner.spot.Statement.{statement}
 use Rattle.abi.proofs.inner.spot.Tie as tie
 use Rattle.abi.proofs.inner.spot.Reads as reads

@@ -1,6 +1,6 @@
 -- `abi::inner::spots` meets its contract. Assumes nothing.
 use mathlib.Core.List.{_∷_, []}
-use Rattle.abi.specs.Flat.{spotAt, checkpointsFrom}
+use Rattle.abi.specs.Grader.Flat.{spotAt, checkpointsFrom}
 use borrow.Author.Needs.{needs}
 use Rattle.abi.proofs.inner.spots.Statement.{statement}
 use Rattle.abi.proofs.inner.spots.Tie as tie

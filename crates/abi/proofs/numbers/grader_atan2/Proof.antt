@@ -1,6 +1,6 @@
 -- `abi::numbers::grader_atan2` meets its contract. Assumes nothing.
 use mathlib.Core.Path.{ap, _∙_}
-use Rattle.abi.specs.Flat.{flatAngle}
+use Rattle.abi.specs.Grader.Flat.{flatAngle}
 use borrow.Author.Needs.{needs}
 use Rattle.abi.proofs.numbers.grader_atan2.Statement.{statement}
 use Rattle.abi.proofs.numbers.grader_atan2.Tie as tie

@@ -1,8 +1,8 @@
 -- `abi::numbers::grader_draw` meets its contract. Assumes nothing.
-use Rattle.rng.specs.SplitMix.{drawOf}
+use Rattle.rng.specs.Rules.SplitMix.{drawOf}
 use Rattle.rng.specs.declared.Draw.{Draw}
 use mathlib.Core.Path.{ap, _∙_}
-use Rattle.abi.specs.Flat.{flatDraw}
+use Rattle.abi.specs.Grader.Flat.{flatDraw}
 use borrow.Author.Needs.{needs}
 use Rattle.abi.proofs.numbers.grader_draw.Statement.{statement}
 use Rattle.abi.proofs.numbers.grader_draw.Tie as tie

@@ -1,7 +1,7 @@
 -- `abi::parts::put_car` meets its contract. Assumes nothing.
-use Rattle.certificate.specs.Numbers.{carNumbers}
-use Rattle.run.specs.Pass.{ctlAt}
-use Rattle.certificate.proofs.ReplayLaws.{written-over}
+use Rattle.certificate.specs.Grader.Numbers.{carNumbers}
+use Rattle.run.specs.Rules.Pass.{ctlAt}
+use Rattle.certificate.proofs.CallColumnLaws.{written-over}
 use native.Mathlib.Omega.{arith}
 use lib.ListN.{length-set}
 use mathlib.Core.List.{[], _∷_}

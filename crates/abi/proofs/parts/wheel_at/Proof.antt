@@ -1,5 +1,5 @@
 -- `abi::parts::wheel_at` meets its contract. Assumes nothing.
-use Rattle.certificate.specs.Numbers.{wheelFrom}
+use Rattle.certificate.specs.Grader.Numbers.{wheelFrom}
 use mathlib.Core.Path.{refl}
 use borrow.Author.Needs.{needs}
 use Rattle.abi.proofs.parts.wheel_at.Statement.{statement}

@@ -1,6 +1,6 @@
 -- `abi::runs::grader_settle_parts` meets its contract. Assumes nothing.
 use Rattle.abi.proofs.FlatLaws.{settled-whole}
-use Rattle.abi.specs.Lent.{settleLent}
+use Rattle.abi.specs.Grader.InPlace.{settleInPlace}
 use borrow.Author.Needs.{needs}
 use Rattle.abi.proofs.runs.grader_settle_parts.Statement.{statement}
 use Rattle.abi.proofs.runs.grader_settle_parts.Tie as tie
@@ -20,7 +20,7 @@ settle-cause-requires : tie.Need-settle-cause-requires
 settle-cause-requires c κs = search needs
 
 returns : tie.Need-returns
-unfolding settleLent
+unfolding settleInPlace
 returns c = settled-whole (c .settle-cause .ensures) (c .before .settle-values .ensures) (c .before .before .before .settle-parts .ensures)
 
 pub grader-settle-parts-spec : {M : Type 1} → statement M

@@ -1,5 +1,5 @@
 -- `abi::runs::grader_sheet_parts` meets its contract. Assumes nothing.
-use Rattle.abi.specs.Flat.{flatSheet}
+use Rattle.abi.specs.Grader.Flat.{flatSheet}
 use mathlib.Core.Path.{ap, _∙_}
 use borrow.Author.Needs.{needs}
 use Rattle.abi.proofs.runs.grader_sheet_parts.Statement.{statement}

@@ -1,5 +1,5 @@
 -- `certificate::answer::put_drive` meets its contract. Assumes nothing.
-use Rattle.certificate.proofs.ReplayLaws.{written-forces, written-not-driven}
+use Rattle.certificate.proofs.CallColumnLaws.{written-forces, written-not-driven}
 use borrow.Author.Needs.{needs}
 use Rattle.certificate.proofs.answer.put_drive.Statement.{statement}
 use Rattle.certificate.proofs.answer.put_drive.Tie as tie

@@ -1,7 +1,7 @@
 -- `certificate::answer::put_forces` meets its contract. Assumes nothing.
 use mathlib.Core.Path.{_≡_}
 use lib.ListN.{length}
-use Rattle.certificate.proofs.ReplayLaws.{all-forces}
+use Rattle.certificate.proofs.CallColumnLaws.{all-forces}
 use borrow.Author.Needs.{needs}
 use Rattle.certificate.proofs.answer.put_forces.Statement.{statement}
 use Rattle.certificate.proofs.answer.put_forces.Tie as tie

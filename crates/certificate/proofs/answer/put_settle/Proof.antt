@@ -1,5 +1,5 @@
 -- `certificate::answer::put_settle` meets its contract. Assumes nothing.
-use Rattle.certificate.proofs.ReplayLaws.{written-settled, written-not-settled}
+use Rattle.certificate.proofs.CallColumnLaws.{written-settled, written-not-settled}
 use borrow.Author.Needs.{needs}
 use Rattle.certificate.proofs.answer.put_settle.Statement.{statement}
 use Rattle.certificate.proofs.answer.put_settle.Tie as tie

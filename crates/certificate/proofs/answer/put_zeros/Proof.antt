@@ -1,6 +1,6 @@
 -- `certificate::answer::put_zeros` meets its contract. Assumes nothing.
 use mathlib.Core.Path.{_∙_}
-use Rattle.certificate.proofs.ReplayLaws.{no-numbers}
+use Rattle.certificate.proofs.CallColumnLaws.{no-numbers}
 use borrow.Author.Needs.{needs}
 use Rattle.certificate.proofs.answer.put_zeros.Statement.{statement}
 use Rattle.certificate.proofs.answer.put_zeros.Tie as tie

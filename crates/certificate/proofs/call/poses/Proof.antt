@@ -1,5 +1,5 @@
 -- `certificate::call::poses` meets its contract. Assumes nothing.
-use Rattle.certificate.specs.Numbers.{posesFrom}
+use Rattle.certificate.specs.Grader.Numbers.{posesFrom}
 use borrow.Author.Needs.{needs}
 use Rattle.certificate.proofs.call.poses.Statement.{statement}
 use Rattle.certificate.proofs.call.poses.Tie as tie

@@ -1,12 +1,12 @@
 -- `certificate::replay::replay` meets its contract. Assumes nothing.
 use mathlib.Core.Path.{sym, _∙_}
 use borrow.Author.Tests.{not-false, not-true}
-use Rattle.run.specs.State.{view}
-use Rattle.course.specs.Lent.{laidAnswer}
-use Rattle.run.specs.Start.{startAnswer}
-use Rattle.run.specs.Sheet.{sheetAnswer}
-use Rattle.certificate.specs.Batch.{replayOf}
-use Rattle.certificate.proofs.BatchLaws.{room-each, replayed}
+use Rattle.run.specs.Grader.State.{view}
+use Rattle.course.specs.Grader.Outcome.{laidAnswer}
+use Rattle.run.specs.Grader.Start.{startAnswer}
+use Rattle.run.specs.Grader.Sheet.{sheetAnswer}
+use Rattle.certificate.specs.Grader.Replay.{replayOf}
+use Rattle.certificate.proofs.ReplayLaws.{room-each, replayed}
 use borrow.Author.Needs.{needs}
 use Rattle.certificate.proofs.replay.replay.Statement.{statement}
 use Rattle.certificate.proofs.replay.replay.Tie as tie

@@ -2,9 +2,9 @@
 use borrow.Author.Needs.{needs}
 use native.Mathlib.Omega.{arith}
 use Prim.Native.Nat.{_-_}
-use Rattle.run.specs.State.{view, columns}
-use Rattle.certificate.proofs.ReplayLaws.{Replying, no-reply, own-parts, one-reply, all-replies}
-use Rattle.run.specs.Widths.{fullWords, mostTiles}
+use Rattle.run.specs.Grader.State.{view, columns}
+use Rattle.certificate.proofs.CallColumnLaws.{Replying, no-reply, own-parts, one-reply, all-replies}
+use Rattle.run.specs.Grader.Widths.{fullWords, mostTiles}
 use Rattle.certificate.proofs.replay.replies.Statement.{statement}
 use Rattle.certificate.proofs.replay.replies.Tie as tie
 use Rattle.certificate.proofs.replay.replies.Reads as reads

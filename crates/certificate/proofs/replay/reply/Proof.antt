@@ -2,9 +2,9 @@
 use mathlib.Core.Path.{sym}
 use lib.Seq.{length-take-le}
 use borrow.Author.Tests.{eq-eqb, ne-eqb}
-use Rattle.run.specs.State.{view, columns}
-use Rattle.certificate.proofs.ReplayLaws.{answered-as-drive, answered-as-settle}
-use Rattle.run.specs.Widths.{fullWords, mostTiles}
+use Rattle.run.specs.Grader.State.{view, columns}
+use Rattle.certificate.proofs.CallColumnLaws.{answered-as-drive, answered-as-settle}
+use Rattle.run.specs.Grader.Widths.{fullWords, mostTiles}
 use borrow.Author.Needs.{needs}
 use Rattle.certificate.proofs.replay.reply.Statement.{statement}
 use Rattle.certificate.proofs.replay.reply.Tie as tie

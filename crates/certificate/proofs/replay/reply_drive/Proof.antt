@@ -1,8 +1,8 @@
 -- `certificate::replay::reply_drive` meets its contract. Assumes nothing.
-use Rattle.run.specs.State.{view}
+use Rattle.run.specs.Grader.State.{view}
 -- `certificate::replay::reply_drive` meets its contract. Assumes nothing.
-use Rattle.certificate.proofs.ReplayLaws.{answered-drive}
-use Rattle.run.specs.Widths.{fullWords, mostTiles}
+use Rattle.certificate.proofs.CallColumnLaws.{answered-drive}
+use Rattle.run.specs.Grader.Widths.{fullWords, mostTiles}
 use borrow.Author.Needs.{needs}
 use Rattle.certificate.proofs.replay.reply_drive.Statement.{statement}
 use Rattle.certificate.proofs.replay.reply_drive.Tie as tie

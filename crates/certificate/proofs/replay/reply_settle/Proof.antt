@@ -1,7 +1,7 @@
 -- `certificate::replay::reply_settle` meets its contract. Assumes nothing.
-use Rattle.run.specs.State.{view}
-use Rattle.certificate.proofs.ReplayLaws.{answered-settle}
-use Rattle.run.specs.Widths.{fullWords, mostTiles}
+use Rattle.run.specs.Grader.State.{view}
+use Rattle.certificate.proofs.CallColumnLaws.{answered-settle}
+use Rattle.run.specs.Grader.Widths.{fullWords, mostTiles}
 use borrow.Author.Needs.{needs}
 use Rattle.certificate.proofs.replay.reply_settle.Statement.{statement}
 use Rattle.certificate.proofs.replay.reply_settle.Tie as tie

@@ -1,6 +1,6 @@
 -- `certificate::replay::room_for` meets its contract. Assumes nothing.
 use mathlib.Core.Path.{refl}
-use Rattle.certificate.specs.Batch.{roomFor}
+use Rattle.certificate.specs.Grader.Replay.{roomFor}
 use borrow.Author.Needs.{needs}
 use Rattle.certificate.proofs.replay.room_for.Statement.{statement}
 use Rattle.certificate.proofs.replay.room_for.Tie as tie

@@ -1,7 +1,7 @@
 -- `course::cell::cell_at` meets its contract. Assumes nothing.
 use Rattle.course.proofs.Cells.{cell-high}
-use Rattle.course.specs.Constants.{gridDim}
-use Rattle.course.specs.Cell.{cellAt}
+use Rattle.course.specs.Rules.Constants.{gridDim}
+use Rattle.course.specs.Rules.Cell.{cellAt}
 use native.Mathlib.Omega.{arith}
 use Prim.Native.Nat.{ℕ, _+_, _*_}
 use mathlib.Core.Path.{ap₂}

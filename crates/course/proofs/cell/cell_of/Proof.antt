@@ -1,9 +1,9 @@
 -- `course::cell::cell_of` meets its contract. Assumes nothing.
 use mathlib.Core.Path.{_∙_}
 use lib.Ieee.{ofBits, div, ofInt}
-use Rattle.course.specs.Arithmetic.{natural}
-use Rattle.course.specs.Constants.{playfield, scale, gridCell}
-use Rattle.course.specs.Cell.{along}
+use Rattle.course.specs.Rules.Arithmetic.{natural}
+use Rattle.course.specs.Rules.Constants.{playfield, scale, gridCell}
+use Rattle.course.specs.Rules.Cell.{along}
 use Rattle.course.proofs.Cells.{at-top, at-zero, at-middle, call-fits}
 use Rattle.course.proofs.cell.cell_of.Statement.{statement}
 use Rattle.course.proofs.cell.cell_of.Tie as tie

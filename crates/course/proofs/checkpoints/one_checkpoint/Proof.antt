@@ -1,5 +1,5 @@
 -- `course::checkpoints::one_checkpoint` meets its contract. Assumes nothing.
-use Rattle.course.specs.Checkpoints.{checkpointOf, baseOf}
+use Rattle.course.specs.Rules.Checkpoints.{checkpointOf, baseOf}
 use Rattle.course.proofs.Literals.{far-rad-bits, tau-bits, twelve, natural-is}
 use borrow.Author.Tests.{eq-eqb, ne-eqb}
 use borrow.Author.Needs.{needs}

@@ -1,6 +1,6 @@
 -- `course::checkpoints::spot` meets its contract. Assumes nothing.
 use Rattle.course.proofs.Turned.{cos-is, sin-is}
-use Rattle.course.specs.Checkpoints.{spotOf}
+use Rattle.course.specs.Rules.Checkpoints.{spotOf}
 use borrow.Author.Needs.{needs}
 use Rattle.course.proofs.checkpoints.spot.Statement.{statement}
 use Rattle.course.proofs.checkpoints.spot.Tie as tie

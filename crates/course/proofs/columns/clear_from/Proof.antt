@@ -1,6 +1,6 @@
 -- `course::columns::clear_from` meets its contract. Assumes nothing.
 use Rattle.course.proofs.ColumnLaws.{Grown, cleared-none, cleared}
-use Rattle.course.specs.Arithmetic.{nought}
+use Rattle.course.specs.Rules.Arithmetic.{nought}
 use mathlib.Core.List.{List, [], _∷_, _++_, append-assoc}
 use lib.ListN.{length, getD, take, drop, set, replicate}
 use Prim.Native.Nat.{ℕ, zero, suc, _+_, _-_, _*_, _/_, _%_, _≤_, _<_}

@@ -1,5 +1,5 @@
 -- `course::curbs::after` meets its contract. Assumes nothing.
-use Rattle.course.specs.Curbs.{afterOf}
+use Rattle.course.specs.Grader.Curbs.{afterOf}
 use borrow.Author.Tests.{lt-ltb, le-ltb}
 use mathlib.Core.List.{List, [], _∷_, _++_, append-assoc}
 use lib.ListN.{length, getD, take, drop, set, replicate}

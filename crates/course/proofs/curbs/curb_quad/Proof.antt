@@ -1,6 +1,6 @@
 -- `course::curbs::curb_quad` meets its contract. Assumes nothing.
 use Rattle.course.proofs.Literals.{width-bits, outer-bits}
-use Rattle.course.specs.Curbs.{curbQuad}
+use Rattle.course.specs.Grader.Curbs.{curbQuad}
 use borrow.Author.Needs.{needs}
 use Rattle.course.proofs.curbs.curb_quad.Statement.{statement}
 use Rattle.course.proofs.curbs.curb_quad.Tie as tie

@@ -1,7 +1,7 @@
 -- `course::curbs::curb_room` meets its contract, which is the code's own term. Assumes nothing.
 use mathlib.Core.Path.{refl}
 use borrow.Author.Needs.{needs}
-use Rattle.course.specs.Curbs.{curbRoom}
+use Rattle.course.specs.Grader.Curbs.{curbRoom}
 use Rattle.course.proofs.curbs.curb_room.Statement.{statement}
 use Rattle.course.proofs.curbs.curb_room.Tie as tie
 

@@ -1,6 +1,6 @@
 -- `course::curbs::edge_of` meets its contract. Assumes nothing.
 use Rattle.course.proofs.Turned.{cos-is, sin-is}
-use Rattle.course.specs.Curbs.{edgeOf}
+use Rattle.course.specs.Grader.Curbs.{edgeOf}
 use Rattle.course.proofs.curbs.edge_of.Statement.{statement}
 use Rattle.course.proofs.curbs.edge_of.Tie as tie
 use Rattle.course.proofs.curbs.edge_of.Reads as reads

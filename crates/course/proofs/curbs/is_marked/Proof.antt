@@ -1,5 +1,5 @@
 -- `course::curbs::is_marked` meets its contract. Assumes nothing.
-use Rattle.course.specs.Curbs.{markAt}
+use Rattle.course.specs.Grader.Curbs.{markAt}
 use mathlib.Core.List.{List, [], _∷_, _++_, append-assoc}
 use lib.ListN.{length, getD, take, drop, set, replicate}
 use Prim.Native.Nat.{ℕ, zero, suc, _+_, _-_, _*_, _/_, _%_, _≤_, _<_}

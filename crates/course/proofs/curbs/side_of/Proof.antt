@@ -1,6 +1,6 @@
 -- `course::curbs::side_of` meets its contract. Assumes nothing.
 use Rattle.course.proofs.Literals.{one-bits}
-use Rattle.course.specs.Curbs.{sideOf}
+use Rattle.course.specs.Grader.Curbs.{sideOf}
 use mathlib.Core.List.{List, [], _∷_, _++_, append-assoc}
 use lib.ListN.{length, getD, take, drop, set, replicate}
 use Prim.Native.Nat.{ℕ, zero, suc, _+_, _-_, _*_, _/_, _%_, _≤_, _<_}

@@ -1,8 +1,8 @@
 -- `course::curbs::write_curbs` meets its contract. Assumes nothing.
 use Rattle.course.proofs.CurbLaws.{curbs-at}
 use Rattle.course.proofs.CurbLaws.{curbs-none, curbs-more}
-use Rattle.course.specs.Lengths.{mostPoints, quadNumbers}
-use Rattle.course.specs.CourseSteps.{CurbsTo}
+use Rattle.course.specs.Rules.Lengths.{mostPoints, quadNumbers}
+use Rattle.course.specs.Steps.Tiles.{CurbsTo}
 use mathlib.Core.List.{List, [], _∷_, _++_, append-assoc}
 use lib.ListN.{length, getD, take, drop, set, replicate}
 use Prim.Native.Nat.{ℕ, zero, suc, _+_, _-_, _*_, _/_, _%_, _≤_, _<_}

@@ -49,9 +49,9 @@ use denote.Triple.Spec.{Meets, tripleOf}
 use denote.Triple.Table.{entered}
 use denote.Triple.Walked.{says, Stays, stay-none, stay-none-slice, walkOf, goes-none, goes-none-slice, Walks, ends-at, walked, walk-meets}
 use denote.Exit.{yes}
-use Rattle.course.specs.Constants.{tau}
-use Rattle.course.specs.Finder.{scan, searched, destOf}
-use Rattle.course.specs.LaySteps.{noCheckpoint, foundAs}
+use Rattle.course.specs.Rules.Constants.{tau}
+use Rattle.course.specs.Rules.Finder.{scan, searched, destOf}
+use Rattle.course.specs.Steps.Lay.{noCheckpoint, foundAs}
 use Rattle.course.specs.declared.checkpoints.Checkpoint.{Checkpoint}
 use Rattle.course.specs.declared.finder.Found.{Found}
 use Rattle.course.specs.declared.finder.Found.the-variants.{At, Refused}

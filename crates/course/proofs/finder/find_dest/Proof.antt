@@ -4,7 +4,7 @@ use mathlib.Core.Path.{sym, _∙_, subst, ap}
 use Prim.Native.Nat.{ℕ, _<_}
 use lib.ListN.{length}
 use native.Mathlib.Omega.{arith}
-use Rattle.course.specs.LaySteps.{foundAs}
+use Rattle.course.specs.Steps.Lay.{foundAs}
 use Rattle.course.proofs.FinderSteps.{In, dest-in}
 use Rattle.course.proofs.finder.find_dest.Statement.{statement}
 use Rattle.course.proofs.finder.find_dest.Tie as tie

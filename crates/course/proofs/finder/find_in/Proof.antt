@@ -49,8 +49,8 @@ use denote.Triple.Spec.{Meets, tripleOf}
 use denote.Triple.Table.{entered, cited}
 use denote.Triple.Walked.{says, Stays, stay-none, walkOf, goes-none, Walks, ends-at, walked, walk-meets}
 use denote.Exit.{yes}
-use Rattle.course.specs.Finder.{destOf}
-use Rattle.course.specs.LaySteps.{foundAs}
+use Rattle.course.specs.Rules.Finder.{destOf}
+use Rattle.course.specs.Steps.Lay.{foundAs}
 use Rattle.course.specs.declared.checkpoints.Checkpoint.{Checkpoint}
 use Rattle.course.specs.declared.finder.Found.{Found}
 use Rattle.course.proofs.checkpoints.Checkpoint as T

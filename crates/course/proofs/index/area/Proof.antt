@@ -5,7 +5,7 @@ use Prim.Native.Nat.{ℕ, _+_, _*_, _-_, _≤_, _<_, max}
 use mathlib.Core.Path.{_≡_, refl, sym, ap, _∙_, subst}
 use native.Mathlib.Omega.{arith}
 use lib.ListN.{length, getD, set}
-use Rattle.course.specs.Rect.{areaOf}
+use Rattle.course.specs.Rules.Rect.{areaOf}
 use borrow.Author.Needs.{needs}
 use Rattle.course.proofs.index.area.Statement.{statement}
 use Rattle.course.proofs.index.area.Tie as tie

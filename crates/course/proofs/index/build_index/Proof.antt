@@ -3,7 +3,7 @@ use mathlib.Core.Path.{sym, _∙_}
 use native.Mathlib.Omega.{arith}
 use lib.Seq.{length-take-le}
 use borrow.Author.Needs.{needs}
-use Rattle.course.specs.Lengths.{offsetCount}
+use Rattle.course.specs.Rules.Lengths.{offsetCount}
 use Rattle.course.proofs.CourseRects.{built-short}
 use Rattle.course.proofs.PackedRects.{rects-in, needed-packed, packed-laid}
 use Rattle.course.proofs.index.build_index.Statement.{statement}

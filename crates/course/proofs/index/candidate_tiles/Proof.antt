@@ -1,5 +1,5 @@
 -- `course::index::candidate_tiles` meets its contract. Assumes nothing.
-use Rattle.course.specs.Index.{lookup}
+use Rattle.course.specs.Grader.Index.{lookup}
 use mathlib.Core.Path.{ap, _∙_}
 use borrow.Author.Needs.{needs}
 use Rattle.course.proofs.index.candidate_tiles.Statement.{statement}

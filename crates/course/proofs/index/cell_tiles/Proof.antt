@@ -1,6 +1,6 @@
 -- `course::index::cell_tiles` meets its contract. Assumes nothing.
 use Rattle.course.proofs.IndexLaws.{Part, part-facts, lookup-none, lookup-part}
-use Rattle.course.specs.Index.{partOk}
+use Rattle.course.specs.Grader.Index.{partOk}
 use borrow.Author.Tests.{not-false, not-true}
 use lib.ListN.{length, getD, take, drop}
 use native.Mathlib.Omega.{arith}

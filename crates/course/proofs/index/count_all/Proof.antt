@@ -1,13 +1,13 @@
 -- `course::index::count_all` meets its contract. Assumes nothing.
 use Rattle.course.specs.declared.index.Rect.{Rect}
-use Rattle.course.specs.Index.{listed}
+use Rattle.course.specs.Grader.Index.{listed}
 use Prim.Native.Nat.{ℕ, _+_, _*_, _-_, _≤_, _<_, max}
 use mathlib.Core.Path.{_≡_, refl, sym, ap, _∙_, subst}
 use native.Mathlib.Omega.{arith}
 use lib.ListN.{length, getD, set}
-use Rattle.course.specs.Rect.{holds}
-use Rattle.course.specs.IndexSteps.{Small, heldIn}
-use Rattle.course.specs.IndexSteps.{Counts, RectCounted}
+use Rattle.course.specs.Rules.Rect.{holds}
+use Rattle.course.specs.Steps.Index.{Small, heldIn}
+use Rattle.course.specs.Steps.Index.{Counts, RectCounted}
 use Rattle.course.proofs.TileSteps.{counts-more, counts-small}
 use borrow.Author.Needs.{needs}
 use Rattle.course.proofs.index.count_all.Statement.{statement}

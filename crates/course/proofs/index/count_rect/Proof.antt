@@ -1,7 +1,7 @@
 -- `course::index::count_rect` meets its contract. Assumes nothing.
-use Rattle.course.specs.Constants.{gridDim}
-use Rattle.course.specs.Lengths.{mostPoints, offsetCount}
-use Rattle.course.specs.IndexSteps.{Inside}
+use Rattle.course.specs.Rules.Constants.{gridDim}
+use Rattle.course.specs.Rules.Lengths.{mostPoints, offsetCount}
+use Rattle.course.specs.Steps.Index.{Inside}
 use Prim.Native.Nat.{ℕ, _+_, _*_, _-_, _≤_, _<_, min}
 use mathlib.Core.Path.{_≡_, refl}
 use native.Mathlib.Omega.{arith}

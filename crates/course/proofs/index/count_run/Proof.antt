@@ -3,8 +3,8 @@ use Prim.Native.Nat.{_-_, _≤_, _<_, max}
 use mathlib.Core.Path.{refl}
 use native.Mathlib.Omega.{arith}
 use lib.ListN.{getD}
-use Rattle.course.specs.Lengths.{mostPoints}
-use Rattle.course.specs.IndexSteps.{Inside, RunCounted}
+use Rattle.course.specs.Rules.Lengths.{mostPoints}
+use Rattle.course.specs.Steps.Index.{Inside, RunCounted}
 use Rattle.course.proofs.CellRuns.{counted-none, counted-more, counted-all}
 use borrow.Author.Needs.{needs}
 use Rattle.course.proofs.index.count_run.Statement.{statement}

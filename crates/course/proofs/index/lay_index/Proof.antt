@@ -5,8 +5,8 @@ use mathlib.Core.List.{List}
 use native.Mathlib.Omega.{arith}
 use lib.ListN.{length, getD}
 use lib.ListN.{replicate, length-replicate, getD-replicate}
-use Rattle.course.specs.Index.{offsetsOf, indexOf}
-use Rattle.course.specs.IndexSteps.{Counts, Placed, Summed, heldIn}
+use Rattle.course.specs.Grader.Index.{offsetsOf, indexOf}
+use Rattle.course.specs.Steps.Index.{Counts, Placed, Summed, heldIn}
 use Rattle.course.proofs.TileSteps.{counts-none, counts-small, placed-none, placed-offsets, placed-index}
 use borrow.Author.Needs.{needs}
 use Rattle.course.proofs.index.lay_index.Statement.{statement}

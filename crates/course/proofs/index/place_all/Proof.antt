@@ -4,9 +4,9 @@ use Prim.Native.Nat.{ℕ, _+_, _*_, _-_, _≤_, _<_, max}
 use mathlib.Core.Path.{_≡_, refl, sym, ap, _∙_, subst}
 use native.Mathlib.Omega.{arith}
 use lib.ListN.{length, getD, set}
-use Rattle.course.specs.Rect.{holds}
-use Rattle.course.specs.IndexSteps.{Small, Placed, heldIn}
-use Rattle.course.specs.Lengths.{mostPoints, cellCount}
+use Rattle.course.specs.Rules.Rect.{holds}
+use Rattle.course.specs.Steps.Index.{Small, Placed, heldIn}
+use Rattle.course.specs.Rules.Lengths.{mostPoints, cellCount}
 use Rattle.course.proofs.TileSteps.{placed-near, placed-more}
 use Rattle.course.proofs.IndexLaws.{start-small}
 use borrow.Author.Needs.{needs}

@@ -1,7 +1,7 @@
 -- `course::index::place_rect` meets its contract. Assumes nothing.
-use Rattle.course.specs.Constants.{gridDim}
-use Rattle.course.specs.Lengths.{mostPoints, cellCount}
-use Rattle.course.specs.IndexSteps.{Inside}
+use Rattle.course.specs.Rules.Constants.{gridDim}
+use Rattle.course.specs.Rules.Lengths.{mostPoints, cellCount}
+use Rattle.course.specs.Steps.Index.{Inside}
 use Rattle.course.proofs.RowSweeps.{row-holds}
 use Prim.Native.Nat.{ℕ, _+_, _*_, _-_, _≤_, _<_}
 use mathlib.Core.Path.{_≡_, refl, ap}

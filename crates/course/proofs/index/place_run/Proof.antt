@@ -3,8 +3,8 @@ use Prim.Native.Nat.{_*_, _-_, _≤_, _<_, max}
 use mathlib.Core.Path.{refl}
 use native.Mathlib.Omega.{arith}
 use lib.ListN.{length, getD}
-use Rattle.course.specs.Lengths.{mostPoints, cellCount}
-use Rattle.course.specs.IndexSteps.{Inside, RunPlaced}
+use Rattle.course.specs.Rules.Lengths.{mostPoints, cellCount}
+use Rattle.course.specs.Steps.Index.{Inside, RunPlaced}
 use Rattle.course.proofs.CellRuns.{placed-none, placed-more, placed-all}
 use borrow.Author.Needs.{needs}
 use Rattle.course.proofs.index.place_run.Statement.{statement}

@@ -1,7 +1,7 @@
 -- `course::index::rect_at` meets its contract. Assumes nothing.
 use mathlib.Core.Path.{refl}
 use borrow.Author.Needs.{needs}
-use Rattle.course.specs.IndexSteps.{rectIn}
+use Rattle.course.specs.Steps.Index.{rectIn}
 use Rattle.course.proofs.index.rect_at.Statement.{statement}
 use Rattle.course.proofs.index.rect_at.Tie as tie
 

@@ -1,9 +1,9 @@
 -- `course::index::rect_of` meets its contract. Assumes nothing.
 use mathlib.Core.Path.{ap, _∙_}
 use Rattle.course.proofs.CourseRects.{rect-same}
-use Rattle.course.specs.Tiles.{tileOf}
-use Rattle.course.specs.Rect.{leastX, leastY, greatestX, greatestY, rectOf}
-use Rattle.course.specs.Cell.{cellOf}
+use Rattle.course.specs.Rules.Tiles.{tileOf}
+use Rattle.course.specs.Rules.Rect.{leastX, leastY, greatestX, greatestY, rectOf}
+use Rattle.course.specs.Rules.Cell.{cellOf}
 use borrow.Author.Needs.{needs}
 use Rattle.course.proofs.index.rect_of.Statement.{statement}
 use Rattle.course.proofs.index.rect_of.Tie as tie

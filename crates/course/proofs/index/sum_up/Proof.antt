@@ -3,8 +3,8 @@ use Prim.Native.Nat.{ℕ, _+_, _*_, _-_, _≤_}
 use mathlib.Core.Path.{_≡_, refl, sym, subst}
 use native.Mathlib.Omega.{arith}
 use lib.ListN.{length, getD, set}
-use Rattle.course.specs.Lengths.{mostPoints, offsetCount}
-use Rattle.course.specs.IndexSteps.{sumBelow}
+use Rattle.course.specs.Rules.Lengths.{mostPoints, offsetCount}
+use Rattle.course.specs.Steps.Index.{sumBelow}
 use Rattle.course.proofs.CellRuns.{SummedTo, sum-none, sum-more, sum-small, summed-more}
 use borrow.Author.Needs.{needs}
 use Rattle.course.proofs.index.sum_up.Statement.{statement}

@@ -1,9 +1,9 @@
 -- `course::index::total` meets its contract. Assumes nothing.
-use Rattle.course.specs.IndexSteps.{Small, Packs, RectsPacked}
+use Rattle.course.specs.Steps.Index.{Small, Packs, RectsPacked}
 use Prim.Native.Nat.{ℕ, _+_, _-_, _≤_}
 use mathlib.Core.Path.{_≡_, sym, ap, _∙_, subst}
 use native.Mathlib.Omega.{arith}
-use Rattle.course.specs.Rect.{needed, areaOf}
+use Rattle.course.specs.Rules.Rect.{needed, areaOf}
 use Rattle.course.proofs.CourseRects.{rect-small, needed-none, needed-more, needed-small}
 use Rattle.course.specs.declared.index.Rect.{Rect}
 use Rattle.course.proofs.PackedRects.{packed-none, packed-more}

@@ -1,5 +1,5 @@
 -- `course::lay::lay` meets its contract. Assumes nothing.
-use Rattle.course.specs.Constants.{maxAttempts}
+use Rattle.course.specs.Rules.Constants.{maxAttempts}
 use borrow.Author.Needs.{needs}
 use Rattle.course.proofs.lay.lay.Statement.{statement}
 use Rattle.course.proofs.lay.lay.Tie as tie

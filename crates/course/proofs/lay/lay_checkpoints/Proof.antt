@@ -3,8 +3,9 @@ use mathlib.Core.Path.{_≡_, refl, sym, _∙_}
 use mathlib.Core.Bool.{true}
 use borrow.Author.Tests.{not-false, not-true}
 use borrow.Author.Needs.{needs}
-use Rattle.course.specs.Lent.{Lent, lent}
-use Rattle.course.specs.Lay.{courseOn, layOnCall}
+use Rattle.course.specs.Grader.Outcome.{CourseColumns, lent}
+use Rattle.course.specs.Rules.Lay.{courseOn}
+use Rattle.course.specs.Grader.LayCall.{layOnCall}
 use Rattle.course.proofs.CourseSizes.{on-sized}
 use Rattle.course.proofs.LaidColumns.{room}
 use Rattle.course.proofs.LayLaws.{roomy, refused-short, Ready, finish-ready, laid}
@@ -42,7 +43,7 @@ abbrev points-at : tie.After-slice-known18 → tie.After-generate-on
 points-at c = generated (lent-on (finish-at c .before))
 
 -- The columns as they were lent.
-abbrev columns-lent : tie.Else1 → Lent
+abbrev columns-lent : tie.Else1 → CourseColumns
 columns-lent c =
     let a = entry (asked (c .before)) .args in
     lent (a .alpha .now) (a .beta .now) (a .x .now) (a .y .now) (a .tiles .now) (a .offsets .now) (a .list .now)

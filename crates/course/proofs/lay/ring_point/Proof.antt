@@ -1,7 +1,7 @@
 -- `course::lay::ring_point` meets its contract. Assumes nothing.
 use Rattle.course.proofs.Literals.{hundred, tau-bits, rad-bits, natural-is}
 use Rattle.course.proofs.Turned.{cos-is, sin-is}
-use Rattle.course.specs.Lay.{ringPoint}
+use Rattle.course.specs.Rules.Lay.{ringPoint}
 use borrow.Author.Needs.{needs}
 use Rattle.course.proofs.lay.ring_point.Statement.{statement}
 use Rattle.course.proofs.lay.ring_point.Tie as tie

@@ -5,8 +5,8 @@ use borrow.Author.Needs.{needs}
 use native.Mathlib.Omega.{arith}
 use mathlib.Core.Path.{_≡_, ap, _∙_}
 use Prim.Native.Nat.{ℕ, _+_, _-_}
-use Rattle.course.specs.Tiles.{betas, xs, ys}
-use Rattle.course.specs.Lay.{ringOf}
+use Rattle.course.specs.Rules.Tiles.{betas, xs, ys}
+use Rattle.course.specs.Rules.Lay.{ringOf}
 use Rattle.course.proofs.Generating.{Ringing, ring-none, ring-more}
 use Rattle.course.proofs.lay.ring_points.Statement.{statement}
 use Rattle.course.proofs.lay.ring_points.Tie as tie

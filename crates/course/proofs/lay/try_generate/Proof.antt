@@ -2,7 +2,7 @@
 use Rattle.course.proofs.Attempts.{drawn-front}
 use mathlib.Core.Path.{ap}
 use Rattle.course.specs.declared.checkpoints.Drawn.{Drawn}
-use Rattle.course.specs.LaySteps.{drawnOf}
+use Rattle.course.specs.Steps.Lay.{drawnOf}
 use borrow.Author.Needs.{needs}
 use Rattle.course.proofs.lay.try_generate.Statement.{statement}
 use Rattle.course.proofs.lay.try_generate.Tie as tie

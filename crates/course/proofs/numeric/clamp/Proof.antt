@@ -1,5 +1,5 @@
 -- `course::numeric::clamp` meets its contract. Assumes nothing.
-use Rattle.course.specs.Numeric.{clampOf}
+use Rattle.course.specs.Rules.Numeric.{clampOf}
 use Rattle.course.proofs.numeric.clamp.Statement.{statement}
 use Rattle.course.proofs.numeric.clamp.Tie as tie
 

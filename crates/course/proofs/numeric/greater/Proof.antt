@@ -1,6 +1,6 @@
 -- `course::numeric::greater` meets its contract. Assumes nothing.
 use Rattle.course.proofs.Signs.{number-of-lt-right}
-use Rattle.course.specs.Numeric.{maxOf}
+use Rattle.course.specs.Rules.Numeric.{maxOf}
 use Rattle.course.proofs.numeric.greater.Statement.{statement}
 use Rattle.course.proofs.numeric.greater.Tie as tie
 use Rattle.course.proofs.numeric.greater.Reads as reads

@@ -1,5 +1,5 @@
 -- `course::numeric::inside` meets its contract. Assumes nothing.
-use Rattle.course.specs.Numeric.{within}
+use Rattle.course.specs.Rules.Numeric.{within}
 use Rattle.course.proofs.numeric.inside.Statement.{statement}
 use Rattle.course.proofs.numeric.inside.Tie as tie
 

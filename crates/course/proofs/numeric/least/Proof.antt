@@ -3,9 +3,9 @@ use borrow.Author.Needs.{needs}
 use mathlib.Core.Path.{_≡_, refl, ap, _∙_}
 use mathlib.Core.Bool.{false}
 use lib.Ieee.{Float, ofBits, round, neg, isNan}
-use Rattle.course.specs.Arithmetic.{decimal}
-use Rattle.course.specs.Constants.{f64Max}
-use Rattle.course.specs.Numeric.{minOf, leastOf}
+use Rattle.course.specs.Rules.Arithmetic.{decimal}
+use Rattle.course.specs.Rules.Constants.{f64Max}
+use Rattle.course.specs.Rules.Numeric.{minOf, leastOf}
 use Rattle.course.proofs.numeric.least.Statement.{statement}
 use Rattle.course.proofs.numeric.least.Tie as tie
 use Rattle.course.proofs.numeric.least.Reads as reads

@@ -1,6 +1,6 @@
 -- `course::numeric::lesser` meets its contract. Assumes nothing.
 use Rattle.course.proofs.Signs.{number-of-lt}
-use Rattle.course.specs.Numeric.{minOf}
+use Rattle.course.specs.Rules.Numeric.{minOf}
 use Rattle.course.proofs.numeric.lesser.Statement.{statement}
 use Rattle.course.proofs.numeric.lesser.Tie as tie
 use Rattle.course.proofs.numeric.lesser.Reads as reads

@@ -1,7 +1,7 @@
 -- `course::numeric::max` meets its contract. Assumes nothing.
 use mathlib.Core.Path.{sym, _∙_}
 use Rattle.course.proofs.Signs.{nan-test}
-use Rattle.course.specs.Numeric.{maxOf}
+use Rattle.course.specs.Rules.Numeric.{maxOf}
 use Rattle.course.proofs.numeric.max.Statement.{statement}
 use Rattle.course.proofs.numeric.max.Tie as tie
 

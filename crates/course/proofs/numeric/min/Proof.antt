@@ -1,7 +1,7 @@
 -- `course::numeric::min` meets its contract. Assumes nothing.
 use mathlib.Core.Path.{sym, _∙_}
 use Rattle.course.proofs.Signs.{nan-test}
-use Rattle.course.specs.Numeric.{minOf}
+use Rattle.course.specs.Rules.Numeric.{minOf}
 use Rattle.course.proofs.numeric.min.Statement.{statement}
 use Rattle.course.proofs.numeric.min.Tie as tie
 

@@ -1,6 +1,6 @@
 -- `course::numeric::signum` meets its contract. Assumes nothing.
 use lib.Ieee.{ofBits, ofInt}
-use Rattle.course.specs.Arithmetic.{natural}
+use Rattle.course.specs.Rules.Arithmetic.{natural}
 use Rattle.course.proofs.Signs.{sign-nan, sign-below, sign-minus, sign-plus}
 use Rattle.course.proofs.numeric.signum.Statement.{statement}
 use Rattle.course.proofs.numeric.signum.Tie as tie

@@ -1,7 +1,7 @@
 -- `course::points::all_good` meets its contract. Assumes nothing.
 use Rattle.course.proofs.CourseTiles.{good-none, good-more}
-use Rattle.course.specs.Points.{goodPoint, allGood}
-use Rattle.course.specs.Tiles.{pointsOf}
+use Rattle.course.specs.Grader.Points.{goodPoint, allGood}
+use Rattle.course.specs.Rules.Tiles.{pointsOf}
 use mathlib.Core.Bool.{_&&_}
 use mathlib.Core.List.{List, [], _∷_, _++_, append-assoc}
 use lib.ListN.{length, getD, take, drop, set, replicate}

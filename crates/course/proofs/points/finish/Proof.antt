@@ -5,8 +5,8 @@ use lib.ListN.{length}
 use lib.Seq.{length-take-le}
 use native.Mathlib.Omega.{arith}
 use borrow.Author.Needs.{needs}
-use Rattle.course.specs.Lent.{Lent, lent}
-use Rattle.course.proofs.LaidColumns.{Done, done-short, done-laid, need-small}
+use Rattle.course.specs.Grader.Outcome.{CourseColumns, lent}
+use Rattle.course.proofs.LaidColumns.{Finished, done-short, done-laid, need-small}
 use Rattle.course.proofs.points.finish.Statement.{statement}
 use Rattle.course.proofs.points.finish.Tie as tie
 
@@ -122,12 +122,12 @@ clear-from-requires-5 c κs =
     (omega arith, omega (arith, index-built c .build-index .kept, entry-before (t .before) .pre .1 .alpha))
 
 -- The columns as they were lent, and as the calls left them.
-abbrev columns-lent : tie.After-struct-known → Lent
+abbrev columns-lent : tie.After-struct-known → CourseColumns
 columns-lent c =
     let a = entry-at c .args in
     lent (a .alpha .now) (a .beta .now) (a .x .now) (a .y .now) (a .tiles .now) (a .offsets .now) (a .list .now)
 
-abbrev columns-left : tie.After-struct-known → Lent
+abbrev columns-left : tie.After-struct-known → CourseColumns
 columns-left c =
     let i = index-at c .build-index .last in
     lent (alpha-cleared c .clear-from5 .last .0) (beta-at c .clear-from .last .0) (x-at c .clear-from2 .last .0)
@@ -136,7 +136,7 @@ columns-left c =
 -- what the code did
 finished : (c : tie.After-struct-known) →
     let i = index-at c .build-index in
-    Done (entry-at c .args .m) (columns-lent c) (entry-at c .args .n) (columns-left c)
+    Finished (entry-at c .args .m) (columns-lent c) (entry-at c .args .n) (columns-left c)
     (i .last .1 .1 .0) (written-at c .write-tiles .last .1 .1 .1 .1 .0) (i .result .short) (i .result .need)
 finished c =
     record {

@@ -2,7 +2,7 @@
 use borrow.Author.Needs.{needs}
 use borrow.Author.Tests.{eq-eqb, ne-eqb, lt-ltb, le-ltb, not-false}
 use mathlib.Core.Path.{_≡_, sym, _∙_}
-use Rattle.course.specs.Points.{givenCause}
+use Rattle.course.specs.Grader.Points.{givenCause}
 use Rattle.course.proofs.LaidColumns.{given-long}
 use Rattle.course.proofs.points.given_cause.Statement.{statement}
 use Rattle.course.proofs.points.given_cause.Tie as tie

@@ -1,6 +1,6 @@
 -- `course::points::good_point` meets its contract. Assumes nothing.
 use Rattle.course.proofs.Literals.{sixteen, thousand}
-use Rattle.course.specs.Points.{goodPoint}
+use Rattle.course.specs.Grader.Points.{goodPoint}
 use mathlib.Core.List.{List, [], _∷_, _++_, append-assoc}
 use lib.ListN.{length, getD, take, drop, set, replicate}
 use Prim.Native.Nat.{ℕ, zero, suc, _+_, _-_, _*_, _/_, _%_, _≤_, _<_}

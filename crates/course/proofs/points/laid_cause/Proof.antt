@@ -1,5 +1,5 @@
 -- `course::points::laid_cause` meets its contract. Assumes nothing.
-use Rattle.course.specs.Lent.{laidCauseOf}
+use Rattle.course.specs.Grader.Outcome.{laidCauseOf}
 use borrow.Author.Needs.{needs}
 use Rattle.course.proofs.points.laid_cause.Statement.{statement}
 use Rattle.course.proofs.points.laid_cause.Tie as tie

@@ -1,5 +1,5 @@
 -- `course::points::laid_values` meets its contract. Assumes nothing.
-use Rattle.course.specs.Lent.{laidValuesOf}
+use Rattle.course.specs.Grader.Outcome.{laidValuesOf}
 use borrow.Author.Needs.{needs}
 use Rattle.course.proofs.points.laid_values.Statement.{statement}
 use Rattle.course.proofs.points.laid_values.Tie as tie

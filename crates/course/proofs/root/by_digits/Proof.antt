@@ -5,7 +5,7 @@ use native.Mathlib.Nat.{mul-one, mul-left-comm, mul-le-mul-left, pow-succ', pow-
 use native.Mathlib.Numerals.{add-one}
 use native.Mathlib.Omega.{arith}
 use lib.Dec.{lit<}
-use Rattle.course.specs.RootSteps.{Leaves}
+use Rattle.course.specs.Steps.Root.{Leaves}
 use Rattle.course.proofs.WholeRoot.{root-below}
 use Rattle.course.proofs.root.by_digits.Statement.{statement}
 use Rattle.course.proofs.root.by_digits.Tie as tie

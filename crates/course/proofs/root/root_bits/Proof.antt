@@ -3,7 +3,7 @@ use mathlib.Core.Path.{_≡_}
 use Prim.Native.Nat.{ℕ, _+_, _-_, _*_, _/_, _%_, _≤_}
 use native.Mathlib.Omega.{arith}
 use borrow.Author.Needs.{needs}
-use Rattle.course.specs.RootSteps.{significand, power}
+use Rattle.course.specs.Steps.Root.{significand, power}
 use Rattle.course.proofs.RootScale.{reaches, shifted, root-small, rounded, bits-at}
 use Rattle.course.proofs.root.root_bits.Statement.{statement}
 use Rattle.course.proofs.root.root_bits.Tie as tie

@@ -4,7 +4,7 @@ use Prim.Native.Nat.{ℕ, _+_, _-_, _*_, _/_, _%_, _^_, _≤_, _<_}
 use native.Mathlib.Nat.{div-one}
 use native.Mathlib.Omega.{arith}
 use lib.Pow.{shr-shr, shr-le}
-use Rattle.course.specs.RootSteps.{Leaves}
+use Rattle.course.specs.Steps.Root.{Leaves}
 use Rattle.course.proofs.WholeRoot.{root-below}
 use Rattle.course.proofs.root.root_of.Statement.{statement}
 use Rattle.course.proofs.root.root_of.Tie as tie

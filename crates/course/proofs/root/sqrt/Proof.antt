@@ -5,7 +5,7 @@ use lib.Dec.{T}
 use lib.Ieee.{binary64, fits, toBits}
 use lib.Ieee.Compare.{differs-from-itself}
 use borrow.Author.Needs.{needs}
-use Rattle.course.specs.Root.{nearestRoot}
+use Rattle.course.specs.Rules.Root.{nearestRoot}
 use Rattle.course.proofs.RootFields.{way-nan, no-nan, way-zero, way-top, way-negative, way-root, makes-nan, below-inf}
 use Rattle.course.proofs.root.sqrt.Statement.{statement}
 use Rattle.course.proofs.root.sqrt.Tie as tie

@@ -1,5 +1,5 @@
 -- `course::step::counted` meets its contract. Assumes nothing.
-use Rattle.course.specs.Step.{lapsOf}
+use Rattle.course.specs.Rules.Step.{lapsOf}
 use borrow.Author.Needs.{needs}
 use Rattle.course.proofs.step.counted.Statement.{statement}
 use Rattle.course.proofs.step.counted.Tie as tie

@@ -1,6 +1,6 @@
 -- `course::step::landed` meets its contract. Assumes nothing.
 use Rattle.course.proofs.Literals.{sixteen, step-bits, half-bits}
-use Rattle.course.specs.Step.{landedOf}
+use Rattle.course.specs.Rules.Step.{landedOf}
 use borrow.Author.Needs.{needs}
 use Rattle.course.proofs.step.landed.Statement.{statement}
 use Rattle.course.proofs.step.landed.Tie as tie

@@ -1,5 +1,5 @@
 -- `course::step::lapped` meets its contract. Assumes nothing.
-use Rattle.course.specs.Step.{walkLap}
+use Rattle.course.specs.Rules.Step.{walkLap}
 use Rattle.course.proofs.step.lapped.Statement.{statement}
 use Rattle.course.proofs.step.lapped.Tie as tie
 use Rattle.course.proofs.step.lapped.Reads as reads

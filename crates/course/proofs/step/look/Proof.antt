@@ -1,6 +1,6 @@
 -- `course::step::look` meets its contract. Assumes nothing.
 use Rattle.course.proofs.Literals.{tau-bits}
-use Rattle.course.specs.Step.{sightOf}
+use Rattle.course.specs.Rules.Step.{sightOf}
 use borrow.Author.Needs.{needs}
 use Rattle.course.proofs.step.look.Statement.{statement}
 use Rattle.course.proofs.step.look.Tie as tie

@@ -1,8 +1,8 @@
 -- `course::step::moved` meets its contract. Assumes nothing.
-use Rattle.course.specs.Trig.{SinCos}
-use Rattle.course.specs.Steps.{sinCosAs}
-use Rattle.course.specs.Step.{thenLanded, movedOf, projOf, landedOf, steered}
-use Rattle.course.specs.LaySteps.{walkAs, sightAs, turnedAs}
+use Rattle.course.specs.Rules.Trig.{SinCos}
+use Rattle.course.specs.Steps.Numbers.{sinCosAs}
+use Rattle.course.specs.Rules.Step.{thenLanded, movedOf, projOf, landedOf, steered}
+use Rattle.course.specs.Steps.Lay.{walkAs, sightAs, turnedAs}
 use mathlib.Core.Path.{sym, ap, _∙_}
 use lib.Ieee.{Float}
 use borrow.Author.Needs.{needs}

@@ -1,6 +1,6 @@
 -- `course::step::proj` meets its contract. Assumes nothing.
 use Rattle.course.proofs.Literals.{scale-bits}
-use Rattle.course.specs.Step.{projOf}
+use Rattle.course.specs.Rules.Step.{projOf}
 use Rattle.course.proofs.step.proj.Statement.{statement}
 use Rattle.course.proofs.step.proj.Tie as tie
 use Rattle.course.proofs.step.proj.Reads as reads

@@ -4,8 +4,8 @@ use mathlib.Core.Bool.{true}
 use lib.Ieee.{Float, binary64, ofBits, neg, lt, mul}
 use Rattle.course.proofs.Literals.{thousandth, three-tenths, rate-bits}
 use Rattle.course.proofs.Signs.{times-above, times-below}
-use Rattle.course.specs.Numeric.{absOf}
-use Rattle.course.specs.Step.{steered}
+use Rattle.course.specs.Rules.Numeric.{absOf}
+use Rattle.course.specs.Rules.Step.{steered}
 use borrow.Author.Needs.{needs}
 use Rattle.course.proofs.step.steer.Statement.{statement}
 use Rattle.course.proofs.step.steer.Tie as tie

@@ -1,7 +1,7 @@
 -- `course::step::step` meets its contract. Assumes nothing.
-use Rattle.course.specs.Step.{Sight, thenMoved, stepOf}
-use Rattle.course.specs.Finder.{destOf}
-use Rattle.course.specs.LaySteps.{destAs, walkAs, sightAs}
+use Rattle.course.specs.Rules.Step.{Sight, thenMoved, stepOf}
+use Rattle.course.specs.Rules.Finder.{destOf}
+use Rattle.course.specs.Steps.Lay.{destAs, walkAs, sightAs}
 use mathlib.Core.Path.{sym, ap, _∙_}
 use borrow.Author.Needs.{needs}
 use Rattle.course.proofs.step.step.Statement.{statement}

@@ -1,7 +1,7 @@
 -- `course::step::turn` meets its contract. Assumes nothing.
 use mathlib.Core.Path.{sym, ap, _∙_}
-use Rattle.course.specs.Step.{thenUp, turnOf}
-use Rattle.course.specs.LaySteps.{turnedAs}
+use Rattle.course.specs.Rules.Step.{thenUp, turnOf}
+use Rattle.course.specs.Steps.Lay.{turnedAs}
 use borrow.Author.Needs.{needs}
 use Rattle.course.proofs.step.turn.Statement.{statement}
 use Rattle.course.proofs.step.turn.Tie as tie

@@ -3,7 +3,7 @@ use Rattle.course.proofs.Turns.{down-left, down-stop, down-more}
 use Prim.Native.Nat.{_-_}
 use mathlib.Core.Path.{_≡_, refl, sym, _∙_}
 use borrow.Author.Needs.{needs}
-use Rattle.course.specs.Step.{turnDown}
+use Rattle.course.specs.Rules.Step.{turnDown}
 use Rattle.course.proofs.step.turn_down.Statement.{statement}
 use Rattle.course.proofs.step.turn_down.Tie as tie
 use Rattle.course.proofs.step.turn_down.Reads as reads

@@ -3,7 +3,7 @@ use Rattle.course.proofs.Turns.{up-left, up-stop, up-more}
 use Prim.Native.Nat.{_-_}
 use mathlib.Core.Path.{_≡_, refl, sym, _∙_}
 use borrow.Author.Needs.{needs}
-use Rattle.course.specs.Step.{turnUp}
+use Rattle.course.specs.Rules.Step.{turnUp}
 use Rattle.course.proofs.step.turn_up.Statement.{statement}
 use Rattle.course.proofs.step.turn_up.Tie as tie
 use Rattle.course.proofs.step.turn_up.Reads as reads

@@ -1,6 +1,6 @@
 -- `course::tiles::before` meets its contract. Assumes nothing.
 use Rattle.course.proofs.CourseTiles.{before-later}
-use Rattle.course.specs.Tiles.{beforeOf}
+use Rattle.course.specs.Rules.Tiles.{beforeOf}
 use mathlib.Core.List.{List, [], _∷_, _++_, append-assoc}
 use lib.ListN.{length, getD, take, drop, set, replicate}
 use Prim.Native.Nat.{ℕ, zero, suc, _+_, _-_, _*_, _/_, _%_, _≤_, _<_}

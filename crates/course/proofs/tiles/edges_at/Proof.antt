@@ -1,7 +1,7 @@
 -- `course::tiles::edges_at` meets its contract. Assumes nothing.
 use Rattle.course.proofs.Turned.{cos-is, sin-is}
 use Rattle.course.proofs.Literals.{width-bits}
-use Rattle.course.specs.CourseSteps.{edgesAt}
+use Rattle.course.specs.Steps.Tiles.{edgesAt}
 use borrow.Author.Needs.{needs}
 use Rattle.course.proofs.tiles.edges_at.Statement.{statement}
 use Rattle.course.proofs.tiles.edges_at.Tie as tie

@@ -1,5 +1,5 @@
 -- `course::tiles::point_at` meets its contract. Assumes nothing.
-use Rattle.course.specs.Tiles.{pointAt}
+use Rattle.course.specs.Rules.Tiles.{pointAt}
 use mathlib.Core.List.{List, [], _∷_, _++_, append-assoc}
 use lib.ListN.{length, getD, take, drop, set, replicate}
 use Prim.Native.Nat.{ℕ, zero, suc, _+_, _-_, _*_, _/_, _%_, _≤_, _<_}

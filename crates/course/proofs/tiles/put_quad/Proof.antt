@@ -1,5 +1,5 @@
 -- `course::tiles::put_quad` meets its contract. Assumes nothing.
-use Rattle.course.specs.Tiles.{eight}
+use Rattle.course.specs.Rules.Tiles.{eight}
 use Rattle.course.proofs.ColumnLaws.{four-corners}
 use borrow.Author.Needs.{needs}
 use Rattle.course.proofs.tiles.put_quad.Statement.{statement}

@@ -1,6 +1,6 @@
 -- `course::tiles::tile_quad` meets its contract. Assumes nothing.
 use mathlib.Core.Path.{refl}
-use Rattle.course.specs.CourseSteps.{quadBetween}
+use Rattle.course.specs.Steps.Tiles.{quadBetween}
 use Rattle.course.proofs.tiles.tile_quad.Statement.{statement}
 use Rattle.course.proofs.tiles.tile_quad.Tie as tie
 use Rattle.course.proofs.tiles.tile_quad.Reads as reads

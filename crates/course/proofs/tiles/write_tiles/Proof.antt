@@ -1,8 +1,8 @@
 -- `course::tiles::write_tiles` meets its contract. Assumes nothing.
 use Rattle.course.proofs.CourseTiles.{tiles-none, tiles-more, tile-given, edges-first, edges-kept}
 use Rattle.course.proofs.ColumnLaws.{Grown}
-use Rattle.course.specs.Tiles.{pointAt, pointsOf, beforeOf, tilesTo}
-use Rattle.course.specs.CourseSteps.{edgesAt}
+use Rattle.course.specs.Rules.Tiles.{pointAt, pointsOf, beforeOf, tilesTo}
+use Rattle.course.specs.Steps.Tiles.{edgesAt}
 use mathlib.Core.List.{_++_}
 use lib.ListN.{length, drop}
 use Prim.Native.Nat.{ℕ, _-_, _*_, _≤_}

@@ -5,10 +5,10 @@ use mathlib.Core.List.{List}
 use native.Mathlib.Omega.{arith}
 use lib.ListN.{length}
 use borrow.Author.Needs.{needs}
-use Rattle.course.specs.Lengths.{stepLimit}
-use Rattle.course.specs.Track.{earlierPass, laterPass}
-use Rattle.course.specs.LaySteps.{Front}
-use Rattle.course.specs.Step.{TrackStep}
+use Rattle.course.specs.Rules.Lengths.{stepLimit}
+use Rattle.course.specs.Rules.Track.{earlierPass, laterPass}
+use Rattle.course.specs.Steps.Lay.{Front}
+use Rattle.course.specs.Rules.Step.{TrackStep}
 use Rattle.course.proofs.TrackParts.{end-below, end-fits, part-within, later-is, earlier-is}
 use Rattle.course.proofs.TrackParts.{cut-no-b, cut-no-a, cut-no-n, cut-good, cut-apart}
 use Rattle.course.proofs.track.cut.Statement.{statement}

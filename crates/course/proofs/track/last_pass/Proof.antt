@@ -4,7 +4,7 @@ use native.Mathlib.Omega.{arith}
 use mathlib.Core.Path.{_≡_, refl, sym, _∙_}
 use Prim.Native.Nat.{_-_, _≤_}
 use Rattle.course.proofs.TrackParts.{pass-here, pass-below, pass-none}
-use Rattle.course.specs.Track.{lastPass}
+use Rattle.course.specs.Rules.Track.{lastPass}
 use Rattle.course.proofs.track.last_pass.Statement.{statement}
 use Rattle.course.proofs.track.last_pass.Tie as tie
 use Rattle.course.proofs.track.last_pass.Reads as reads

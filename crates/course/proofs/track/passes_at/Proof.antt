@@ -1,6 +1,6 @@
 -- `course::track::passes_at` meets its contract. Assumes nothing.
 use Rattle.course.proofs.Literals.{start-bits}
-use Rattle.course.specs.Track.{passesAt}
+use Rattle.course.specs.Rules.Track.{passesAt}
 use borrow.Author.Needs.{needs}
 use Rattle.course.proofs.track.passes_at.Statement.{statement}
 use Rattle.course.proofs.track.passes_at.Tie as tie

@@ -1,7 +1,7 @@
 -- `course::track::well_glued` meets its contract. Assumes nothing.
 use Rattle.course.proofs.Literals.{step-bits}
 use Rattle.course.proofs.Turned.{cos-is, sin-is}
-use Rattle.course.specs.Track.{gluedOf}
+use Rattle.course.specs.Rules.Track.{gluedOf}
 use borrow.Author.Needs.{needs}
 use Rattle.course.proofs.track.well_glued.Statement.{statement}
 use Rattle.course.proofs.track.well_glued.Tie as tie

@@ -1,8 +1,8 @@
 -- `course::trig::angle_of` meets its contract. Assumes nothing.
 use borrow.Author.Needs.{needs}
 use lib.Ieee.{ofBits, ofInt}
-use Rattle.course.specs.Arithmetic.{natural}
-use Rattle.course.specs.Trig.{atan2Of}
+use Rattle.course.specs.Rules.Arithmetic.{natural}
+use Rattle.course.specs.Rules.Trig.{atan2Of}
 use Rattle.course.proofs.trig.angle_of.Statement.{statement}
 use Rattle.course.proofs.trig.angle_of.Tie as tie
 

@@ -2,7 +2,7 @@
 use borrow.Author.Needs.{needs}
 use mathlib.Core.Path.{ap}
 use lib.Ieee.{Float, add, mul, binary64}
-use Rattle.course.specs.Trig.{arc}
+use Rattle.course.specs.Rules.Trig.{arc}
 use Rattle.course.proofs.trig.arc_from.Statement.{statement}
 use Rattle.course.proofs.trig.arc_from.Tie as tie
 

@@ -1,8 +1,8 @@
 -- `course::trig::arc_tangent` meets its contract. Assumes nothing.
 use borrow.Author.Needs.{needs}
 use lib.Ieee.{ofBits, ofInt, round}
-use Rattle.course.specs.Arithmetic.{natural, decimal}
-use Rattle.course.specs.Trig.{arcOf}
+use Rattle.course.specs.Rules.Arithmetic.{natural, decimal}
+use Rattle.course.specs.Rules.Trig.{arcOf}
 use Rattle.course.proofs.trig.arc_tangent.Statement.{statement}
 use Rattle.course.proofs.trig.arc_tangent.Tie as tie
 

@@ -2,8 +2,8 @@
 use borrow.Author.Needs.{needs}
 use mathlib.Core.Path.{_≡_, sym}
 use lib.Ieee.{ofBits, ofInt}
-use Rattle.course.specs.Arithmetic.{natural}
-use Rattle.course.specs.Angle.{answer, pairCause, atan2Call}
+use Rattle.course.specs.Rules.Arithmetic.{natural}
+use Rattle.course.specs.Grader.Angle.{answer, pairCause, atan2Call}
 use Rattle.course.proofs.trig.atan2.Statement.{statement}
 use Rattle.course.proofs.trig.atan2.Tie as tie
 

@@ -1,8 +1,8 @@
 -- `course::trig::atan_poly` meets its contract: the code's constants are the coefficients. Assumes nothing.
 use mathlib.Core.Path.{refl}
 use lib.Ieee.{ofBits, div, ofInt, neg}
-use Rattle.course.specs.Arithmetic.{natural}
-use Rattle.course.specs.Trig.{factorial, plus, minus, horner, atanTerms, atanPoly}
+use Rattle.course.specs.Rules.Arithmetic.{natural}
+use Rattle.course.specs.Rules.Trig.{factorial, plus, minus, horner, atanTerms, atanPoly}
 use Rattle.course.proofs.trig.atan_poly.Statement.{statement}
 use Rattle.course.proofs.trig.atan_poly.Tie as tie
 

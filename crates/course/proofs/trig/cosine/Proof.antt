@@ -2,8 +2,8 @@
 use borrow.Author.Needs.{needs}
 use mathlib.Core.Path.{_≡_, sym, ap, _∙_}
 use lib.Ieee.{ofBits, ofInt}
-use Rattle.course.specs.Arithmetic.{natural}
-use Rattle.course.specs.Angle.{answer, angleCause, cosineCall}
+use Rattle.course.specs.Rules.Arithmetic.{natural}
+use Rattle.course.specs.Grader.Angle.{answer, angleCause, cosineCall}
 use Rattle.course.proofs.Turned.{cos-is}
 use Rattle.course.proofs.trig.cosine.Statement.{statement}
 use Rattle.course.proofs.trig.cosine.Tie as tie

@@ -1,7 +1,7 @@
 -- `course::trig::direction` meets its contract. Assumes nothing.
 use borrow.Author.Needs.{needs}
 use mathlib.Core.Path.{_≡_}
-use Rattle.course.specs.Trig.{directionOf}
+use Rattle.course.specs.Rules.Trig.{directionOf}
 use Rattle.course.proofs.trig.direction.Statement.{statement}
 use Rattle.course.proofs.trig.direction.Tie as tie
 

@@ -7,8 +7,8 @@ use native.Mathlib.Numerals.{add-one}
 use mathlib.Core.Bool.{Bool, true, false}
 use lib.IntN.{ℤ, pos, negsuc, negℤ}
 use lib.Ieee.{Float, ofBits, ofInt, neg, lt, toUnsigned, binary64}
-use Rattle.course.specs.Arithmetic.{natural}
-use Rattle.course.specs.Trig.{floor, quarterOf}
+use Rattle.course.specs.Rules.Arithmetic.{natural}
+use Rattle.course.specs.Rules.Trig.{floor, quarterOf}
 use Rattle.course.proofs.Turned.{turns-is}
 use Rattle.course.proofs.Wholes.{whole-n, whole-f}
 use Rattle.course.proofs.Floor.{above-floor, above-fits, below-fits, below-small, below-between, below-at, minus-whole, minus-quarter}

@@ -1,9 +1,9 @@
 -- `course::trig::quarter_turns` meets its contract. Assumes nothing.
 use borrow.Author.Needs.{needs}
 use lib.Ieee.{ofBits, round}
-use Rattle.course.specs.Arithmetic.{decimal}
-use Rattle.course.specs.Constants.{halfPi}
-use Rattle.course.specs.Trig.{turnsOf}
+use Rattle.course.specs.Rules.Arithmetic.{decimal}
+use Rattle.course.specs.Rules.Constants.{halfPi}
+use Rattle.course.specs.Rules.Trig.{turnsOf}
 use Rattle.course.proofs.trig.quarter_turns.Statement.{statement}
 use Rattle.course.proofs.trig.quarter_turns.Tie as tie
 

@@ -4,10 +4,10 @@ use mathlib.Core.Path.{_≡_, sym, ap, _∙_}
 use mathlib.Core.Bool.{true}
 use lib.Ieee.{Float, binary64, ofBits, ofInt, round, le, lt, add}
 use lib.Ieee.Fits.{add-fits}
-use Rattle.course.specs.Arithmetic.{_⊕_, _⊘_, decimal}
-use Rattle.course.specs.Constants.{halfPi}
-use Rattle.course.specs.Trig.{turnsOf}
-use Rattle.course.specs.Steps.{turnsAt}
+use Rattle.course.specs.Rules.Arithmetic.{_⊕_, _⊘_, decimal}
+use Rattle.course.specs.Rules.Constants.{halfPi}
+use Rattle.course.specs.Rules.Trig.{turnsOf}
+use Rattle.course.specs.Steps.Numbers.{turnsAt}
 use Rattle.course.specs.declared.trig.Turns.{Turns}
 use Rattle.course.proofs.FloorOrder.{small-whole, whole-only}
 use Rattle.course.proofs.trig.quarter_turns_from.Statement.{statement}

@@ -1,8 +1,8 @@
 -- `course::trig::signed` meets its contract. Assumes nothing.
 use lib.Ieee.{ofBits, ofInt, round}
-use Rattle.course.specs.Arithmetic.{natural, decimal}
-use Rattle.course.specs.Constants.{halfPi}
-use Rattle.course.specs.Trig.{downward}
+use Rattle.course.specs.Rules.Arithmetic.{natural, decimal}
+use Rattle.course.specs.Rules.Constants.{halfPi}
+use Rattle.course.specs.Rules.Trig.{downward}
 use Rattle.course.proofs.trig.signed.Statement.{statement}
 use Rattle.course.proofs.trig.signed.Tie as tie
 

@@ -2,8 +2,8 @@
 use borrow.Author.Needs.{needs}
 use mathlib.Core.Path.{_≡_, sym, ap, _∙_}
 use lib.Ieee.{ofBits, ofInt}
-use Rattle.course.specs.Arithmetic.{natural}
-use Rattle.course.specs.Angle.{answer, angleCause, sineCall}
+use Rattle.course.specs.Rules.Arithmetic.{natural}
+use Rattle.course.specs.Grader.Angle.{answer, angleCause, sineCall}
 use Rattle.course.proofs.Turned.{sin-is}
 use Rattle.course.proofs.trig.sine.Statement.{statement}
 use Rattle.course.proofs.trig.sine.Tie as tie

@@ -1,8 +1,8 @@
 -- `course::trig::steepened` meets its contract. Assumes nothing.
 use lib.Ieee.{ofBits, ofInt, round}
-use Rattle.course.specs.Arithmetic.{natural, decimal}
-use Rattle.course.specs.Constants.{halfPi}
-use Rattle.course.specs.Trig.{steepOf}
+use Rattle.course.specs.Rules.Arithmetic.{natural, decimal}
+use Rattle.course.specs.Rules.Constants.{halfPi}
+use Rattle.course.specs.Rules.Trig.{steepOf}
 use Rattle.course.proofs.trig.steepened.Statement.{statement}
 use Rattle.course.proofs.trig.steepened.Tie as tie
 

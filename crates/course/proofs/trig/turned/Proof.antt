@@ -2,10 +2,10 @@
 use borrow.Author.Needs.{needs}
 use mathlib.Core.Path.{_≡_, refl, sym, ap, _∙_}
 use lib.Ieee.{Float, ofBits, round, sub, mul, neg, binary64}
-use Rattle.course.specs.Constants.{halfPi}
-use Rattle.course.specs.Arithmetic.{decimal}
-use Rattle.course.specs.Trig.{restOf, pick, sinCosOf}
-use Rattle.course.specs.Steps.{turnsAt}
+use Rattle.course.specs.Rules.Constants.{halfPi}
+use Rattle.course.specs.Rules.Arithmetic.{decimal}
+use Rattle.course.specs.Rules.Trig.{restOf, pick, sinCosOf}
+use Rattle.course.specs.Steps.Numbers.{turnsAt}
 use Rattle.course.specs.declared.trig.Turns.{Turns}
 use Rattle.course.proofs.Turned.{turned, sin-cos-is, pick-0, pick-1, pick-2, pick-3}
 use Rattle.course.proofs.trig.turned.Statement.{statement}

@@ -5,9 +5,9 @@ use Prim.Native.Nat.{_^_}
 use lib.Dec.{T, lit≤}
 use lib.IntN.{pos}
 use lib.Ieee.{ofBits, ofInt, round, binary64}
-use Rattle.course.specs.Arithmetic.{natural}
-use Rattle.course.specs.Trig.{floor, wholeBelow, quarterOf}
-use Rattle.course.specs.Steps.{turnsAt}
+use Rattle.course.specs.Rules.Arithmetic.{natural}
+use Rattle.course.specs.Rules.Trig.{floor, wholeBelow, quarterOf}
+use Rattle.course.specs.Steps.Numbers.{turnsAt}
 use Rattle.course.proofs.Naturals.{natural-val}
 use Rattle.course.proofs.Bounds.{bounded-of-within}
 use Rattle.course.proofs.trig.whole_below.Statement.{statement}

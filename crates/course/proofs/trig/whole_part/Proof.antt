@@ -3,7 +3,7 @@ use borrow.Author.Needs.{needs}
 use mathlib.Core.Path.{refl, sym, ap}
 use lib.Dec.{lit≤}
 use lib.Ieee.{ofBits, ofInt, round}
-use Rattle.course.specs.Arithmetic.{natural}
+use Rattle.course.specs.Rules.Arithmetic.{natural}
 use Rattle.course.proofs.Wholes.{cut-between, cut-below, whole-is}
 use Rattle.course.proofs.trig.whole_part.Statement.{statement}
 use Rattle.course.proofs.trig.whole_part.Tie as tie

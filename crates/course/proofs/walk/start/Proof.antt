@@ -1,6 +1,6 @@
 -- `course::walk::start` meets its contract. Assumes nothing.
 use Rattle.course.proofs.Literals.{far-rad-bits}
-use Rattle.course.specs.Walk.{walkStart}
+use Rattle.course.specs.Rules.Walk.{walkStart}
 use Rattle.course.proofs.walk.start.Statement.{statement}
 use Rattle.course.proofs.walk.start.Tie as tie
 use Rattle.course.proofs.walk.start.Reads as reads

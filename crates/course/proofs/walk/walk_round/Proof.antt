@@ -3,10 +3,10 @@ use borrow.Author.Needs.{needs}
 use mathlib.Core.Path.{_≡_, refl, sym, ap, _∙_}
 use Prim.Native.Nat.{_-_}
 use native.Mathlib.Omega.{arith}
-use Rattle.course.specs.Lengths.{stepLimit}
-use Rattle.course.specs.Trig.{turnsOf}
-use Rattle.course.specs.Steps.{turnsAt}
-use Rattle.course.specs.LaySteps.{walkAs, steppedAs}
+use Rattle.course.specs.Rules.Lengths.{stepLimit}
+use Rattle.course.specs.Rules.Trig.{turnsOf}
+use Rattle.course.specs.Steps.Numbers.{turnsAt}
+use Rattle.course.specs.Steps.Lay.{walkAs, steppedAs}
 use Rattle.course.proofs.WalkSteps.{Walking, begun, walked-full, walked-refused, walked-end, walked-on}
 use Rattle.course.proofs.walk.walk_round.Statement.{statement}
 use Rattle.course.proofs.walk.walk_round.Tie as tie

@@ -1,6 +1,6 @@
 -- `form::float::put_floats` meets its contract. Assumes nothing.
 use Rattle.form.proofs.ByteLaws.{eight-on, each-length, each-none, stored, store-short}
-use Rattle.form.specs.Bytes.{floatBytes}
+use Rattle.form.specs.Rules.Bytes.{floatBytes}
 use Rattle.form.proofs.Filling.{Filling, begins, ends}
 use lib.Ieee.{nan, binary64, toBits}
 use lib.ListN.{length, drop}

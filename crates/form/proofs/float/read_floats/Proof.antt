@@ -1,5 +1,5 @@
 -- `form::float::read_floats` meets its contract. Assumes nothing.
-use Rattle.form.specs.Bytes.{floatsFrom}
+use Rattle.form.specs.Rules.Bytes.{floatsFrom}
 use Rattle.form.proofs.Filling.{Filling, begins, steps, ends}
 use Rattle.form.proofs.ByteLaws.{from-none, from-all, from-more, fill-short, fill-room, from-length}
 use lib.Ieee.{binary64, ofBits}

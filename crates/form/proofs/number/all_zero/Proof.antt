@@ -1,6 +1,6 @@
 -- `form::number::all_zero` meets its contract. Assumes nothing.
 use borrow.Author.Tests.{eq-eqb, ne-eqb}
-use Rattle.form.specs.Bytes.{allZero}
+use Rattle.form.specs.Rules.Bytes.{allZero}
 use Rattle.form.proofs.ByteLaws.{zero-end, zero-step}
 use lib.ListN.{length, drop}
 use Prim.Native.Nat.{_+_, _-_, _≤_}

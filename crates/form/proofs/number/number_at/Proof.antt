@@ -1,7 +1,7 @@
 -- `form::number::number_at` meets its contract. Assumes nothing.
 use Rattle.form.proofs.ByteLaws.{power-some, power-grows, past-none}
 use lib.ListN.{length-take, length, take, drop}
-use Rattle.form.specs.Bytes.{number}
+use Rattle.form.specs.Rules.Bytes.{number}
 use Rattle.form.proofs.Filling.{part-least}
 use Prim.Native.Nat.{ℕ, _+_, _-_, _^_, _≤_, min}
 use mathlib.Core.Path.{ap, _∙_}

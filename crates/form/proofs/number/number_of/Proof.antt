@@ -1,6 +1,6 @@
 -- `form::number::number_of` meets its contract. Assumes nothing.
 use Rattle.form.proofs.ByteLaws.{power-none, number-none, number-step, eight-bytes, byte-more}
-use Rattle.form.specs.Bytes.{number}
+use Rattle.form.specs.Rules.Bytes.{number}
 use lib.ListN.{length, drop}
 use Prim.Native.Nat.{ℕ, _-_, _^_, _≤_, _<_}
 use mathlib.Core.Path.{_≡_, ap, _∙_, subst}

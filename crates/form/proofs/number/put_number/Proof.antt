@@ -1,6 +1,6 @@
 -- `form::number::put_number` meets its contract. Assumes nothing.
 use Rattle.form.proofs.ByteLaws.{low-all, stored, low-length, low-none, low-more, store-short}
-use Rattle.form.specs.Bytes.{low}
+use Rattle.form.specs.Rules.Bytes.{low}
 use Rattle.form.proofs.Filling.{Filling, begins, steps, ends}
 use lib.ListN.{length}
 use Prim.Native.Nat.{_-_, _≤_}

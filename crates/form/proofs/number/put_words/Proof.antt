@@ -1,7 +1,7 @@
 -- `form::number::put_words` meets its contract. Assumes nothing.
 use Rattle.form.proofs.ByteLaws.{eight-on, each-length, each-none, stored, store-short}
 use Rattle.form.proofs.Filling.{Filling, begins, ends}
-use Rattle.form.specs.Bytes.{wordBytes}
+use Rattle.form.specs.Rules.Bytes.{wordBytes}
 use lib.ListN.{length, drop}
 use Prim.Native.Nat.{ℕ, _*_, _-_, _≤_}
 use mathlib.Core.Path.{refl, sym}

@@ -1,5 +1,5 @@
 -- `form::number::read_words` meets its contract. Assumes nothing.
-use Rattle.form.specs.Bytes.{wordsFrom}
+use Rattle.form.specs.Rules.Bytes.{wordsFrom}
 use Rattle.form.proofs.Filling.{Filling, begins, steps, ends}
 use Rattle.form.proofs.ByteLaws.{from-none, from-all, from-more, fill-short, fill-room, from-length}
 use lib.ListN.{length, drop}

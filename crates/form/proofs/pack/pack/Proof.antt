@@ -1,5 +1,5 @@
 -- `form::pack::pack` meets its contract. Assumes nothing.
-use Rattle.form.specs.Form.{cut, packed}
+use Rattle.form.specs.Rules.Form.{cut, packed}
 use Rattle.form.proofs.TableLaws.{packed-length, pack-short, pack-done}
 use Prim.Native.Nat.{ℕ, _+_}
 use mathlib.Core.Path.{sym, ap, _∙_}

@@ -1,6 +1,6 @@
 -- `form::pack::put_standing` meets its contract. Assumes nothing.
 use Rattle.form.proofs.Filling.{ends-whole, next-fits, Filling, begins, goes-on}
-use Rattle.form.specs.Form.{cut, standing, odd}
+use Rattle.form.specs.Rules.Form.{cut, standing, odd}
 use Rattle.form.proofs.TableLaws.{standing-more, standing-none, end-within}
 use lib.ListN.{length, take, drop}
 use Prim.Native.Nat.{_+_, _-_, _/_, _≤_}

@@ -1,7 +1,7 @@
 -- `form::pack::standing_length` meets its contract. Assumes nothing.
 use Rattle.form.proofs.Filling.{part-long}
 use Rattle.form.proofs.TableLaws.{end-within, counted, standing-more, standing-none, shown-small}
-use Rattle.form.specs.Form.{cut, standing, odd}
+use Rattle.form.specs.Rules.Form.{cut, standing, odd}
 use lib.ListN.{length, take, drop}
 use Prim.Native.Nat.{ℕ, _+_, _-_, _≤_}
 use mathlib.Core.Path.{_≡_, sym, ap, _∙_}

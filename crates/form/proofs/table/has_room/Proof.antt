@@ -1,6 +1,6 @@
 -- `form::table::has_room` meets its contract. Assumes nothing.
 use Rattle.form.proofs.TableLaws.{less-room, no-room, some-room}
-use Rattle.form.specs.Form.{sum}
+use Rattle.form.specs.Rules.Form.{sum}
 use lib.ListN.{length, drop}
 use Prim.Native.Nat.{_+_, _-_, _≤_}
 use mathlib.Core.Path.{_≡_, refl}

@@ -1,7 +1,7 @@
 -- `form::table::map_of` meets its contract. Assumes nothing.
 use lib.Seq.{length-take-le}
 use lib.ListN.{length-take, length, take}
-use Rattle.form.specs.Form.{cut, mapOf}
+use Rattle.form.specs.Rules.Form.{cut, mapOf}
 use Rattle.form.proofs.Filling.{take-least}
 use Rattle.form.proofs.TableLaws.{map-small, power-small}
 use Prim.Native.Nat.{ℕ, _≤_}

@@ -1,6 +1,6 @@
 -- `form::table::map_rows` meets its contract. Assumes nothing.
 use Rattle.form.proofs.TableLaws.{end-within, map-more, map-none, gathered, gathered-all, power-small, power-more, value-small}
-use Rattle.form.specs.Form.{cut, mapOf, bit}
+use Rattle.form.specs.Rules.Form.{cut, mapOf, bit}
 use lib.ListN.{length, drop}
 use Prim.Native.Nat.{ℕ, _+_, _*_, _-_, _^_, _≤_, _<_}
 use mathlib.Core.Path.{_≡_, refl, sym, ap, _∙_}

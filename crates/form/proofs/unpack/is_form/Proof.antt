@@ -1,6 +1,6 @@
 -- `form::unpack::is_form` meets its contract. Assumes nothing.
-use Rattle.form.specs.FormSteps.{whole}
-use Rattle.form.specs.Form.{parse, rowsOf}
+use Rattle.form.specs.Steps.Form.{whole}
+use Rattle.form.specs.Rules.Form.{parse, rowsOf}
 use Rattle.form.proofs.ReadLaws.{on-within, form-on, form-off, form-end}
 use lib.ListN.{length, drop}
 use Prim.Native.Nat.{_-_, _≤_}

@@ -1,5 +1,5 @@
 -- `form::unpack::may_stand` meets its contract. Assumes nothing.
-use Rattle.form.specs.Bytes.{allZero}
+use Rattle.form.specs.Rules.Bytes.{allZero}
 use lib.ListN.{length-drop, take, drop}
 use Rattle.form.proofs.ReadLaws.{stand-short, stand-zeros, stand-full}
 use Prim.Native.Nat.{ℕ, _+_, _-_}

@@ -1,5 +1,5 @@
 -- `form::unpack::one_field` meets its contract. Assumes nothing.
-use Rattle.form.specs.FormSteps.{rowOf}
+use Rattle.form.specs.Steps.Form.{rowOf}
 use lib.ListN.{length-drop, drop}
 use Rattle.form.proofs.ReadLaws.{step-taken, step-bad, step-left, stand-within}
 use mathlib.Core.Path.{sym, _∙_}

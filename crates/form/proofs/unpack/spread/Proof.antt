@@ -1,7 +1,7 @@
 -- `form::unpack::spread` meets its contract. Assumes nothing.
 use Rattle.form.proofs.ReadLaws.{spread-room, spread-enough, spread-more, joined-length, fields-none}
-use Rattle.form.specs.FormSteps.{standingSum, fieldsIn}
-use Rattle.form.specs.Form.{sum, joined}
+use Rattle.form.specs.Steps.Form.{standingSum, fieldsIn}
+use Rattle.form.specs.Rules.Form.{sum, joined}
 use Rattle.form.proofs.Filling.{Filling, begins, ends}
 use lib.ListN.{length, drop}
 use Prim.Native.Nat.{_+_, _-_, _≤_}

@@ -1,6 +1,6 @@
 -- `form::unpack::unpack` meets its contract. Assumes nothing.
-use Rattle.form.specs.FormSteps.{whole, fieldsIn}
-use Rattle.form.specs.Form.{rowsOf, parse, joined, mapIn}
+use Rattle.form.specs.Steps.Form.{whole, fieldsIn}
+use Rattle.form.specs.Rules.Form.{rowsOf, parse, joined, mapIn}
 use borrow.Author.Tests.{leb-true}
 use Rattle.form.proofs.ReadLaws.{parsed-short, parsed-long, not-whole, unpack-broken, unpack-short, unpack-whole, form-enough, rest-whole, not-true, not-false}
 use lib.ListN.{length, take, drop}

@@ -1,6 +1,6 @@
 -- `run::contact::credit_set` meets its contract. Assumes nothing.
 use mathlib.Core.Bool.{not, _&&_}
-use Rattle.run.specs.TouchSteps.{credits, creditsOf}
+use Rattle.run.specs.Steps.Touch.{credits, creditsOf}
 use borrow.Author.Needs.{needs}
 use Rattle.run.proofs.contact.credit_set.Statement.{statement}
 use Rattle.run.proofs.contact.credit_set.Tie as tie

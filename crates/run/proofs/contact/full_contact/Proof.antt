@@ -3,7 +3,7 @@ use Prim.Native.Nat.{_*_}
 -- `run::contact::full_contact` meets its contract. Assumes nothing.
 use mathlib.Core.Path.{_≡_}
 use lib.ListN.{length}
-use Rattle.run.specs.Widths.{fullWords}
+use Rattle.run.specs.Grader.Widths.{fullWords}
 -- `run::contact::full_contact` meets its contract. Assumes nothing.
 use native.Mathlib.Omega.{arith}
 use lib.Dec.{lit<}

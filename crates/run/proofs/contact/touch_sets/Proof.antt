@@ -4,8 +4,8 @@ use native.Mathlib.Omega.{arith}
 use mathlib.Core.Path.{_≡_, refl, sym, ap, _∙_}
 use Prim.Native.Nat.{_-_}
 use lib.ListN.{length}
-use Rattle.run.specs.Wheel.{quadOf}
-use Rattle.run.specs.Touch.{touchedBy}
+use Rattle.run.specs.Rules.Wheel.{quadOf}
+use Rattle.run.specs.Grader.Touch.{touchedBy}
 use Rattle.run.proofs.CellLaws.{cells-long, own-cells}
 use borrow.Author.Needs.{needs}
 use Rattle.run.proofs.contact.touch_sets.Statement.{statement}

@@ -4,7 +4,7 @@ use native.Mathlib.Omega.{arith}
 use lib.ListN.{getD}
 use mathlib.Core.Path.{_≡_, ap, _∙_}
 use borrow.Author.Needs.{needs}
-use Rattle.run.specs.DriveSteps.{anyStands}
+use Rattle.run.specs.Steps.Drive.{anyStands}
 use Rattle.run.proofs.RoadLaws.{stands-none, stands-more}
 use Rattle.run.proofs.drive.any_stands.Statement.{statement}
 use Rattle.run.proofs.drive.any_stands.Tie as tie

@@ -1,5 +1,5 @@
 -- `run::drive::as_number` meets its contract. Assumes nothing.
-use Rattle.run.specs.Pass.{indicator}
+use Rattle.run.specs.Rules.Pass.{indicator}
 use Rattle.run.proofs.Literals.{one, zero-bits}
 use Rattle.run.proofs.drive.as_number.Statement.{statement}
 use Rattle.run.proofs.drive.as_number.Tie as tie

@@ -1,5 +1,5 @@
 -- `run::drive::await_settle` meets its contract. Assumes nothing.
-use Rattle.run.specs.State.{awaiting}
+use Rattle.run.specs.Grader.State.{awaiting}
 use mathlib.Core.Path.{refl}
 use Rattle.run.proofs.drive.await_settle.Statement.{statement}
 use Rattle.run.proofs.drive.await_settle.Tie as tie

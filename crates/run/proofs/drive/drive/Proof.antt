@@ -1,6 +1,6 @@
 -- `run::drive::drive` meets its contract. Assumes nothing.
 use Rattle.run.proofs.DriveLaws.{drove-from}
-use Rattle.run.specs.State.{view}
+use Rattle.run.specs.Grader.State.{view}
 use borrow.Author.Needs.{needs}
 use Rattle.run.proofs.drive.drive.Statement.{statement}
 use Rattle.run.proofs.drive.drive.Tie as tie

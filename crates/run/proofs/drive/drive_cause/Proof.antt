@@ -1,5 +1,5 @@
 -- `run::drive::drive_cause` meets its contract. Assumes nothing.
-use Rattle.run.specs.Drive.{driveCause}
+use Rattle.run.specs.Grader.Drive.{driveCause}
 use borrow.Author.Tests.{le-leb, lt-leb, lt-ltb, le-ltb}
 use borrow.Author.Needs.{needs}
 use Rattle.run.proofs.drive.drive_cause.Statement.{statement}

@@ -1,6 +1,6 @@
 -- `run::drive::drive_parts` meets its contract. Assumes nothing.
 use Rattle.run.proofs.DriveLaws.{drive-refused, drive-accepted}
-use Rattle.run.specs.Pass.{passOf}
+use Rattle.run.specs.Rules.Pass.{passOf}
 use native.Mathlib.Omega.{arith}
 use mathlib.Core.Path.{_≡_, ap, _∙_}
 use borrow.Author.Needs.{needs}

@@ -1,6 +1,6 @@
 -- `run::drive::front` meets its contract. Assumes nothing.
 use borrow.Author.Needs.{needs}
-use Rattle.run.specs.Pass.{frontOf, brakeOf, steerOf}
+use Rattle.run.specs.Rules.Pass.{frontOf, brakeOf, steerOf}
 use Rattle.run.proofs.Literals.{eight-tenths, six-tenths}
 use Rattle.run.proofs.drive.front.Statement.{statement}
 use Rattle.run.proofs.drive.front.Tie as tie

@@ -1,5 +1,5 @@
 -- `run::drive::gathered` meets its contract. Assumes nothing.
-use Rattle.run.specs.Pass.{gatheredOf}
+use Rattle.run.specs.Rules.Pass.{gatheredOf}
 use mathlib.Core.Path.{refl}
 use Rattle.run.proofs.drive.gathered.Statement.{statement}
 use Rattle.run.proofs.drive.gathered.Tie as tie

@@ -1,6 +1,6 @@
 -- `run::drive::motion_ok` meets its contract. Assumes nothing.
 use borrow.Author.Needs.{needs}
-use Rattle.run.specs.Arguments.{motionOk}
+use Rattle.run.specs.Rules.Arguments.{motionOk}
 use Rattle.run.proofs.drive.motion_ok.Statement.{statement}
 use Rattle.run.proofs.drive.motion_ok.Tie as tie
 use Rattle.run.proofs.drive.motion_ok.Reads as reads

@@ -1,5 +1,5 @@
 -- `run::drive::motions_ok` meets its contract. Assumes nothing.
-use Rattle.run.specs.Arguments.{motionsOk}
+use Rattle.run.specs.Rules.Arguments.{motionsOk}
 use borrow.Author.Needs.{needs}
 use Rattle.run.proofs.drive.motions_ok.Statement.{statement}
 use Rattle.run.proofs.drive.motions_ok.Tie as tie

@@ -1,6 +1,6 @@
 -- `run::drive::rear` meets its contract. Assumes nothing.
 use borrow.Author.Needs.{needs}
-use Rattle.run.specs.Pass.{rearOf, brakeOf, gasOf, raisedOf}
+use Rattle.run.specs.Rules.Pass.{rearOf, brakeOf, gasOf, raisedOf}
 use Rattle.run.proofs.Literals.{eight-tenths, two-tenths, tenth, zero-bits, one}
 use Rattle.run.proofs.drive.rear.Statement.{statement}
 use Rattle.run.proofs.drive.rear.Tie as tie

@@ -2,7 +2,7 @@
 use borrow.Author.Needs.{needs}
 use Rattle.run.proofs.RoadLaws.{roads-more, roads-all}
 use Rattle.run.proofs.ContactLaws.{end-within}
-use Rattle.run.specs.DriveSteps.{roadsTo}
+use Rattle.run.specs.Steps.Drive.{roadsTo}
 use native.Mathlib.Omega.{arith}
 use mathlib.Core.Path.{_≡_, refl}
 use Prim.Native.Nat.{_-_, _≤_}

@@ -1,6 +1,6 @@
 -- `run::dynamics::braked` meets its contract. Assumes nothing.
 use borrow.Author.Needs.{needs}
-use Rattle.run.specs.Dynamics.{brakedOf}
+use Rattle.run.specs.Rules.Dynamics.{brakedOf}
 use Rattle.run.proofs.Literals.{nine-tenths, zero-bits, fifteen}
 use Rattle.run.proofs.dynamics.braked.Statement.{statement}
 use Rattle.run.proofs.dynamics.braked.Tie as tie

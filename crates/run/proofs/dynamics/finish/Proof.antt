@@ -1,5 +1,5 @@
 -- `run::dynamics::finish` meets its contract. Assumes nothing.
-use Rattle.run.specs.Dynamics.{finishOf}
+use Rattle.run.specs.Rules.Dynamics.{finishOf}
 use Rattle.run.proofs.Literals.{wheel-rad, inertia, dt-bits, engine-power}
 use borrow.Author.Needs.{needs}
 use Rattle.run.proofs.dynamics.finish.Statement.{statement}

@@ -1,6 +1,6 @@
 -- `run::dynamics::held` meets its contract. Assumes nothing.
 use borrow.Author.Needs.{needs}
-use Rattle.run.specs.Dynamics.{heldOf}
+use Rattle.run.specs.Rules.Dynamics.{heldOf}
 use Rattle.run.proofs.dynamics.held.Statement.{statement}
 use Rattle.run.proofs.dynamics.held.Tie as tie
 use Rattle.run.proofs.dynamics.held.Reads as reads

@@ -3,8 +3,8 @@ use mathlib.Core.Path.{sym, ap, _∙_, subst}
 use mathlib.Core.Bool.{Bool}
 use lib.Ieee.{binary64, lt, fits}
 use lib.Dec.{T}
-use Rattle.course.specs.Root.{sqrtOf}
-use Rattle.run.specs.Dynamics.{limitOf}
+use Rattle.course.specs.Rules.Root.{sqrtOf}
+use Rattle.run.specs.Rules.Dynamics.{limitOf}
 use Rattle.run.proofs.SmallForces.{small-road, small-grass}
 use Rattle.run.proofs.dynamics.is_small.Statement.{statement}
 use Rattle.run.proofs.dynamics.is_small.Tie as tie

@@ -1,5 +1,5 @@
 -- `run::dynamics::limit` meets its contract. Assumes nothing.
-use Rattle.run.specs.Dynamics.{limitOf}
+use Rattle.run.specs.Rules.Dynamics.{limitOf}
 use Rattle.run.proofs.Literals.{friction-limit, one, six-tenths}
 use Rattle.run.proofs.dynamics.limit.Statement.{statement}
 use Rattle.run.proofs.dynamics.limit.Tie as tie

@@ -3,7 +3,7 @@ use mathlib.Core.Path.{_≡_, sym, ap, _∙_}
 use mathlib.Core.Logic.{⊎-elim}
 use mathlib.Core.Bool.{Bool, true, false, cond}
 use lib.Ieee.{Float, ofBits, lt}
-use Rattle.course.specs.Arithmetic.{_⊖_, _⊗_}
+use Rattle.course.specs.Rules.Arithmetic.{_⊖_, _⊗_}
 use Rattle.run.proofs.MotorLaw.{three, fifty, motor-tests}
 use Rattle.run.proofs.dynamics.motor.Statement.{statement}
 use Rattle.run.proofs.dynamics.motor.Tie as tie

@@ -1,5 +1,5 @@
 -- `run::dynamics::push` meets its contract. Assumes nothing.
-use Rattle.run.specs.Dynamics.{pushOf}
+use Rattle.run.specs.Rules.Dynamics.{pushOf}
 use Rattle.run.proofs.Literals.{wheel-rad, stiffness-bits}
 use Rattle.run.proofs.dynamics.push.Statement.{statement}
 use Rattle.run.proofs.dynamics.push.Tie as tie

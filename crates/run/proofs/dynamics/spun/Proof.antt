@@ -1,6 +1,6 @@
 -- `run::dynamics::spun` meets its contract. Assumes nothing.
 use borrow.Author.Needs.{needs}
-use Rattle.run.specs.Dynamics.{spunOf}
+use Rattle.run.specs.Rules.Dynamics.{spunOf}
 use Rattle.run.proofs.Literals.{dt-bits, engine-power, inertia, five}
 use Rattle.run.proofs.dynamics.spun.Statement.{statement}
 use Rattle.run.proofs.dynamics.spun.Tie as tie

@@ -2,7 +2,7 @@
 use borrow.Author.Needs.{needs}
 use mathlib.Core.Path.{_≡_, ap, _∙_}
 use lib.Ieee.{Float}
-use Rattle.run.specs.Dynamics.{spunOf, brakedOf, turningOf}
+use Rattle.run.specs.Rules.Dynamics.{spunOf, brakedOf, turningOf}
 use Rattle.run.proofs.dynamics.turning.Statement.{statement}
 use Rattle.run.proofs.dynamics.turning.Tie as tie
 use Rattle.run.proofs.dynamics.turning.Reads as reads

@@ -1,5 +1,5 @@
 -- `run::lap::is_end` meets its contract. Assumes nothing.
-use Rattle.run.specs.Lap.{endOf}
+use Rattle.run.specs.Rules.Lap.{endOf}
 use mathlib.Core.Path.{refl}
 use Rattle.run.proofs.lap.is_end.Statement.{statement}
 use Rattle.run.proofs.lap.is_end.Tie as tie

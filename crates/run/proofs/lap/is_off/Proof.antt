@@ -1,8 +1,8 @@
 -- `run::lap::is_off` meets its contract. Assumes nothing.
 use lib.Ieee.{ofInt, ofBits, div}
-use Rattle.course.specs.Arithmetic.{natural}
-use Rattle.course.specs.Constants.{playfield, scale}
-use Rattle.run.specs.Lap.{offField}
+use Rattle.course.specs.Rules.Arithmetic.{natural}
+use Rattle.course.specs.Rules.Constants.{playfield, scale}
+use Rattle.run.specs.Rules.Lap.{offField}
 use borrow.Author.Needs.{needs}
 use Rattle.run.proofs.lap.is_off.Statement.{statement}
 use Rattle.run.proofs.lap.is_off.Tie as tie

@@ -1,6 +1,6 @@
 -- `run::lap::update_lap` meets its contract. Assumes nothing.
-use Rattle.course.specs.Arithmetic.{natural}
-use Rattle.run.specs.Lap.{lapOf}
+use Rattle.course.specs.Rules.Arithmetic.{natural}
+use Rattle.run.specs.Rules.Lap.{lapOf}
 use mathlib.Core.Path.{refl}
 use borrow.Author.Needs.{needs}
 use Rattle.run.proofs.lap.update_lap.Statement.{statement}

@@ -1,7 +1,7 @@
 -- `run::quad::apart_by_others` meets its contract. Assumes nothing.
 use mathlib.Core.Path.{sym, _∙_}
-use Rattle.run.specs.Overlap.{apartAlong}
-use Rattle.run.specs.TouchSteps.{apartByOthers}
+use Rattle.run.specs.Rules.Overlap.{apartAlong}
+use Rattle.run.specs.Steps.Touch.{apartByOthers}
 use borrow.Author.Needs.{needs}
 use Rattle.run.proofs.quad.apart_by_others.Statement.{statement}
 use Rattle.run.proofs.quad.apart_by_others.Tie as tie

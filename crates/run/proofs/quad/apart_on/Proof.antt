@@ -1,5 +1,5 @@
 -- `run::quad::apart_on` meets its contract. Assumes nothing.
-use Rattle.run.specs.Overlap.{apartOn}
+use Rattle.run.specs.Rules.Overlap.{apartOn}
 use borrow.Author.Needs.{needs}
 use Rattle.run.proofs.quad.apart_on.Statement.{statement}
 use Rattle.run.proofs.quad.apart_on.Tie as tie

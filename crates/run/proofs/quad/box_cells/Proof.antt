@@ -1,13 +1,13 @@
 -- `run::quad::box_cells` meets its contract. Assumes nothing.
-use Rattle.course.specs.Constants.{gridDim}
-use Rattle.course.specs.Cell.{cellOf, cellAt}
+use Rattle.course.specs.Rules.Constants.{gridDim}
+use Rattle.course.specs.Rules.Cell.{cellOf, cellAt}
 use Rattle.course.proofs.Cells.{cell-high}
 use Prim.Native.Nat.{ℕ, _+_, _*_, _≤_}
 use native.Mathlib.Omega.{arith}
 use lib.Ieee.{Float}
 use mathlib.Core.List.{List, [], _∷_}
-use Rattle.course.specs.Rect.{leastX, leastY, greatestX, greatestY}
-use Rattle.run.specs.Wheel.{boxCells}
+use Rattle.course.specs.Rules.Rect.{leastX, leastY, greatestX, greatestY}
+use Rattle.run.specs.Rules.Wheel.{boxCells}
 use mathlib.Core.Path.{_≡_, sym, ap, ap₂, _∙_, subst}
 use borrow.Author.Needs.{needs}
 use Rattle.run.proofs.quad.box_cells.Statement.{statement}

@@ -1,6 +1,6 @@
 -- `run::quad::first_side` meets its contract. Assumes nothing.
 use Rattle.run.proofs.CellLaws.{side-is}
-use Rattle.run.specs.TouchSteps.{firstSide}
+use Rattle.run.specs.Steps.Touch.{firstSide}
 use borrow.Author.Needs.{needs}
 use Rattle.run.proofs.quad.first_side.Statement.{statement}
 use Rattle.run.proofs.quad.first_side.Tie as tie

@@ -1,5 +1,5 @@
 -- `run::quad::greatest_on` meets its contract. Assumes nothing.
-use Rattle.run.specs.Overlap.{greatestOn}
+use Rattle.run.specs.Rules.Overlap.{greatestOn}
 use borrow.Author.Needs.{needs}
 use Rattle.run.proofs.quad.greatest_on.Statement.{statement}
 use Rattle.run.proofs.quad.greatest_on.Tie as tie

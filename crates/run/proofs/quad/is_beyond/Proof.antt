@@ -1,5 +1,5 @@
 -- `run::quad::is_beyond` meets its contract. Assumes nothing.
-use Rattle.run.specs.TouchSteps.{beyond}
+use Rattle.run.specs.Steps.Touch.{beyond}
 use borrow.Author.Needs.{needs}
 use Rattle.run.proofs.quad.is_beyond.Statement.{statement}
 use Rattle.run.proofs.quad.is_beyond.Tie as tie

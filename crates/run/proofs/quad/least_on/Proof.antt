@@ -1,5 +1,5 @@
 -- `run::quad::least_on` meets its contract. Assumes nothing.
-use Rattle.run.specs.Overlap.{leastOn}
+use Rattle.run.specs.Rules.Overlap.{leastOn}
 use borrow.Author.Needs.{needs}
 use Rattle.run.proofs.quad.least_on.Statement.{statement}
 use Rattle.run.proofs.quad.least_on.Tie as tie

@@ -1,5 +1,5 @@
 -- `run::quad::place` meets its contract. Assumes nothing.
-use Rattle.run.specs.Wheel.{placed}
+use Rattle.run.specs.Rules.Wheel.{placed}
 use mathlib.Core.Path.{refl}
 use Rattle.run.proofs.quad.place.Statement.{statement}
 use Rattle.run.proofs.quad.place.Tie as tie

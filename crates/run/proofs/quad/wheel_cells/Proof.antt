@@ -2,7 +2,7 @@
 use native.Mathlib.Omega.{arith}
 use mathlib.Core.Path.{_≡_, refl, ap, _∙_}
 use Prim.Native.Nat.{_-_, _≤_}
-use Rattle.run.specs.Wheel.{quadOf, boxCells}
+use Rattle.run.specs.Rules.Wheel.{quadOf, boxCells}
 use Rattle.run.proofs.CellLaws.{filled, fill-more, all-filled}
 use borrow.Author.Needs.{needs}
 use Rattle.run.proofs.quad.wheel_cells.Statement.{statement}

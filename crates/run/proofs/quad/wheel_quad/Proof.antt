@@ -1,7 +1,7 @@
 -- `run::quad::wheel_quad` meets its contract. Assumes nothing.
 use lib.Ieee.{ofInt, round, ofBits, neg}
-use Rattle.course.specs.Arithmetic.{natural, decimal}
-use Rattle.run.specs.Wheel.{wheelQuad, wheelW, wheelR, size}
+use Rattle.course.specs.Rules.Arithmetic.{natural, decimal}
+use Rattle.run.specs.Rules.Wheel.{wheelQuad, wheelW, wheelR, size}
 use borrow.Author.Needs.{needs}
 use Rattle.run.proofs.quad.wheel_quad.Statement.{statement}
 use Rattle.run.proofs.quad.wheel_quad.Tie as tie

@@ -1,5 +1,5 @@
 -- `run::reward::at_least_one` meets its contract. Assumes nothing.
-use Rattle.run.specs.Reward.{atLeastOne}
+use Rattle.run.specs.Rules.Reward.{atLeastOne}
 use Rattle.run.proofs.SheetLaws.{one-kept}
 use Rattle.run.proofs.reward.at_least_one.Statement.{statement}
 use Rattle.run.proofs.reward.at_least_one.Tie as tie

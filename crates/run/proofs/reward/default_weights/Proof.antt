@@ -1,8 +1,8 @@
 -- `run::reward::default_weights` meets its contract. Assumes nothing.
 use mathlib.Core.Path.{refl}
 use lib.Ieee.{ofBits, ofInt, round, neg}
-use Rattle.course.specs.Arithmetic.{natural, decimal}
-use Rattle.run.specs.Reward.{defaultWeights}
+use Rattle.course.specs.Rules.Arithmetic.{natural, decimal}
+use Rattle.run.specs.Rules.Reward.{defaultWeights}
 use Rattle.run.proofs.reward.default_weights.Statement.{statement}
 use Rattle.run.proofs.reward.default_weights.Tie as tie
 use Rattle.run.proofs.reward.default_weights.Reads as reads

@@ -1,7 +1,7 @@
 -- `run::reward::reward` meets its contract. Assumes nothing.
 use borrow.Author.Needs.{needs}
-use Rattle.course.specs.Arithmetic.{natural}
-use Rattle.run.specs.Reward.{rewardOf}
+use Rattle.course.specs.Rules.Arithmetic.{natural}
+use Rattle.run.specs.Rules.Reward.{rewardOf}
 use Rattle.run.proofs.reward.reward.Statement.{statement}
 use Rattle.run.proofs.reward.reward.Tie as tie
 use Rattle.run.proofs.reward.reward.Reads as reads

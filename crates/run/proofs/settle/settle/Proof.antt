@@ -1,6 +1,6 @@
 -- `run::settle::settle` meets its contract. Assumes nothing.
 use Rattle.run.proofs.CallLaws.{settled-from}
-use Rattle.run.specs.State.{view}
+use Rattle.run.specs.Grader.State.{view}
 use borrow.Author.Needs.{needs}
 use Rattle.run.proofs.settle.settle.Statement.{statement}
 use Rattle.run.proofs.settle.settle.Tie as tie

@@ -1,9 +1,9 @@
 -- `run::settle::settle_cause` meets its contract. Assumes nothing.
 use Rattle.run.proofs.CellLaws.{cells-sound-is}
-use Rattle.run.specs.State.{columns, shortOf}
-use Rattle.run.specs.Arguments.{placesOk}
-use Rattle.run.specs.Settle.{settleCause}
-use Rattle.run.specs.Touch.{soundPoses}
+use Rattle.run.specs.Grader.State.{columns, shortOf}
+use Rattle.run.specs.Rules.Arguments.{placesOk}
+use Rattle.run.specs.Grader.Settle.{settleCause}
+use Rattle.run.specs.Grader.Touch.{soundPoses}
 use Prim.Native.Nat.{ℕ}
 use mathlib.Core.Bool.{cond, not}
 use mathlib.Core.Path.{_≡_, sym, _∙_}

@@ -2,8 +2,8 @@
 use mathlib.Core.Path.{_≡_, sym, _∙_}
 use native.Mathlib.Omega.{arith}
 use lib.Dec.{lit≤}
-use Rattle.run.specs.State.{columns}
-use Rattle.run.specs.Widths.{fullWords, mostTiles}
+use Rattle.run.specs.Grader.State.{columns}
+use Rattle.run.specs.Grader.Widths.{fullWords, mostTiles}
 use Rattle.run.proofs.CallLaws.{SettleFacts, settle-facts, settle-refused, settle-accepted, contact-few}
 use borrow.Author.Needs.{needs}
 use Rattle.run.proofs.settle.settle_parts.Statement.{statement}

@@ -1,5 +1,5 @@
 -- `run::settle::settled_progress` meets its contract. Assumes nothing.
-use Rattle.run.specs.Settle.{settledProgress}
+use Rattle.run.specs.Grader.Settle.{settledProgress}
 use borrow.Author.Needs.{needs}
 use Rattle.run.proofs.settle.settled_progress.Statement.{statement}
 use Rattle.run.proofs.settle.settled_progress.Tie as tie

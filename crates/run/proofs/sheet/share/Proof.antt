@@ -2,7 +2,7 @@
 use native.Mathlib.Omega.{arith}
 use mathlib.Core.Path.{refl}
 use borrow.Author.Needs.{needs}
-use Rattle.run.specs.Sheet.{shareOf}
+use Rattle.run.specs.Grader.Sheet.{shareOf}
 use Rattle.run.proofs.SheetLaws.{share-lt}
 use Rattle.run.proofs.sheet.share.Statement.{statement}
 use Rattle.run.proofs.sheet.share.Tie as tie

@@ -1,6 +1,6 @@
 -- `run::sheet::sheet` meets its contract. Assumes nothing.
 use Rattle.run.proofs.SheetLaws.{fit-some, fit-credited}
-use Rattle.run.specs.Sheet.{sheetOf, sheetCause, sheetAnswer, figuresOf}
+use Rattle.run.specs.Grader.Sheet.{sheetOf, sheetCause, sheetAnswer, figuresOf}
 use mathlib.Core.Path.{sym, _∙_}
 use borrow.Author.Needs.{needs}
 use Rattle.run.proofs.sheet.sheet.Statement.{statement}

@@ -1,5 +1,5 @@
 -- `run::start::first_progress` meets its contract. Assumes nothing.
-use Rattle.run.specs.Start.{firstProgress}
+use Rattle.run.specs.Grader.Start.{firstProgress}
 use mathlib.Core.Path.{refl}
 use Rattle.run.proofs.start.first_progress.Statement.{statement}
 use Rattle.run.proofs.start.first_progress.Tie as tie

@@ -1,7 +1,7 @@
 -- `run::start::settings_ok` meets its contract. Assumes nothing.
 use lib.Ieee.{ofInt, ofBits}
-use Rattle.course.specs.Arithmetic.{natural}
-use Rattle.run.specs.Arguments.{settingsOk}
+use Rattle.course.specs.Rules.Arithmetic.{natural}
+use Rattle.run.specs.Rules.Arguments.{settingsOk}
 use mathlib.Core.Path.{refl}
 use Rattle.run.proofs.start.settings_ok.Statement.{statement}
 use Rattle.run.proofs.start.settings_ok.Tie as tie

@@ -1,11 +1,11 @@
 -- `run::start::start` meets its contract. Assumes nothing.
 use Rattle.run.proofs.CallLaws.{start-facts, start-refused, start-accepted}
-use Rattle.run.specs.State.{view}
+use Rattle.run.specs.Grader.State.{view}
 use lib.Dec.{lit≤}
 use Prim.Native.Nat.{_≤_}
 use mathlib.Core.Path.{_≡_, sym, _∙_}
 use native.Mathlib.Omega.{arith}
-use Rattle.run.specs.Start.{setupOf, firstContact}
+use Rattle.run.specs.Grader.Start.{setupOf, firstContact}
 use borrow.Author.Needs.{needs}
 use Rattle.run.proofs.start.start.Statement.{statement}
 use Rattle.run.proofs.start.start.Tie as tie

@@ -1,6 +1,6 @@
 -- `run::start::start_cause` meets its contract. Assumes nothing.
-use Rattle.run.specs.Start.{startCause, startShort}
-use Rattle.run.specs.State.{columns, shortOf}
+use Rattle.run.specs.Grader.Start.{startCause, startShort}
+use Rattle.run.specs.Grader.State.{columns, shortOf}
 use Prim.Native.Nat.{ℕ}
 use mathlib.Core.Bool.{cond, not}
 use mathlib.Core.Path.{_≡_, sym, _∙_}

@@ -1,5 +1,5 @@
 -- `run::start::still_car` meets its contract. Assumes nothing.
-use Rattle.run.specs.Pass.{stillWheel, stillCar}
+use Rattle.run.specs.Rules.Pass.{stillWheel, stillCar}
 use mathlib.Core.Path.{refl}
 use Rattle.run.proofs.start.still_car.Statement.{statement}
 use Rattle.run.proofs.start.still_car.Tie as tie

@@ -1,6 +1,6 @@
 -- `run::start::zero_run` meets its contract. Assumes nothing.
-use Rattle.run.specs.Start.{zeroState}
-use Rattle.run.specs.State.{view}
+use Rattle.run.specs.Grader.Start.{zeroState}
+use Rattle.run.specs.Grader.State.{view}
 use borrow.Author.Needs.{needs}
 use Rattle.run.proofs.start.zero_run.Statement.{statement}
 use Rattle.run.proofs.start.zero_run.Tie as tie

@@ -1,7 +1,7 @@
 -- `run::state::in_range` meets its contract. Assumes nothing.
 use lib.Ieee.{ofInt, ofBits}
-use Rattle.course.specs.Arithmetic.{natural}
-use Rattle.run.specs.Arguments.{inRange}
+use Rattle.course.specs.Rules.Arithmetic.{natural}
+use Rattle.run.specs.Rules.Arguments.{inRange}
 use borrow.Author.Needs.{needs}
 use Rattle.run.proofs.state.in_range.Statement.{statement}
 use Rattle.run.proofs.state.in_range.Tie as tie

@@ -1,7 +1,7 @@
 -- `run::state::is_short` meets its contract. Assumes nothing.
 use borrow.Author.Needs.{needs}
 use native.Mathlib.Omega.{arith}
-use Rattle.run.specs.Arguments.{shortColumns}
+use Rattle.run.specs.Rules.Arguments.{shortColumns}
 use Rattle.run.proofs.state.is_short.Statement.{statement}
 use Rattle.run.proofs.state.is_short.Tie as tie
 use Rattle.run.proofs.state.is_short.Reads as reads

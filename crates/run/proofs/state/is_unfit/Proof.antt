@@ -1,6 +1,6 @@
 -- `run::state::is_unfit` meets its contract. Assumes nothing.
 use mathlib.Core.Path.{refl}
-use Rattle.run.specs.State.{unfit}
+use Rattle.run.specs.Grader.State.{unfit}
 use Rattle.run.proofs.state.is_unfit.Statement.{statement}
 use Rattle.run.proofs.state.is_unfit.Tie as tie
 use Rattle.run.proofs.state.is_unfit.Reads as reads

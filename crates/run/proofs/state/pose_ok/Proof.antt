@@ -1,5 +1,5 @@
 -- `run::state::pose_ok` meets its contract. Assumes nothing.
-use Rattle.run.specs.Arguments.{poseOk}
+use Rattle.run.specs.Rules.Arguments.{poseOk}
 use borrow.Author.Needs.{needs}
 use Rattle.run.proofs.state.pose_ok.Statement.{statement}
 use Rattle.run.proofs.state.pose_ok.Tie as tie

@@ -1,5 +1,5 @@
 -- `run::state::poses_ok` meets its contract. Assumes nothing.
-use Rattle.run.specs.Arguments.{posesOk}
+use Rattle.run.specs.Rules.Arguments.{posesOk}
 use borrow.Author.Needs.{needs}
 use Rattle.run.proofs.state.poses_ok.Statement.{statement}
 use Rattle.run.proofs.state.poses_ok.Tie as tie

@@ -1,7 +1,7 @@
 -- `run::touch::cell_sound` meets its contract. Assumes nothing.
-use Rattle.course.specs.Index.{lookup}
-use Rattle.run.specs.Touch.{soundCell}
-use Rattle.run.specs.Below.{everyOf}
+use Rattle.course.specs.Grader.Index.{lookup}
+use Rattle.run.specs.Grader.Touch.{soundCell}
+use Rattle.run.specs.Rules.Below.{everyOf}
 use lib.Dec.{ltb}
 use Prim.Native.Nat.{ℕ}
 use mathlib.Core.Bool.{Bool, _&&_}

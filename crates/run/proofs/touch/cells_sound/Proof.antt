@@ -3,9 +3,9 @@ use Rattle.run.proofs.CellLaws.{every-next}
 use Rattle.course.proofs.BoolLaws.{right-false}
 use borrow.Author.Tests.{not-true, not-false}
 use Rattle.run.proofs.TouchLaws.{every-none, every-fails}
-use Rattle.run.specs.Below.{everyOf}
-use Rattle.run.specs.Touch.{soundCell}
-use Rattle.run.specs.TouchSteps.{again}
+use Rattle.run.specs.Rules.Below.{everyOf}
+use Rattle.run.specs.Grader.Touch.{soundCell}
+use Rattle.run.specs.Steps.Touch.{again}
 use lib.Seq.{take-all}
 use lib.ListN.{length, take}
 use Prim.Native.Nat.{_-_, _≤_}

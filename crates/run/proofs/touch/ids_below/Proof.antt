@@ -1,6 +1,6 @@
 -- `run::touch::ids_below` meets its contract. Assumes nothing.
 use Rattle.run.proofs.TouchLaws.{every-none, every-take, every-fails}
-use Rattle.run.specs.Below.{everyOf}
+use Rattle.run.specs.Rules.Below.{everyOf}
 use lib.Seq.{take-all}
 use borrow.Author.Tests.{lt-ltb, le-ltb}
 use lib.Dec.{ltb}

@@ -1,5 +1,5 @@
 -- `run::touch::tile_at` meets its contract. Assumes nothing.
-use Rattle.course.specs.Tiles.{tileOf}
+use Rattle.course.specs.Rules.Tiles.{tileOf}
 use mathlib.Core.Path.{refl}
 use borrow.Author.Needs.{needs}
 use Rattle.run.proofs.touch.tile_at.Statement.{statement}

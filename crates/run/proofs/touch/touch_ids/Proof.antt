@@ -1,7 +1,7 @@
 -- `run::touch::touch_ids` meets its contract. Assumes nothing.
 use Rattle.run.proofs.TouchLaws.{touch-more, some-none, some-take, every-at, tested-cong, room-for}
-use Rattle.run.specs.TouchSteps.{overlapsTile, Tests}
-use Rattle.run.specs.Touch.{lists}
+use Rattle.run.specs.Steps.Touch.{overlapsTile, Tests}
+use Rattle.run.specs.Grader.Touch.{lists}
 use lib.Seq.{take-all}
 use borrow.Author.Tests.{ltb-true}
 use lib.Dec.{eqb, ltb}

@@ -5,8 +5,8 @@ use Prim.Native.Nat.{ℕ}
 use lib.ListN.{length}
 use native.Mathlib.Omega.{arith}
 use lib.Dec.{eqb}
-use Rattle.run.specs.Words.{member, setOf}
-use Rattle.run.specs.Overlap.{overlapOf}
+use Rattle.run.specs.Grader.Words.{member, setOf}
+use Rattle.run.specs.Rules.Overlap.{overlapOf}
 use Rattle.run.proofs.TouchLaws.{tested-before, tested-hit, tested-miss}
 use borrow.Author.Needs.{needs}
 use Rattle.run.proofs.touch.touch_one.Statement.{statement}

@@ -1,5 +1,5 @@
 -- `run::words::has` meets its contract. Assumes nothing.
-use Rattle.run.specs.Words.{member, bitOf}
+use Rattle.run.specs.Grader.Words.{member, bitOf}
 use mathlib.Core.Path.{refl}
 use borrow.Author.Needs.{needs}
 use Rattle.run.proofs.words.has.Statement.{statement}

@@ -2,7 +2,7 @@
 use Prim.Native.Nat.{_-_, _≤_}
 use mathlib.Core.Path.{_≡_}
 use lib.ListN.{length}
-use Rattle.course.specs.Lengths.{mostPoints}
+use Rattle.course.specs.Rules.Lengths.{mostPoints}
 use borrow.Author.Needs.{needs}
 use Rattle.run_vectors.proofs.change.give_column.Statement.{statement}
 use Rattle.run_vectors.proofs.change.give_column.Tie as tie

@@ -1,0 +1,3 @@
+-- For private functions alone: no public contract reaches these.
+-- of replay
+pub mod Replay

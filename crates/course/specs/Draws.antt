@@ -1,3 +1,0 @@
--- The random numbers of the crate below, passed on by name: a seed's generator and a draw's unit. Assumes nothing.
-pub use Rattle.rng.specs.SplitMix.{seeded}
-pub use Rattle.rng.specs.Unit.{unitOf}

@@ -1,0 +1,3 @@
+-- For private functions alone: no public contract reaches these.
+-- of reading
+pub mod Form

@@ -1,0 +1,3 @@
+-- The words of laws beside the contracts.
+-- the ten marked examples as one statement
+pub mod Examples

@@ -1,0 +1,5 @@
+-- For private functions alone: no public contract reaches these.
+-- of quad, touch, contact and words
+pub mod Touch
+-- of drive
+pub mod Drive
