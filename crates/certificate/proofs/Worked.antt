@@ -18,6 +18,7 @@ use Rattle.course.specs.Rules.Cell.{along, cellOf, cellAt}
 use Rattle.course.specs.Rules.Rect.{leastX, leastY, greatestX, greatestY, rectOf, holds}
 use Rattle.course.specs.Rules.Tiles.{beforeOf, tileQuad, eight, tileOf, tileAt, tilesTo, tilesOf}
 use Rattle.course.specs.declared.tiles.TrackPoint.{TrackPoint}
+use Rattle.course.proofs.LengthLaws.{points-fit}
 use Rattle.run.specs.Rules.Below.{anyBelow, everyBelow, someOf}
 use Rattle.run.specs.Rules.Wheel.{size, wheelW, wheelR, placed, wheelQuad, quadOf, boxCells}
 use Rattle.run.specs.Rules.Overlap.{leastOn, greatestOn, apartOn, apartAlong, apartByEdges, overlapOf}
@@ -116,7 +117,7 @@ module _ (l : CourseColumns) (whole : ltb (length (l .list)) (cellsOf points) �
   lent-enough =
       ap lengthsOf (lent-laid false points l whole (omega arith) [] [] [])
       ∙ (λ i. record {
-        tiles = (ap (λ (z : List Float). length (tilesOf points ++ z)) (append-nil (zerosPast points)) ∙ own-long (quadNumbers (ownLength points)) (tilesOf points) (tiles-few (ownLength points) points (omega arith))) i;
+        tiles = (ap (λ (z : List Float). length (tilesOf points ++ z)) (append-nil (zerosPast points)) ∙ own-long (quadNumbers (ownLength points)) (tilesOf points) (tiles-few (ownLength points) points (points-fit (length points) (omega arith)))) i;
         offsets = (ap length (append-nil (fromPoints points .offsets)) ∙ offsets-long points) i;
       })
 
