@@ -12,9 +12,10 @@ usage: host/audit/reading                 a table of the calls, then certificate
        host/audit/reading --files CALL    what one call reaches: files, definitions and lines; CALL as the table has
                                           it, or its last part, or one of: certificate, scorer, all
 It ends with status 1, and the places, where a public contract or the certificate reaches a definition of Steps or Laws,
-one that stands in proofs/ or a name that cannot be found; where a definition of Rules cites one of another room, or the
-plain scorer reaches one of Grader; where a definition stands in no room, or a public function has no contract; where
-docs/RULES.md has other counts than these, or names a definition or law that is not in the file that it names."""
+one that stands in proofs/, a private struct of the code or a name that cannot be found; where a definition of Rules
+cites one of another room, or the plain scorer reaches one of Grader; where a definition stands in no room, or a public
+function has no contract; where docs/RULES.md has other counts than these, or names a definition or law that is not in
+the file that it names."""
 import re
 import sys
 from collections import deque
@@ -39,7 +40,7 @@ class Item:
 
     def __init__(self, file, name, kind, first):
         self.file, self.name, self.kind, self.first = file, name, kind, first
-        self.lines, self.cited, self.kit, self.lost = 0, [], set(), []
+        self.lines, self.cited, self.kit, self.lost, self.private = 0, [], set(), [], False
 
     def __str__(self):
         return f"{self.name} ({self.file.name}:{self.first + 1})"
@@ -197,6 +198,7 @@ def read_source(path, crate, root):
         m = DECLARED.match(line)
         if m:
             item = Item(file, m[2], m[1], at)
+            item.private = not line.startswith("pub ")
             end = at + 1
             if not line.rstrip().endswith(";"):
                 while file.text[end - 1].rstrip() != "}":
@@ -390,6 +392,8 @@ class Reach:
                 self.faults.append(f"no definition of '{name}': {self.chain(item)}")
             if item.file.room in ("Steps", "Laws"):
                 self.faults.append(f"a definition of {item.file.room}: {self.chain(item)}")
+            if item.private and item.kind in ("struct", "enum"):
+                self.faults.append(f"a private {item.kind}: {self.chain(item)}")
             if item.kind == "contract" and not item.clauses:
                 self.faults.append(f"a public function without a contract: {item}")
 
