@@ -10,9 +10,8 @@ use native.Mathlib.Numerals.{add-one}
 use native.Mathlib.Omega.{arith}
 use lib.Ieee.{Float}
 use Rattle.course.specs.Rules.Lengths.{cellCount, offsetCount}
-use Rattle.course.specs.declared.index.Rect.{Rect}
 use Rattle.course.specs.Grader.Index.{start, offsetsOf, indexOf}
-use Rattle.course.specs.Rules.Rect.{rectOf, holdsOf, areaOf, needed}
+use Rattle.course.specs.Rules.Rect.{Rect, rectOf, holdsOf, areaOf, needed}
 use Rattle.course.specs.Steps.Index.{Small, Built}
 use Rattle.course.proofs.Cells.{cell-high}
 use Rattle.course.proofs.IndexLaws.{start-tile, start-no-tile}

@@ -14,10 +14,9 @@ use lib.Ieee.{Float, nan, isNan, nanBits, binary64, ofBits, toBits}
 use lib.Ieee.Bits.{toBits-ofBits, nanBits-is}
 use Rattle.course.specs.Rules.Constants.{gridDim}
 use Rattle.course.specs.Rules.Lengths.{mostPoints, cellCount, offsetCount}
-use Rattle.course.specs.declared.index.Rect.{Rect}
 use Rattle.course.specs.Rules.Arithmetic.{nought}
 use Rattle.course.specs.Grader.Index.{addIf, listed, start, indexOf, table, offsetsOf}
-use Rattle.course.specs.Rules.Rect.{rectOf, holds, holdsOf, needed}
+use Rattle.course.specs.Rules.Rect.{Rect, rectOf, holds, holdsOf, needed}
 use Rattle.course.specs.Steps.Index.{Built, Small, Packs, rectIn, heldIn, RectsIn, RectsPacked}
 use Rattle.course.proofs.RootFields.{below-inf}
 use Rattle.course.proofs.CourseRects.{rect-same, rect-small, needed-start, built-laid}

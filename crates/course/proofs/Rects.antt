@@ -8,8 +8,7 @@ use native.Mathlib.Omega.{arith}
 use borrow.Author.Tests.{le-leb, lt-leb}
 use Rattle.course.specs.Rules.Lengths.{cellCount}
 use Rattle.course.specs.Rules.Constants.{gridDim}
-use Rattle.course.specs.declared.index.Rect.{Rect}
-use Rattle.course.specs.Rules.Rect.{holds, areaOf}
+use Rattle.course.specs.Rules.Rect.{Rect, holds, areaOf}
 use Rattle.course.specs.Steps.Index.{Small}
 use Rattle.course.specs.Rules.Counting.{howMany}
 use Rattle.course.proofs.IndexLaws.{order, held-none, held-each}

@@ -6,8 +6,7 @@ use mathlib.Core.List.{List}
 use mathlib.Core.Logic.{_⊎_, inl, inr, ⊎-elim}
 use native.Mathlib.Omega.{arith}
 use lib.ListN.{length, getD}
-use Rattle.course.specs.declared.index.Rect.{Rect}
-use Rattle.course.specs.Rules.Rect.{holds}
+use Rattle.course.specs.Rules.Rect.{Rect, holds}
 use Rattle.course.specs.Rules.Constants.{gridDim}
 use Rattle.course.specs.Rules.Lengths.{offsetCount}
 use Rattle.course.specs.Steps.Index.{Small}

@@ -8,9 +8,8 @@ use native.Mathlib.Omega.{arith}
 use native.Mathlib.Numerals.{add-one}
 use lib.ListN.{length, getD}
 use lib.Seq.{ext-getD, take-all}
-use Rattle.course.specs.declared.index.Rect.{Rect}
 use Rattle.course.specs.Grader.Index.{listed, start, indexOf, offsetsOf}
-use Rattle.course.specs.Rules.Rect.{holds}
+use Rattle.course.specs.Rules.Rect.{Rect, holds}
 use Rattle.course.specs.Rules.Lengths.{cellCount, offsetCount}
 use Rattle.course.specs.Steps.Index.{RectCounted, Counts, RectPlaced, Placed, Summed, sumBelow}
 use Rattle.course.specs.Rules.Counting.{digit}

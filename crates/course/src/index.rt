@@ -12,7 +12,7 @@ ghost use Rattle.course.specs.Rules.Lengths.{cellCount, mostPoints, offs
 ghost use Rattle.course.specs.Rules.Cell.{cellAt};
 ghost use Rattle.course.specs.Rules.Rect.{rectOf, holds, areaOf, needed};
 ghost use Rattle.course.specs.Grader.Index.{listed, start, indexOf, offsetsOf, partOk, lookup};
-ghost use Rattle.course.specs.Steps.Index.{Small, Built, Inside, RunCounted, RectCounted, Counts, Summed, RunPlaced, RectPlaced, Placed, Packs, Readable, rectIn, heldIn, RectsPacked, RectsIn};
+ghost use Rattle.course.specs.Steps.Index.{rectAs, Small, Built, Inside, RunCounted, RectCounted, Counts, Summed, RunPlaced, RectPlaced, Placed, Packs, Readable, rectIn, heldIn, RectsPacked, RectsIn};
 use crate::cell::cell_at;
 use crate::cell::cell_of;
 use crate::constants::GRID_DIM;
@@ -31,7 +31,7 @@ pub(crate) struct Rect {
 // The cells from the least to the greatest coordinates of tile i.
 fn rect_of(tiles: &[f64], i: usize) -> Rect
     requires { ⌜ (i < mostPoints) × (i * 8 + 8 ≤ length (now tiles)) ⌝ }
-    ensures { λ r. ⌜ r ≡ rectOf (now (tiles .entry)) i ⌝ }
+    ensures { λ r. ⌜ rectAs r ≡ rectOf (now (tiles .entry)) i ⌝ }
 {
     let q = i * 8;
     let xa = tiles[q];
@@ -51,8 +51,8 @@ fn rect_of(tiles: &[f64], i: usize) -> Rect
 
 // The number of a rectangle's cells.
 fn area(r: Rect) -> usize
-    requires { ⌜ Small r ⌝ }
-    ensures { λ a. ⌜ a ≡ areaOf r ⌝ }
+    requires { ⌜ Small (rectAs r) ⌝ }
+    ensures { λ a. ⌜ a ≡ areaOf (rectAs r) ⌝ }
 {
     let x0 = r.x0;
     let x1 = r.x1;
@@ -69,8 +69,8 @@ fn area(r: Rect) -> usize
 
 // A rectangle as one number, eight bits for each side.
 fn packed(r: Rect) -> f64
-    requires { ⌜ Small r ⌝ }
-    ensures { λ p. ⌜ Packs p r ⌝ }
+    requires { ⌜ Small (rectAs r) ⌝ }
+    ensures { λ p. ⌜ Packs p (rectAs r) ⌝ }
 {
     let x0 = r.x0;
     let x1 = r.x1;
@@ -82,7 +82,7 @@ fn packed(r: Rect) -> f64
 // The rectangle that entry i packs.
 fn rect_at(rects: &[f64], i: usize) -> Rect
     requires { ⌜ Readable (now rects) i ⌝ }
-    ensures { λ r. ⌜ r ≡ rectIn (getD (now (rects .entry)) i nan) ⌝ }
+    ensures { λ r. ⌜ rectAs r ≡ rectIn (getD (now (rects .entry)) i nan) ⌝ }
 {
     let b = f64::to_bits(rects[i]) as usize;
     Rect {
@@ -147,10 +147,10 @@ fn clipped(end: usize) -> usize
 
 // One more, two places after its own, for each cell of a rectangle but the grid's last.
 fn count_rect(o: &mut [u32], r: Rect)
-    requires { ⌜ Small r ⌝ }
+    requires { ⌜ Small (rectAs r) ⌝ }
     requires { ⌜ length (now o) ≡ offsetCount ⌝ }
     requires { ⌜ ((k : ℕ) → k < offsetCount → getD (now o) k 0 < mostPoints) ⌝ }
-    ensures { λ u. ⌜ RectCounted 2 (now (o .entry)) (now (o .exit)) r ⌝ }
+    ensures { λ u. ⌜ RectCounted 2 (now (o .entry)) (now (o .exit)) (rectAs r) ⌝ }
 {
     let x0 = r.x0;
     let x1 = r.x1;
@@ -216,11 +216,11 @@ fn place_run(o: &mut [u32], l: &mut [u32], id: u32, a: usize, b: usize)
 
 // The id goes where the cursor of each cell of a rectangle points.
 fn place_rect(o: &mut [u32], l: &mut [u32], id: u32, r: Rect)
-    requires { ⌜ Small r ⌝ }
+    requires { ⌜ Small (rectAs r) ⌝ }
     requires { ⌜ length (now o) ≡ offsetCount ⌝ }
     requires { ⌜ length (now l) ≤ mostPoints * cellCount ⌝ }
-    requires { ⌜ ((c : ℕ) → c < cellCount → holds r c ≡ true → getD (now o) (c + 1) 0 < length (now l)) ⌝ }
-    ensures { λ u. ⌜ RectPlaced (now (o .entry)) (now (l .entry)) (now (o .exit)) (now (l .exit)) id r ⌝ }
+    requires { ⌜ ((c : ℕ) → c < cellCount → holds (rectAs r) c ≡ true → getD (now o) (c + 1) 0 < length (now l)) ⌝ }
+    ensures { λ u. ⌜ RectPlaced (now (o .entry)) (now (l .entry)) (now (o .exit)) (now (l .exit)) id (rectAs r) ⌝ }
 {
     let x0 = r.x0;
     let x1 = r.x1;

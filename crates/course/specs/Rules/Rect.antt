@@ -8,7 +8,6 @@ use Rattle.course.specs.Rules.Numeric.{leastOf, greatestOf}
 use Rattle.course.specs.Rules.Constants.{gridDim}
 use Rattle.course.specs.Rules.Cell.{cellOf}
 use Rattle.course.specs.Rules.Tiles.{corner, tileOf}
-use Rattle.course.specs.declared.index.Rect.{Rect}
 
 -- ---- the box of a quad: its least and greatest coordinates
 unfoldable pub leastX : List (List Float) → Float
@@ -22,6 +21,13 @@ greatestX q = greatestOf (corner q 0 0) (corner q 1 0) (corner q 2 0) (corner q 
 
 unfoldable pub greatestY : List (List Float) → Float
 greatestY q = greatestOf (corner q 0 1) (corner q 1 1) (corner q 2 1) (corner q 3 1)
+
+-- a rectangle of cells: its first and last column, and its first and last row
+pub record Rect : Type 0 where
+  pub x0 : ℕ
+  pub x1 : ℕ
+  pub y0 : ℕ
+  pub y1 : ℕ
 
 -- ---- from the cells of a tile's least to those of its greatest coordinates
 unfoldable pub rectOf : List Float → ℕ → Rect

@@ -11,8 +11,12 @@ use lib.Ieee.{Float, nan, isNan, binary64, toBits}
 use Rattle.course.specs.Rules.Lengths.{cellCount, mostPoints, offsetCount}
 use Rattle.course.specs.Rules.Counting.{digit}
 use Rattle.course.specs.Grader.Index.{listed, start, offsetsOf, indexOf}
-use Rattle.course.specs.Rules.Rect.{rectOf, holds, holdsOf, needed}
-use Rattle.course.specs.declared.index.Rect.{Rect}
+use Rattle.course.specs.Rules.Rect.{Rect, rectOf, holds, holdsOf, needed}
+use Rattle.course.specs.declared.index.Rect.{Rect as CodeRect}
+
+-- the code's struct as the definitions' own
+abbrev pub rectAs : CodeRect → Rect
+rectAs r = record { x0 = r .x0; x1 = r .x1; y0 = r .y0; y1 = r .y1 }
 
 -- a test on places: whether k is from a up to below b
 pub record Inside (a b k : ℕ) : Type 0 where

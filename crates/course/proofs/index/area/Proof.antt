@@ -6,6 +6,7 @@ use mathlib.Core.Path.{_≡_, refl, sym, ap, _∙_, subst}
 use native.Mathlib.Omega.{arith}
 use lib.ListN.{length, getD, set}
 use Rattle.course.specs.Rules.Rect.{areaOf}
+use Rattle.course.specs.Steps.Index.{rectAs}
 use borrow.Author.Needs.{needs}
 use Rattle.course.proofs.index.area.Statement.{statement}
 use Rattle.course.proofs.index.area.Tie as tie
@@ -40,7 +41,7 @@ sub-result-2 c = search needs
 
 mul-result : tie.Need-mul-result
 unfolding areaOf
-mul-result c = omega (arith, area-small (c .before .before .args .r) (c .before .before .pre))
+mul-result c = omega (arith, area-small (rectAs (c .before .before .args .r)) (c .before .before .pre))
 
 returns-3 : tie.Need-returns-3
 unfolding areaOf

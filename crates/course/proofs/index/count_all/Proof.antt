@@ -1,12 +1,11 @@
 -- `course::index::count_all` meets its contract. Assumes nothing.
-use Rattle.course.specs.declared.index.Rect.{Rect}
 use Rattle.course.specs.Grader.Index.{listed}
 use Prim.Native.Nat.{ℕ, _+_, _*_, _-_, _≤_, _<_, max}
 use mathlib.Core.Path.{_≡_, refl, sym, ap, _∙_, subst}
 use native.Mathlib.Omega.{arith}
 use lib.ListN.{length, getD, set}
-use Rattle.course.specs.Rules.Rect.{holds}
-use Rattle.course.specs.Steps.Index.{Small, heldIn}
+use Rattle.course.specs.Rules.Rect.{Rect, holds}
+use Rattle.course.specs.Steps.Index.{rectAs, Small, heldIn}
 use Rattle.course.specs.Steps.Index.{Counts, RectCounted}
 use Rattle.course.proofs.TileSteps.{counts-more, counts-small}
 use borrow.Author.Needs.{needs}
@@ -50,7 +49,7 @@ loop-again c =
     let a = c .before .before .before .before .before .before in
     let s = a .before .before .before in
     let e = c .before .before .before .rect-at .ensures in
-    (omega arith, counts-more (heldIn (s .args .rects .now)) (a .loop .i) (c .before .before .before .rect-at .result) (λ d. ap (λ (z : Rect). holds z d) (sym e)) _ _ (a .loop .inv .1) (c .before .before .count-rect .ensures))
+    (omega arith, counts-more (heldIn (s .args .rects .now)) (a .loop .i) (rectAs (c .before .before .before .rect-at .result)) (λ d. ap (λ (z : Rect). holds z d) (sym e)) _ _ (a .loop .inv .1) (c .before .before .count-rect .ensures))
 
 same-length : tie.Need-same-length Inv-loop μ-loop
 same-length c = search needs

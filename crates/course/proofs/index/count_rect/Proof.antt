@@ -1,7 +1,7 @@
 -- `course::index::count_rect` meets its contract. Assumes nothing.
 use Rattle.course.specs.Rules.Constants.{gridDim}
 use Rattle.course.specs.Rules.Lengths.{mostPoints, offsetCount}
-use Rattle.course.specs.Steps.Index.{Inside}
+use Rattle.course.specs.Steps.Index.{rectAs, Inside}
 use Prim.Native.Nat.{ℕ, _+_, _*_, _-_, _≤_, _<_, min}
 use mathlib.Core.Path.{_≡_, refl}
 use native.Mathlib.Omega.{arith}
@@ -23,7 +23,7 @@ abbrev μ-loop : tie.MeasureT-loop
 μ-loop o₀ x0 x1 y1 y₀ o y = gridDim - y
 
 loop-holds : tie.Need-loop-holds Inv-loop μ-loop
-loop-holds c = (count-none (c .before .args .r) (c .before .pre .0) 2 _ _ refl _ (omega arith), omega arith, omega arith)
+loop-holds c = (count-none (rectAs (c .before .args .r)) (c .before .pre .0) 2 _ _ refl _ (omega arith), omega arith, omega arith)
 
 mul-clipped : tie.Need-mul-clipped Inv-loop μ-loop
 mul-clipped c = search needs
@@ -69,7 +69,7 @@ loop-again c =
     let a = d .before .before in
     let s = a .before .before in
     let e : d .clipped .result ≡ min (a .loop .y * gridDim + s .args .r .x1 + 1 + 2) offsetCount = omega (arith, d .clipped .ensures) in
-    (count-row (s .args .r) (s .pre .0) 2 _ _ _ (a .loop .y) (d .clipped .result) (a .loop .inv .1) (omega arith) e (a .loop .inv .0) (c .before .before .count-run .ensures), omega arith, omega arith)
+    (count-row (rectAs (s .args .r)) (s .pre .0) 2 _ _ _ (a .loop .y) (d .clipped .result) (a .loop .inv .1) (omega arith) e (a .loop .inv .0) (c .before .before .count-run .ensures), omega arith, omega arith)
 
 same-length : tie.Need-same-length Inv-loop μ-loop
 same-length c = search needs
@@ -77,7 +77,7 @@ same-length c = search needs
 returns : tie.Need-returns Inv-loop μ-loop
 returns c =
     let s = c .before .before .before in
-    count-done (s .args .r) (s .pre .0) 2 _ _ (c .before .loop .y) (c .loop-test .left) (c .before .loop .inv .0)
+    count-done (rectAs (s .args .r)) (s .pre .0) 2 _ _ (c .before .loop .y) (c .loop-test .left) (c .before .loop .inv .0)
 
 pub count-rect-spec : {M : Type 1} → statement M
 count-rect-spec =

@@ -1,5 +1,6 @@
 -- `course::index::packed` meets its contract. Assumes nothing.
 use borrow.Author.Needs.{needs}
+use Rattle.course.specs.Steps.Index.{rectAs}
 use Rattle.course.proofs.PackedRects.{packs, packs-bits}
 use Rattle.course.proofs.index.packed.Statement.{statement}
 use Rattle.course.proofs.index.packed.Tie as tie
@@ -23,10 +24,10 @@ add-result-3 : tie.Need-add-result-3
 add-result-3 c = search needs
 
 float-from-bits-result : tie.Need-float-from-bits-result
-float-from-bits-result c = packs-bits (c .args .r) (c .pre)
+float-from-bits-result c = packs-bits (rectAs (c .args .r)) (c .pre)
 
 returns : tie.Need-returns
-returns c = packs (c .args .r) (c .pre)
+returns c = packs (rectAs (c .args .r)) (c .pre)
 
 pub packed-spec : {M : Type 1} → statement M
 packed-spec =

@@ -1,11 +1,10 @@
 -- `course::index::place_all` meets its contract. Assumes nothing.
-use Rattle.course.specs.declared.index.Rect.{Rect}
 use Prim.Native.Nat.{ℕ, _+_, _*_, _-_, _≤_, _<_, max}
 use mathlib.Core.Path.{_≡_, refl, sym, ap, _∙_, subst}
 use native.Mathlib.Omega.{arith}
 use lib.ListN.{length, getD, set}
-use Rattle.course.specs.Rules.Rect.{holds}
-use Rattle.course.specs.Steps.Index.{Small, Placed, heldIn}
+use Rattle.course.specs.Rules.Rect.{Rect, holds}
+use Rattle.course.specs.Steps.Index.{rectAs, Small, Placed, heldIn}
 use Rattle.course.specs.Rules.Lengths.{mostPoints, cellCount}
 use Rattle.course.proofs.TileSteps.{placed-near, placed-more}
 use Rattle.course.proofs.IndexLaws.{start-small}
@@ -42,7 +41,7 @@ place-rect-requires c κs =
     let h = heldIn (s .args .rects .now) in
     let t = a .loop .inv .1 in
     let e = c .rect-at .ensures in
-    (subst Small (sym e) (s .pre .0 .small (a .loop .i) (omega arith)), (t .size, (omega (arith, t .room, start-small h (s .args .n) mostPoints (s .pre .0 .few) cellCount), placed-near h (a .loop .i) (c .rect-at .result) (λ d. ap (λ (z : Rect). holds z d) (sym e)) (s .args .n) (omega arith) (a .loop .o) (a .loop .l) t)))
+    (subst Small (sym e) (s .pre .0 .small (a .loop .i) (omega arith)), (t .size, (omega (arith, t .room, start-small h (s .args .n) mostPoints (s .pre .0 .few) cellCount), placed-near h (a .loop .i) (rectAs (c .rect-at .result)) (λ d. ap (λ (z : Rect). holds z d) (sym e)) (s .args .n) (omega arith) (a .loop .o) (a .loop .l) t)))
 
 add-i : tie.Need-add-i Inv-loop μ-loop
 add-i c = search needs
@@ -56,7 +55,7 @@ loop-again c =
     let s = a .before .before .before .before in
     let h = heldIn (s .args .rects .now) in
     let e = c .before .before .before .before .before .rect-at .ensures in
-    (omega arith, placed-more h (a .loop .i) (c .before .before .before .before .before .rect-at .result) (λ d. ap (λ (z : Rect). holds z d) (sym e)) (s .args .n) (omega arith) (a .loop .o) (a .loop .l) (a .loop .inv .1) _ _ (c .before .before .before .before .place-rect .ensures))
+    (omega arith, placed-more h (a .loop .i) (rectAs (c .before .before .before .before .before .rect-at .result)) (λ d. ap (λ (z : Rect). holds z d) (sym e)) (s .args .n) (omega arith) (a .loop .o) (a .loop .l) (a .loop .inv .1) _ _ (c .before .before .before .before .place-rect .ensures))
 
 same-length : tie.Need-same-length Inv-loop μ-loop
 same-length c = search needs

@@ -1,7 +1,7 @@
 -- `course::index::place_rect` meets its contract. Assumes nothing.
 use Rattle.course.specs.Rules.Constants.{gridDim}
 use Rattle.course.specs.Rules.Lengths.{mostPoints, cellCount}
-use Rattle.course.specs.Steps.Index.{Inside}
+use Rattle.course.specs.Steps.Index.{rectAs, Inside}
 use Rattle.course.proofs.RowSweeps.{row-holds}
 use Prim.Native.Nat.{ℕ, _+_, _*_, _-_, _≤_, _<_}
 use mathlib.Core.Path.{_≡_, refl, ap}
@@ -23,7 +23,7 @@ abbrev μ-loop : tie.MeasureT-loop
 μ-loop o₀ l₀ id x0 x1 y1 y₀ o l y = gridDim - y
 
 loop-holds : tie.Need-loop-holds Inv-loop μ-loop
-loop-holds c = (place-none (c .before .before .args .r) (c .before .before .pre .0) _ _ _ _ _ refl refl _ (omega arith), omega arith, omega arith)
+loop-holds c = (place-none (rectAs (c .before .before .args .r)) (c .before .before .pre .0) _ _ _ _ _ refl refl _ (omega arith), omega arith, omega arith)
 
 mul-place-run : tie.Need-mul-place-run Inv-loop μ-loop
 mul-place-run c = search needs
@@ -56,7 +56,7 @@ place-run-requires c κs =
       t .cursors .left k (omega arith),
       t .same-list,
       ap (λ (z : ℕ). getD (s .args .o .now) z 0) e,
-      s .pre .1 .1 .1 (k - 1) (omega arith) (row-holds (s .args .r) (a .loop .y) (s .pre .0) (a .loop .inv .1) (omega arith) (k - 1) (omega arith)),
+      s .pre .1 .1 .1 (k - 1) (omega arith) (row-holds (rectAs (s .args .r)) (a .loop .y) (s .pre .0) (a .loop .inv .1) (omega arith) (k - 1) (omega arith)),
     )
     in
     let g : a .loop .y * gridDim + s .args .r .x1 + 2 ≤ length (a .loop .o) = omega (arith, t .cursors .same) in
@@ -73,7 +73,7 @@ loop-again : tie.Need-loop-again Inv-loop μ-loop
 loop-again c =
     let a = c .before .before .before .before .before .before .before .before in
     let s = a .before .before .before in
-    (place-row (s .args .r) (s .pre .0) _ _ _ _ _ _ _ (a .loop .y) (a .loop .inv .1) (omega arith) (a .loop .inv .0) (c .before .before .before .before .place-run .ensures), omega arith, omega arith)
+    (place-row (rectAs (s .args .r)) (s .pre .0) _ _ _ _ _ _ _ (a .loop .y) (a .loop .inv .1) (omega arith) (a .loop .inv .0) (c .before .before .before .before .place-run .ensures), omega arith, omega arith)
 
 same-length : tie.Need-same-length Inv-loop μ-loop
 same-length c = c .before .loop .inv .0 .cursors .same
@@ -84,7 +84,7 @@ same-length-2 c = search needs
 returns : tie.Need-returns Inv-loop μ-loop
 returns c =
     let s = c .before .before .before .before in
-    place-done (s .args .r) (s .pre .0) _ _ _ _ _ (c .before .loop .y) (c .loop-test .left) (c .before .loop .inv .2) (c .before .loop .inv .0)
+    place-done (rectAs (s .args .r)) (s .pre .0) _ _ _ _ _ (c .before .loop .y) (c .loop-test .left) (c .before .loop .inv .2) (c .before .loop .inv .0)
 
 pub place-rect-spec : {M : Type 1} → statement M
 place-rect-spec =

@@ -3,9 +3,8 @@ use Rattle.course.specs.Steps.Index.{Small, Packs, RectsPacked}
 use Prim.Native.Nat.{ℕ, _+_, _-_, _≤_}
 use mathlib.Core.Path.{_≡_, sym, ap, _∙_, subst}
 use native.Mathlib.Omega.{arith}
-use Rattle.course.specs.Rules.Rect.{needed, areaOf}
+use Rattle.course.specs.Rules.Rect.{Rect, needed, areaOf}
 use Rattle.course.proofs.CourseRects.{rect-small, needed-none, needed-more, needed-small}
-use Rattle.course.specs.declared.index.Rect.{Rect}
 use Rattle.course.proofs.PackedRects.{packed-none, packed-more}
 use borrow.Author.Needs.{needs}
 use Rattle.course.proofs.index.total.Statement.{statement}
