@@ -5,14 +5,12 @@ use mathlib.Core.List.{List}
 use Prim.Native.Nat.{ℕ, zero, suc}
 use lib.Ieee.{Float}
 use Rattle.run.specs.Rules.Arguments.{motionAt}
-use Rattle.run.specs.Rules.Dynamics.{turningOf, limitOf, heldOf, pushOf, finishOf, tyreOf}
+use Rattle.run.specs.Rules.Dynamics.{TyreForce, PassedWheel, turningOf, limitOf, heldOf, pushOf, finishOf, tyreOf}
 use Rattle.run.specs.Grader.State.{State, stateOf, awaiting}
 use Rattle.run.specs.Grader.Grip.{roadsOf}
 use Rattle.run.specs.Rules.Pass.{frontOf, rearOf, ctlAt, roadAt, Passed, tyresPassed, gatheredOf, passOf, noForces}
 use Rattle.run.specs.Grader.Drive.{driveAnswer, driveCauseOf, driveCause, driveAt, drivePartsOf, driven, driveOf}
 use Rattle.run.specs.declared.state.WheelCtl.{WheelCtl}
-use Rattle.run.specs.declared.dynamics.TyreForce.{TyreForce}
-use Rattle.run.specs.declared.dynamics.Turned.{Turned}
 use Rattle.run.specs.declared.state.Setup.{Setup}
 use Rattle.run.specs.declared.state.Progress.{Progress}
 use Rattle.run.specs.declared.state.Car.{Car}
@@ -24,25 +22,25 @@ use Rattle.run.specs.declared.drive.DriveAnswer.the-variants.{Forces, Re
 -- ---- the pass
 
 -- the steps of a wheel's pass are the tyre rule
-pub wheel-passed : (w : WheelCtl) (m : Motion) (road : Bool) (fuel omega : Float) (push s : TyreForce) (t : Turned) → omega ≡ turningOf w → push ≡ pushOf omega m
-    → s ≡ heldOf (limitOf road) (push .«f_force») (push .«p_force») → t ≡ finishOf w m omega s fuel → t ≡ tyreOf w m road fuel
+pub wheel-passed : (w : WheelCtl) (m : Motion) (road : Bool) (fuel omega : Float) (push s : TyreForce) (t : PassedWheel) → omega ≡ turningOf w → push ≡ pushOf omega m
+    → s ≡ heldOf (limitOf road) (push .along) (push .across) → t ≡ finishOf w m omega s fuel → t ≡ tyreOf w m road fuel
 unfolding tyreOf
 wheel-passed w m road fuel omega push s t eo ep es et =
     let p = ep ∙ ap (λ (x : Float). pushOf x m) eo in
-    et ∙ (λ i. finishOf w m (eo i) ((es ∙ ap (λ (x : TyreForce). heldOf (limitOf road) (x .«f_force») (x .«p_force»)) p) i) fuel)
+    et ∙ (λ i. finishOf w m (eo i) ((es ∙ ap (λ (x : TyreForce). heldOf (limitOf road) (x .along) (x .across)) p) i) fuel)
 
 -- the four wheels, the fuel going from one to the next
-pub pass-from : (car : Car) (action : ℕ) (ms : List Motion) (roads : List Bool) (w₀ w₁ w₂ w₃ : WheelCtl) (a b c d : Turned)
+pub pass-from : (car : Car) (action : ℕ) (ms : List Motion) (roads : List Bool) (w₀ w₁ w₂ w₃ : WheelCtl) (a b c d : PassedWheel)
     → w₀ ≡ frontOf action (ctlAt (car .ctl) 0) → w₁ ≡ frontOf action (ctlAt (car .ctl) 1) → w₂ ≡ rearOf action (ctlAt (car .ctl) 2) → w₃ ≡ rearOf action (ctlAt (car .ctl) 3)
-    → a ≡ tyreOf w₀ (motionAt ms 0) (roadAt roads 0) (car .«fuel_spent») → b ≡ tyreOf w₁ (motionAt ms 1) (roadAt roads 1) (a .«fuel_spent»)
-    → c ≡ tyreOf w₂ (motionAt ms 2) (roadAt roads 2) (b .«fuel_spent») → d ≡ tyreOf w₃ (motionAt ms 3) (roadAt roads 3) (c .«fuel_spent»)
+    → a ≡ tyreOf w₀ (motionAt ms 0) (roadAt roads 0) (car .«fuel_spent») → b ≡ tyreOf w₁ (motionAt ms 1) (roadAt roads 1) (a .fuel)
+    → c ≡ tyreOf w₂ (motionAt ms 2) (roadAt roads 2) (b .fuel) → d ≡ tyreOf w₃ (motionAt ms 3) (roadAt roads 3) (c .fuel)
     → gatheredOf a b c d ≡ passOf car action ms roads
 unfolding passOf
 pass-from car action ms roads w₀ w₁ w₂ w₃ a b c d e₀ e₁ e₂ e₃ ha hb hc hd =
     let pa = ha ∙ (λ i. tyreOf (e₀ i) (motionAt ms 0) (roadAt roads 0) (car .«fuel_spent»)) in
-    let pb = hb ∙ (λ i. tyreOf (e₁ i) (motionAt ms 1) (roadAt roads 1) (pa i .«fuel_spent»)) in
-    let pc = hc ∙ (λ i. tyreOf (e₂ i) (motionAt ms 2) (roadAt roads 2) (pb i .«fuel_spent»)) in
-    let pd = hd ∙ (λ i. tyreOf (e₃ i) (motionAt ms 3) (roadAt roads 3) (pc i .«fuel_spent»)) in
+    let pb = hb ∙ (λ i. tyreOf (e₁ i) (motionAt ms 1) (roadAt roads 1) (pa i .fuel)) in
+    let pc = hc ∙ (λ i. tyreOf (e₂ i) (motionAt ms 2) (roadAt roads 2) (pb i .fuel)) in
+    let pd = hd ∙ (λ i. tyreOf (e₃ i) (motionAt ms 3) (roadAt roads 3) (pc i .fuel)) in
     λ i. gatheredOf (pa i) (pb i) (pc i) (pd i)
 
 -- ---- by the cause's number

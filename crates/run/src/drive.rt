@@ -8,7 +8,7 @@ ghost use Rattle.run.specs.Grader.Grip.{onRoad, roadsOf};
 ghost use Rattle.run.specs.Rules.Arguments.{motionOk, motionsOk};
 ghost use Rattle.run.specs.Rules.Pass.{indicator, frontOf, rearOf, tyresPassed, gatheredOf, passOf, noForces};
 ghost use Rattle.run.specs.Grader.Drive.{driveCause, drivePartsOf, driven, driveOf};
-ghost use Rattle.run.specs.Steps.Drive.{anyStands};
+ghost use Rattle.run.specs.Steps.Drive.{wheelAs, anyStands};
 use crate::dynamics;
 use crate::dynamics::Force;
 use crate::dynamics::Motion;
@@ -85,7 +85,7 @@ fn rear(w: WheelCtl, action: u32) -> WheelCtl
 
 // What the pass leaves, from what each wheel's leaves.
 fn gathered(a: Turned, b: Turned, c: Turned, d: Turned) -> Passed
-    ensures { λ r. ⌜ tyresPassed (r .car) (r .forces) ≡ gatheredOf a b c d ⌝ }
+    ensures { λ r. ⌜ tyresPassed (r .car) (r .forces) ≡ gatheredOf (wheelAs a) (wheelAs b) (wheelAs c) (wheelAs d) ⌝ }
 {
     let c0 = a.ctl;
     let c1 = b.ctl;

@@ -5,6 +5,7 @@ ghost use mathlib.Core.Bool.{true, false};
 ghost use lib.Ieee.{lt};
 ghost use Rattle.course.specs.Rules.Root.{sqrtOf};
 ghost use Rattle.run.specs.Rules.Dynamics.{motorOf, spunOf, brakedOf, turningOf, limitOf, heldOf, pushOf, finishOf};
+ghost use Rattle.run.specs.Steps.Drive.{tyreForceAs, wheelAs};
 use crate::state::WheelCtl;
 use course::constants::FPS;
 use course::numeric;
@@ -123,7 +124,7 @@ fn is_small(road: bool, s: f64) -> bool
 
 // The two forces, cut down together to the limit. A root is taken only where it decides.
 pub(crate) fn held(road: bool, f: f64, p: f64) -> TyreForce
-    ensures { λ r. ⌜ r ≡ heldOf (limitOf road) f p ⌝ }
+    ensures { λ r. ⌜ tyreForceAs r ≡ heldOf (limitOf road) f p ⌝ }
 {
     let s = f * f + p * p;
     if is_small(road, s) {
@@ -148,7 +149,7 @@ pub(crate) fn held(road: bool, f: f64, p: f64) -> TyreForce
 
 // What pushes at a tyre that turns at omega, before it is cut: by how its surface slips over the ground.
 pub(crate) fn push(omega: f64, m: Motion) -> TyreForce
-    ensures { λ r. ⌜ r ≡ pushOf omega m ⌝ }
+    ensures { λ r. ⌜ tyreForceAs r ≡ pushOf omega m ⌝ }
 {
     let vf = -m.sin * m.vx + m.cos * m.vy;
     let vs = m.cos * m.vx + m.sin * m.vy;
@@ -161,7 +162,7 @@ pub(crate) fn push(omega: f64, m: Motion) -> TyreForce
 // What one wheel's pass leaves, given how fast the wheel turns after the brake and the forces as they are cut. Phase is turned by
 // omega as the brake leaves it, before the ground acts on the wheel.
 pub(crate) fn finish(w: WheelCtl, m: Motion, omega: f64, s: TyreForce, fuel: f64) -> Turned
-    ensures { λ r. ⌜ r ≡ finishOf w m omega s fuel ⌝ }
+    ensures { λ r. ⌜ wheelAs r ≡ finishOf w m omega (tyreForceAs s) fuel ⌝ }
 {
     let ctl = WheelCtl {
         gas: w.gas,

@@ -9,8 +9,7 @@ use Rattle.course.specs.Rules.Root.{sqrtOf}
 use Rattle.run.specs.Rules.Wheel.{size, wheelR}
 use Rattle.run.specs.declared.state.WheelCtl.{WheelCtl}
 use Rattle.run.specs.declared.dynamics.Motion.{Motion}
-use Rattle.run.specs.declared.dynamics.TyreForce.{TyreForce}
-use Rattle.run.specs.declared.dynamics.Turned.{Turned}
+use Rattle.run.specs.declared.dynamics.Force.{Force}
 
 -- ---- the constants of the reference's dynamics.rs, each the Rust's expression; SIZE and WHEEL_R stand in Wheel
 
@@ -39,6 +38,17 @@ unfoldable pub dt : Float
 dt = natural 1 ⊘ fps
 
 -- ---- the pass
+
+-- the forces at a tyre: along its direction (the Rust's `f_force`) and across it (`p_force`)
+pub record TyreForce : Type 0 where
+  pub along : Float
+  pub across : Float
+
+-- what one wheel's pass leaves: its controls, its force, and the fuel spent
+pub record PassedWheel : Type 0 where
+  pub ctl : WheelCtl
+  pub force : Force
+  pub fuel : Float
 
 -- the joint motor's speed: 50 times the way to the steering angle, at most 3, with its sign
 unfoldable pub motorOf : Float → Float → Float
@@ -72,36 +82,36 @@ limitOf road = frictionLimit ⊗ cond road (natural 1) (decimal 6 10)
 unfoldable pub heldOf : Float → Float → Float → TyreForce
 heldOf limit f p =
     let force = sqrtOf (f ⊗ f ⊕ p ⊗ p) in
-    cond (lt limit force) (record { «f_force» = f ⊘ force ⊗ limit; «p_force» = p ⊘ force ⊗ limit }) (record { «f_force» = f; «p_force» = p })
+    cond (lt limit force) (record { along = f ⊘ force ⊗ limit; across = p ⊘ force ⊗ limit }) (record { along = f; across = p })
 
 -- what pushes at the tyre of a wheel that turns at omega, before it is cut: along its direction and across it
 unfoldable pub pushOf : Float → Motion → TyreForce
 pushOf omega m =
     let vf = neg (m .sin) ⊗ m .vx ⊕ m .cos ⊗ m .vy in
     let vs = m .cos ⊗ m .vx ⊕ m .sin ⊗ m .vy in
-    record { «f_force» = (neg vf ⊕ omega ⊗ wheelRad) ⊗ stiffness; «p_force» = neg vs ⊗ stiffness }
+    record { along = (neg vf ⊕ omega ⊗ wheelRad) ⊗ stiffness; across = neg vs ⊗ stiffness }
 
 -- the rest of a wheel's pass, given how fast it turns after the brake, and the forces as they are cut
-unfoldable pub finishOf : WheelCtl → Motion → Float → TyreForce → Float → Turned
+unfoldable pub finishOf : WheelCtl → Motion → Float → TyreForce → Float → PassedWheel
 finishOf w m omega s fuel =
     record {
       ctl = record {
         gas = w .gas;
         brake = w .brake;
         steer = w .steer;
-        omega = omega ⊖ dt ⊗ s .«f_force» ⊗ wheelRad ⊘ wheelMomentOfInertia;
+        omega = omega ⊖ dt ⊗ s .along ⊗ wheelRad ⊘ wheelMomentOfInertia;
         phase = w .phase ⊕ omega ⊗ dt;
       };
       force = record {
         motor = motorOf (w .steer) (m .«joint_angle»);
-        fx = s .«p_force» ⊗ m .cos ⊕ s .«f_force» ⊗ neg (m .sin);
-        fy = s .«p_force» ⊗ m .sin ⊕ s .«f_force» ⊗ m .cos;
+        fx = s .across ⊗ m .cos ⊕ s .along ⊗ neg (m .sin);
+        fy = s .across ⊗ m .sin ⊕ s .along ⊗ m .cos;
       };
-      «fuel_spent» = fuel ⊕ dt ⊗ enginePower ⊗ w .gas;
+      fuel = fuel ⊕ dt ⊗ enginePower ⊗ w .gas;
     }
 
 -- the wheel's controls, its force and the fuel spent after the pass, for a wheel on the road or not
-unfoldable pub tyreOf : WheelCtl → Motion → Bool → Float → Turned
+unfoldable pub tyreOf : WheelCtl → Motion → Bool → Float → PassedWheel
 tyreOf w m road fuel =
     let push = pushOf (turningOf w) m in
-    finishOf w m (turningOf w) (heldOf (limitOf road) (push .«f_force») (push .«p_force»)) fuel
+    finishOf w m (turningOf w) (heldOf (limitOf road) (push .along) (push .across)) fuel

@@ -8,12 +8,11 @@ use lib.Ieee.{Float, nan, neg}
 use Rattle.course.specs.Rules.Arithmetic.{_⊕_, _⊖_, _⊗_, natural, decimal, nought}
 use Rattle.course.specs.Rules.Numeric.{minOf, clampOf}
 use Rattle.run.specs.Rules.Arguments.{motionAt}
-use Rattle.run.specs.Rules.Dynamics.{tyreOf}
+use Rattle.run.specs.Rules.Dynamics.{PassedWheel, tyreOf}
 use Rattle.run.specs.declared.state.WheelCtl.{WheelCtl}
 use Rattle.run.specs.declared.state.Car.{Car}
 use Rattle.run.specs.declared.dynamics.Motion.{Motion}
 use Rattle.run.specs.declared.dynamics.Force.{Force}
-use Rattle.run.specs.declared.dynamics.Turned.{Turned}
 
 -- ---- the action rule of `step`: 1 steers to −0.6 (clockwise, to the right), 2 to 0.6, 3 gives gas, 4 brakes
 
@@ -58,15 +57,15 @@ abbrev pub roadAt : List Bool → ℕ → Bool
 roadAt roads i = getD roads i false
 
 -- from what each wheel's pass leaves
-unfoldable pub gatheredOf : Turned → Turned → Turned → Turned → Passed
-gatheredOf a b c d = tyresPassed (record { ctl = a .ctl ∷ b .ctl ∷ c .ctl ∷ d .ctl ∷ []; «fuel_spent» = d .«fuel_spent» }) (a .force ∷ b .force ∷ c .force ∷ d .force ∷ [])
+unfoldable pub gatheredOf : PassedWheel → PassedWheel → PassedWheel → PassedWheel → Passed
+gatheredOf a b c d = tyresPassed (record { ctl = a .ctl ∷ b .ctl ∷ c .ctl ∷ d .ctl ∷ []; «fuel_spent» = d .fuel }) (a .force ∷ b .force ∷ c .force ∷ d .force ∷ [])
 
 unfoldable pub passOf : Car → ℕ → List Motion → List Bool → Passed
 passOf car action ms roads =
     let a = tyreOf (frontOf action (ctlAt (car .ctl) 0)) (motionAt ms 0) (roadAt roads 0) (car .«fuel_spent») in
-    let b = tyreOf (frontOf action (ctlAt (car .ctl) 1)) (motionAt ms 1) (roadAt roads 1) (a .«fuel_spent») in
-    let c = tyreOf (rearOf action (ctlAt (car .ctl) 2)) (motionAt ms 2) (roadAt roads 2) (b .«fuel_spent») in
-    let d = tyreOf (rearOf action (ctlAt (car .ctl) 3)) (motionAt ms 3) (roadAt roads 3) (c .«fuel_spent») in
+    let b = tyreOf (frontOf action (ctlAt (car .ctl) 1)) (motionAt ms 1) (roadAt roads 1) (a .fuel) in
+    let c = tyreOf (rearOf action (ctlAt (car .ctl) 2)) (motionAt ms 2) (roadAt roads 2) (b .fuel) in
+    let d = tyreOf (rearOf action (ctlAt (car .ctl) 3)) (motionAt ms 3) (roadAt roads 3) (c .fuel) in
     gatheredOf a b c d
 
 -- ---- at rest
