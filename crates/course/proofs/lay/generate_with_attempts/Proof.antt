@@ -1,6 +1,8 @@
 -- `course::lay::generate_with_attempts` meets its contract. Assumes nothing.
 use Prim.Native.Nat.{_-_}
+use mathlib.Core.Path.{_≡_}
 use borrow.Author.Needs.{needs}
+use Rattle.rng.specs.Rules.SplitMix.{seeded}
 use Rattle.course.proofs.Generating.{Trying, trying-none, trying-more, reached-here, reached-ring}
 use Rattle.course.proofs.lay.generate_with_attempts.Statement.{statement}
 use Rattle.course.proofs.lay.generate_with_attempts.Tie as tie
@@ -30,8 +32,10 @@ from-seed-requires c κs = search needs
 
 loop-holds : tie.Need-loop-holds Inv-loop μ-loop
 loop-holds c =
-    let q = c .before .before .before .before .before .pre in
-    trying-none (c .from-seed .ensures) (q .0) (q .1 .0) (q .1 .1 .0) (q .1 .1 .1)
+    let s = c .before .before .before .before .before in
+    let seeds : c .from-seed .result ≡ seeded (s .args .seed) = c .from-seed .ensures in
+    let q = s .pre in
+    trying-none seeds (q .0) (q .1 .0) (q .1 .1 .0) (q .1 .1 .1)
 
 try-generate-requires : tie.Need-try-generate-requires Inv-loop μ-loop
 try-generate-requires c κs =

@@ -119,7 +119,8 @@ build-index-requires c κs =
 clear-from-requires-5 : tie.Need-clear-from-requires-5
 clear-from-requires-5 c κs =
     let t = tiles-cleared (index-built c .before) in
-    (omega arith, omega (arith, index-built c .build-index .kept, entry-before (t .before) .pre .1 .alpha))
+    let s = entry-before (t .before) .pre in
+    (omega (arith, s .0 .1), omega (arith, index-built c .build-index .kept, s .1 .alpha))
 
 -- The columns as they were lent, and as the calls left them.
 abbrev columns-lent : tie.After-struct-known → CourseColumns

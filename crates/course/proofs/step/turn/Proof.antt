@@ -24,7 +24,7 @@ turn-up-requires c κs = search needs
 
 returns : tie.Need-returns
 unfolding thenUp turnOf
-returns c = ap (thenUp _) (ap turnedAs (sym (c .enum-told .given .1)) ∙ c .before .before .turn-down .ensures)
+returns c = ap (thenUp (c .before .before .before .args .alpha)) (ap turnedAs (sym (c .enum-told .given .1)) ∙ c .before .before .turn-down .ensures)
 
 returns-2 : tie.Need-returns-2
 unfolding thenUp turnOf
