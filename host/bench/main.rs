@@ -6,6 +6,7 @@ mod beside;
 mod clock;
 mod growth;
 mod inputs;
+mod keeping;
 #[path = "../compare/lent.rs"]
 mod lent;
 #[path = "../compare/port.rs"]
@@ -15,7 +16,7 @@ use clock::Rounds;
 
 const HELP: &str = "usage: host/bench/run [--rounds N] [--only TABLE]
   --rounds N      rounds of each row (default 41)
-  --only TABLE    one table alone: numbers, course, drive, run, growth
+  --only TABLE    one table alone: numbers, course, drive, run, keeping, growth
 Exit status 0, 2 for a wrong argument, 77 where it is skipped for want of the reference or of rustc. A row whose two sides answer
 differently ends the program.";
 
@@ -35,11 +36,12 @@ fn main() {
             _ => wrong(&format!("no flag {flag:?}")),
         }
     }
-    let tables: [(&str, fn(Rounds)); 5] = [
+    let tables: [(&str, fn(Rounds)); 6] = [
         ("numbers", beside::numbers),
         ("course", beside::courses),
         ("drive", beside::drives),
         ("run", beside::runs),
+        ("keeping", keeping::table),
         ("growth", growth::tables),
     ];
     if let Some(name) = &only {

@@ -1,7 +1,8 @@
 //! A run that goes on in port and model, call by call: every answer, and the whole state after it.
-use crate::car::bits;
+use crate::car::{bits, numbers};
 use crate::model::{Begin, Model, State};
-use crate::port::{self, Car, Columns, Progress, Setup, Wheel};
+use crate::port::{self, Car, Columns, Opening, Progress, Setup, Wheel};
+use crate::saved;
 use crate::tally::{Tally, Unit};
 use oracle::{Motion, Pose};
 
@@ -14,6 +15,8 @@ pub fn ported(s: &State) -> port::State {
         car: Car { ctl, fuel_spent: s.fuel },
         credited: s.credited,
         wheels: s.wheels,
+        poses: port_poses(&s.poses),
+        seed: s.seed,
     }
 }
 
@@ -21,12 +24,15 @@ pub fn ported(s: &State) -> port::State {
 fn same_state(r: &port::State, s: &State) -> bool {
     let port::State { setup, progress: p, car, .. } = r;
     let floats = |c: &Wheel| [c.gas, c.brake, c.steer, c.omega, c.phase].map(bits);
+    let place = |p: &port::Pose| [p.x, p.y, p.cos, p.sin].map(bits);
     (setup.n, p.visited_count, p.tick, setup.tick_limit) == (s.n, s.count, s.tick, s.limit)
         && [p.lap, p.ended, setup.fallback, p.driven] == [s.lap, s.ended, s.fallback, s.driven]
         && [bits(setup.lap_share), bits(car.fuel_spent)] == [bits(s.share), bits(s.fuel)]
         && car.ctl.iter().zip(&s.ctl).all(|(a, b)| floats(a) == b.map(bits))
         && r.credited == s.credited
         && r.wheels == s.wheels
+        && r.poses.iter().zip(&s.poses).all(|(a, b)| place(a) == numbers(b).map(bits))
+        && r.seed == s.seed
 }
 
 fn port_poses(poses: &[Pose; 4]) -> [port::Pose; 4] {
@@ -40,6 +46,9 @@ fn lent_part(m: &Model, lent: [usize; 3]) -> Columns<'_> {
 
 /// The forces before a drive, which a refused one leaves.
 const UNTOUCHED: [port::Force; 4] = [port::Force { motor: 7.0, fx: 8.0, fy: 9.0 }; 4];
+
+/// What stands in an output before a save.
+const UNWRITTEN: u8 = 0xa5;
 
 /// A run that goes on in both: the port's state, and the model with the columns and its own.
 pub struct Both<'a> {
@@ -74,7 +83,8 @@ impl<'a> Both<'a> {
         }
     }
     pub fn start(&mut self, b: &Begin, poses: &[Pose; 4]) -> bool {
-        let answer = port::start(lent_part(&self.model, b.lent), b.n, b.fallback, b.share, b.limit, port_poses(poses));
+        let opening = Opening { lap_share: b.share, tick_limit: b.limit, poses: port_poses(poses) };
+        let answer = port::start(lent_part(&self.model, b.lent), b.n, b.fallback, b.seed, opening);
         let cause = self.model.start(b, poses) as u32;
         let s = &self.model.state;
         let same = (answer.cause, answer.count, answer.lap) == (cause, s.count, s.lap) && same_state(&answer.run, s);
@@ -110,6 +120,53 @@ impl<'a> Both<'a> {
         self.check(what, same, || {
             format!("cause {} {given:?}, not {cause} {said:?}; hull {x:?} {y:?} lent {lent:?} {poses:?}", answer.cause)
         });
+    }
+    /// A save into an output of this length, the bytes held to the second writer's; what it wrote, where it was accepted.
+    pub fn save(&mut self, room: usize) -> Option<Vec<u8>> {
+        let mut out = vec![UNWRITTEN; room];
+        let answer = port::save(&self.run, &mut out);
+        let said = self.model.save(room);
+        let (cause, form) = match &said {
+            Ok(form) => (0, &form[..]),
+            Err(cause) => (*cause as u32, &[][..]),
+        };
+        let rest = out.iter().skip(form.len()).all(|&b| b == UNWRITTEN);
+        let same = (answer.cause, answer.length as usize) == (cause, form.len()) && out.starts_with(form) && rest;
+        let what = if cause == 0 { "save" } else { "save, refused" };
+        self.check(what, same, || {
+            format!("cause {} length {}, not {cause} {}; {out:02x?}, not {form:02x?}", answer.cause, answer.length, form.len())
+        });
+        said.ok()
+    }
+    /// A restore of these bytes, and what course they are of; both go on from the restored run, where it was accepted. Whether it was.
+    pub fn restore(&mut self, bytes: &[u8], lent: [usize; 3], n: u32) -> bool {
+        let answer = port::restore(bytes, lent_part(&self.model, lent), n);
+        let course = port::saved_course(bytes);
+        let said = self.model.restore(bytes, lent, n);
+        let (cause, state) = match &said {
+            Ok(state) => (0, state.clone()),
+            Err(cause) => (*cause as u32, State::zero()),
+        };
+        let of = saved::read(bytes).map_or((11, 0, 0), |s| (0, s.seed, s.n));
+        let same = answer.cause == cause && same_state(&answer.run, &state) && (course.cause, course.seed, course.n) == of;
+        if cause == 0 {
+            self.run = answer.run;
+            self.model.state = state;
+        }
+        let what = if cause == 0 { "restore" } else { "restore, refused" };
+        self.check(what, same, || format!("cause {}, not {cause}; n {n} lent {lent:?} {bytes:02x?}", answer.cause));
+        cause == 0
+    }
+    /// The run goes through a save and a restore, and on from there. Where `own`, the state is one that the calls made on these columns,
+    /// and it must come back as it was.
+    pub fn keep(&mut self, lent: [usize; 3], own: bool) {
+        let before = self.model.state.clone();
+        let Some(bytes) = self.save(saved::ROOM) else { return };
+        let restored = self.restore(&bytes, lent, before.n);
+        if own {
+            let same = restored && same_state(&self.run, &before);
+            self.check("restored run, as before its save", same, || format!("{bytes:02x?}"));
+        }
     }
     /// The sheet of the state, which refuses no ended run.
     pub fn sheet(&mut self) {

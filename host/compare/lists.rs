@@ -18,10 +18,14 @@ struct Stored {
     answers: String,
 }
 
+/// What a program may print, in bytes: `rt` stops it there.
+const PRINTED: usize = 1 << 20;
+
 impl Stored {
     /// Of a program that has so much room for its list, in bytes.
     fn new(list: Vec<u8>, room: usize, answers: String) -> Stored {
         assert!(list.len() <= room, "{} bytes do not fit the program's {room}", list.len());
+        assert!(answers.len() <= PRINTED, "{} bytes of answers: a program prints {PRINTED}", answers.len());
         Stored { list: Some(list), answers }
     }
 }

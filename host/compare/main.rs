@@ -1,5 +1,6 @@
 //! Compares the port with the Rust, bit for bit (all NaNs alike): courses, index, curbs, numbers, starts, drives, settles, sheets,
-//! rewards. What the Rust has no counterpart for, the refusals, is held to document 01 as written out in model.rs and courses.rs.
+//! rewards. What the Rust has no counterpart for, the refusals, is held to document 01 as written out in model.rs and courses.rs, and the
+//! saved form to document 02 as in saved.rs.
 //! Run by host/compare/run, which builds the oracle and the port's static library first.
 //!
 //! It also writes the lists that the repository's own programs replay (lists.rs). For these host/compare/write builds it without the
@@ -17,6 +18,7 @@ mod numbers;
 mod points;
 mod port;
 mod runs;
+mod saved;
 mod sections;
 mod sets;
 mod tally;

@@ -1,8 +1,10 @@
 //! The state of a run and its calls. What an accepted call answers and leaves is the Rust's, over lent columns as they stand,
 //! damaged or not; which call is refused by what number, turns and the tick limit are written out here from document 01
-//! ("Refusals by cause"). Beside it the causes of given points.
+//! ("Refusals by cause"). Saves and restores stand on saved.rs, and a restored run's wheel sets on the Rust. Beside it the causes of
+//! given points.
 use crate::car::{bits, five, near, numbers, MOST};
 use crate::lent::{hash, put};
+use crate::saved;
 use oracle::oracle::{probe, Run, Settled, Tile, Track, TrackPoint};
 use oracle::{Motion, Pose, Push};
 use std::sync::Arc;
@@ -26,6 +28,9 @@ pub struct State {
     pub fuel: f64,
     pub credited: [u64; 40],
     pub wheels: [u64; 160],
+    /// The wheels' poses at the last contact, and the course's seed: what only a save reads.
+    pub poses: [Pose; 4],
+    pub seed: u32,
 }
 
 impl State {
@@ -44,16 +49,26 @@ impl State {
             fuel: 0.0,
             credited: [0; 40],
             wheels: [0; 160],
+            poses: [Pose::default(); 4],
+            seed: 0,
         }
     }
     pub fn flags(&self) -> [bool; 4] {
         [self.lap, self.ended, self.fallback, self.driven]
     }
+    /// Of all but the last poses and the seed, which `hash_last` and the seed itself show.
     pub fn hash(&self) -> u64 {
         let counts = [self.n, self.count, self.tick, self.limit].map(u64::from);
         let controls = self.ctl.iter().flatten().map(|&x| bits(x));
         let front = counts.into_iter().chain([bits(self.share)]).chain(self.flags().map(u64::from));
         hash(front.chain(controls).chain([bits(self.fuel)]).chain(self.credited).chain(self.wheels))
+    }
+    pub fn hash_last(&self) -> u64 {
+        hash(self.poses.iter().flat_map(numbers).map(bits))
+    }
+    /// The two are the same, all NaNs alike.
+    pub fn same(&self, other: &State) -> bool {
+        (self.hash(), self.hash_last(), self.seed) == (other.hash(), other.hash_last(), other.seed)
     }
     /// Cause 4 without its ended part.
     pub fn unfit(&self) -> bool {
@@ -116,6 +131,7 @@ pub struct Begin {
     pub lent: [usize; 3],
     pub n: u32,
     pub fallback: bool,
+    pub seed: u32,
     pub share: f64,
     pub limit: u32,
 }
@@ -201,8 +217,8 @@ impl Model {
         self.state = State::zero();
         if cause == 0 {
             let run = Run::start(self.track(b.n), b.share, Pose::default(), *poses);
-            let Begin { n, fallback, share, limit, .. } = *b;
-            self.state = State { n, fallback, share, limit, ..State::zero() };
+            let Begin { n, fallback, seed, share, limit, .. } = *b;
+            self.state = State { n, fallback, seed, share, limit, poses: *poses, ..State::zero() };
             self.state.take_sets(&run);
         }
         cause
@@ -277,6 +293,34 @@ impl Model {
         self.state.take_sets(&self.rust);
         self.state.tick = self.rust.tick();
         (self.state.driven, self.state.ended) = (false, e.ended);
+        self.state.poses = *poses;
         Ok(e)
+    }
+
+    /// A save into an output of this length; what it writes, or by Err the number of the cause.
+    pub fn save(&self, room: usize) -> Result<Vec<u8>, usize> {
+        match saved::save_cause(&self.state, room) {
+            0 => Ok(saved::form(&self.state)),
+            cause => Err(cause),
+        }
+    }
+    /// A restore; the run, or by Err the number of the cause. It looks at no state, and leaves the model's as it is.
+    pub fn restore(&mut self, bytes: &[u8], lent: [usize; 3], n: u32) -> Result<State, usize> {
+        let mut s = saved::read(bytes).ok_or(11usize)?;
+        if n != s.n {
+            return Err(12);
+        }
+        if lent[0] < STATED[0] || lent[1] < STATED[1] {
+            return Err(2);
+        }
+        if !self.sound(lent, n, &s.poses) {
+            return Err(10);
+        }
+        let track = self.track(n);
+        self.rust.put_sets(track, s.share, s.tick, s.lap, s.count, &s.credited, [const { Vec::new() }; 4]);
+        self.rust.put_wheels(&s.poses);
+        self.rust.derive_contacts();
+        s.take_sets(&self.rust);
+        Ok(s)
     }
 }

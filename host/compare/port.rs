@@ -4,7 +4,7 @@
 mod ffi;
 
 use crate::lent::Lent;
-pub use ffi::{atan2, cell, cosine, drive, reward, settle, sheet, sine, sqrt};
+pub use ffi::{atan2, cell, cosine, drive, restore, reward, save, saved_course, settle, sheet, sine, sqrt, start};
 pub use ffi::{
     Angle, Car, Columns, CurbsFound, Figures, Force, Laid, Motion, Opening, Pose, Progress, Setup, State, Weights, Wheel,
 };
@@ -84,10 +84,6 @@ pub fn points([beta, x, y]: [&[f64]; 3], count: u32, lent: &mut Lent, long: &[us
 
 pub fn curbs([beta, x, y]: [&[f64]; 3], count: u32, quads: &mut [f64], white: &mut [u8]) -> CurbsFound {
     ffi::curbs(beta, x, y, count, quads, white)
-}
-
-pub fn start(c: Columns, n: u32, fallback: bool, lap_share: f64, tick_limit: u32, poses: [Pose; 4]) -> ffi::Started {
-    ffi::start(c, n, fallback, Opening { lap_share, tick_limit, poses })
 }
 
 pub fn overlap(a: [[f64; 2]; 4], b: [[f64; 2]; 4]) -> bool {

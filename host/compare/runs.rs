@@ -1,7 +1,8 @@
 //! Whole runs, call by call: start, drive, settle, sheet and reward, on courses of seeds and of given points, at edge poses and
 //! motions, on damaged tiles and indexes and from hand-made states, with refused calls among them. Every answer and the whole
 //! state after each call are held to the model (model.rs): the Rust's where a call is accepted, document 01's
-//! causes where it is not.
+//! causes where it is not. Every twentieth tick the run goes through a save and a restore, and on from there: bytes and refusals are held
+//! to saved.rs, the restored wheel sets to the Rust's `contact_pass_derived`.
 use crate::both::Both;
 use crate::car::{beyond, bits, near_car, pick, road_motion, P};
 use crate::edges::{edge, edge_motion, edge_pose, met_motion, nought, wild};
@@ -9,6 +10,7 @@ use crate::lent::between;
 use crate::model::{Begin, Model, State, STATED};
 use crate::points::made_up;
 use crate::port;
+use crate::saved;
 use crate::tally::{Tally, Unit};
 use oracle::oracle::{overlap, probe, reward, Track, TrackPoint};
 use oracle::{Motion, Pose};
@@ -33,6 +35,10 @@ fn made_state(b: &mut Both, g: &mut SplitMix64, n: u32) {
     (s.fuel, s.share) = (wild(g), pick(g, &[0.0, 0.5, 0.95, f64::NAN, -1.0]));
     for w in s.credited.iter_mut().chain(&mut s.wheels) {
         *w = pick(g, &[*w, *w, 0, u64::MAX, 0x5555_5555_5555_5555]);
+    }
+    if half(g) {
+        s.poses = s.poses.map(|p| if half(g) { edge_pose(g) } else { p });
+        s.seed = g.next_u64() as u32;
     }
     b.put(s);
 }
@@ -115,7 +121,8 @@ fn odd_call(b: &mut Both, g: &mut SplitMix64, poses: &[Pose; 4]) {
 /// A start, good or with one or two of its arguments bad.
 fn begin(g: &mut SplitMix64, n: u32, lent: [usize; 3], bad: bool) -> Begin {
     let share = pick(g, &[0.95, 1.0, 0.5, 0.0, 0.25]);
-    let mut b = Begin { lent, n, fallback: n == 100, share, limit: pick(g, &[1_000_000, 1_000, 40]) };
+    let limit = pick(g, &[1_000_000, 1_000, 40]);
+    let mut b = Begin { lent, n, fallback: n == 100, seed: pick(g, &[0, g.clone().next_u64() as u32]), share, limit };
     for _ in 0..if bad { 1 + g.next_u64() % 2 } else { 0 } {
         match g.next_u64() % 5 {
             0 => b.share = pick(g, &[f64::NAN, -0.1, 1.0000000000000002, f64::INFINITY]),
@@ -219,6 +226,47 @@ fn tick(b: &mut Both, g: &mut SplitMix64, ground: &Ground, place: usize, first: 
     b.settle(lent, x, y, &poses);
 }
 
+/// Saved bytes with one thing changed: the map, a field's bit and its first byte, or a byte of a field.
+fn spoilt(g: &mut SplitMix64, mut bytes: Vec<u8>) -> Vec<u8> {
+    let k = g.next_u64() as usize % 10;
+    let at = saved::place(&bytes, k);
+    let value = pick(g, &[0, 1, 8, 0x7f, 0x80, 0xff, g.clone().next_u64() as u8]);
+    let (first, end) = (at.min(bytes.len() - 1), saved::place(&bytes, k + 1).max(at + 1).min(bytes.len()));
+    match g.next_u64() % 8 {
+        0 => bytes.truncate(at),
+        1 => bytes.insert(at, value),
+        2 => bytes[k / 8] ^= 1 << (g.next_u64() % 8),
+        3 => drop(bytes.remove(first)),
+        4 => bytes[first] = value,
+        5 => bytes[end - 1] = value,
+        6 => {
+            bytes[0] |= 0x20;
+            bytes.insert(saved::place(&bytes, 5), value);
+        }
+        _ => bytes[g.next_u64() as usize % (end - first) + first] = value,
+    }
+    bytes
+}
+
+/// A save into an output about the length asked for, and restores of spoilt bytes, or for another course, or lent other lengths; the
+/// state before them stands again.
+fn odd_saves(b: &mut Both, g: &mut SplitMix64) {
+    let before = b.model.state.clone();
+    b.save(pick(g, &[0, 1, 640, 642, 700]));
+    let Some(bytes) = b.save(saved::ROOM) else { return };
+    let mut lent = b.whole();
+    if half(g) {
+        let k = g.next_u64() as usize % 2;
+        lent[k] = STATED[k] - 1;
+    }
+    let n = if half(g) { before.n } else { pick(g, &[0, before.n + 1, 2_500]) };
+    b.restore(&bytes, lent, n);
+    let bytes = spoilt(g, bytes);
+    b.restore(&bytes, lent, n);
+    b.restore(&bytes, b.whole(), before.n);
+    b.put(before);
+}
+
 /// So many ticks along the course, by ones, by jumps, or at edges.
 pub fn run(t: &mut Tally, g: &mut SplitMix64, unit: Unit, ticks: u64) {
     let ground = Ground::new(g, unit);
@@ -241,6 +289,14 @@ pub fn run(t: &mut Tally, g: &mut SplitMix64, unit: Unit, ticks: u64) {
         }
         place = if g.next_u64() % 40 == 0 { g.next_u64() as usize } else { place + 1 } % n;
         tick(&mut b, g, &ground, place, k == 0);
+        if k % 20 == 19 {
+            // hand-made states, and sets found on other columns, come back changed
+            let lent = if half(g) { ground.exact } else { b.whole() };
+            b.keep(lent, !ground.damaged && !ground.made);
+        }
+        if k % 50 == 24 {
+            odd_saves(&mut b, g);
+        }
         if k % 32 == 31 {
             b.sheet();
         }

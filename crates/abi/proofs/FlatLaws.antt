@@ -15,8 +15,10 @@ use Rattle.course.specs.declared.curbs.CurbAnswer.{CurbAnswer}
 use Rattle.run.specs.Grader.State.{view}
 use Rattle.run.specs.Grader.Start.{Begun, begun, startCauseOf, startValuesOf}
 use Rattle.run.specs.Grader.Drive.{driveCauseOf, drivePartsOf}
-use Rattle.run.specs.Grader.Settle.{settleCauseOf, settleValuesOf, SettledParts, settledParts}
-use Rattle.certificate.specs.Grader.Numbers.{motionsFrom, forceNumbers, carFrom, carNumbers}
+use Rattle.run.specs.Grader.Settle.{settleCauseOf, settleValuesOf, settledParts, SettledPoses, settledPoses}
+use Rattle.run.specs.Grader.Numbers.{motionsFrom, forceNumbers, carFrom, carNumbers}
+use Rattle.run.specs.Grader.Save.{AfterSave, afterSave}
+use Rattle.run.specs.Grader.Restore.{AfterRestore, afterRestore, restoreCauseOf}
 use Rattle.certificate.specs.Grader.Replay.{Replay, replay}
 use Rattle.run.specs.declared.state.Run.{Run}
 use Rattle.run.specs.declared.state.Setup.{Setup}
@@ -29,12 +31,15 @@ use Rattle.run.specs.declared.drive.DroveParts.{DroveParts}
 use Rattle.run.specs.declared.settle.SettleAnswer.{SettleAnswer}
 use Rattle.run.specs.declared.settle.SettleValues.{SettleValues}
 use Rattle.run.specs.declared.sheet.SheetAnswer.{SheetAnswer}
+use Rattle.run.specs.declared.save.SaveAnswer.{SaveAnswer}
+use Rattle.run.specs.declared.restore.RestoreAnswer.{RestoreAnswer}
 use Rattle.run.proofs.DriveLaws.{refused-keeps}
-use Rattle.abi.specs.Grader.Flat.{flatLaid, flatCurbs, runOf, flatStarted, flatDriven, flatSettled, flatSheet, flatAnswers, flatReplayed, replayColumns, columnsAfter}
-use Rattle.abi.specs.Grader.InPlace.{DrivenInPlace, drivenInPlace, driveInPlace, settledInPlace}
+use Rattle.abi.specs.Grader.Flat.{flatLaid, flatCurbs, runOf, flatStarted, flatDriven, flatSettled, flatSheet, flatSaved, savedOut, flatSave, flatRestored, flatAnswers, flatReplayed, replayColumns, columnsAfter}
+use Rattle.abi.specs.Grader.InPlace.{DrivenInPlace, drivenInPlace, driveInPlace, SettledInPlace, settledInPlace}
 use Rattle.abi.specs.declared.flat.FlatLaid.{FlatLaid}
 use Rattle.abi.specs.declared.flat.FlatCurbs.{FlatCurbs}
 use Rattle.abi.specs.declared.flat.FlatSheet.{FlatSheet}
+use Rattle.abi.specs.declared.flat.FlatSaved.{FlatSaved}
 use Rattle.abi.specs.declared.flat.FlatReplayed.{FlatReplayed}
 
 -- ---- courses
@@ -90,13 +95,28 @@ module _ (m most : ℕ) (u : Setup) (p : Progress) (car : List Float) (wheels : 
           ∙ ap carNumbers (sym (refused-keeps m most u p c wheels action ms (λ e. z (ek ∙ ap (λ (x : DroveParts). driveCauseOf (x .answer)) is ∙ e)) .1))
           ∙ ap (λ (x : DroveParts). carNumbers (x .car)) (sym is)
 
-pub settled-whole : {a : SettleAnswer} {next : Progress} {c w : List ℕ} {k : ℕ} {v : SettleValues} {d : SettledParts} → k ≡ settleCauseOf a → v ≡ settleValuesOf a → settledParts a next c w ≡ d
-    → settledInPlace (record { cause = k; «new_tiles» = v .«new_tiles»; n = v .n; off = v .off; lap = v .lap; ended = v .ended; progress = next }) c w
-    ≡ settledInPlace (flatSettled (d .answer) (d .progress)) (d .credited) (d .wheels)
+abbrev settledFrom : SettledPoses → SettledInPlace
+settledFrom d = settledInPlace (flatSettled (d .parts .answer) (d .parts .progress)) (d .parts .credited) (d .parts .wheels) (d .poses)
+
+pub settled-whole : {a : SettleAnswer} {next : Progress} {c w : List ℕ} {last : List Float} {k : ℕ} {v : SettleValues} {d : SettledPoses}
+    → k ≡ settleCauseOf a → v ≡ settleValuesOf a → settledPoses (settledParts a next c w) last ≡ d
+    → settledInPlace (record { cause = k; «new_tiles» = v .«new_tiles»; n = v .n; off = v .off; lap = v .lap; ended = v .ended; progress = next }) c w last
+    ≡ settledFrom d
 unfolding flatSettled
-settled-whole {next = next} {c = c} {w = w} ek ev e =
-    (λ i. settledInPlace (record { cause = ek i; «new_tiles» = ev i .«new_tiles»; n = ev i .n; off = ev i .off; lap = ev i .lap; ended = ev i .ended; progress = next }) c w)
-    ∙ ap (λ (d : SettledParts). settledInPlace (flatSettled (d .answer) (d .progress)) (d .credited) (d .wheels)) e
+settled-whole {next = next} {c = c} {w = w} {last = last} ek ev e =
+    (λ i. settledInPlace (record { cause = ek i; «new_tiles» = ev i .«new_tiles»; n = ev i .n; off = ev i .off; lap = ev i .lap; ended = ev i .ended; progress = next }) c w last)
+    ∙ ap settledFrom e
+
+-- ---- saves
+
+pub saved-whole : (f : FlatSaved) (a : SaveAnswer) (out : List ℕ) (d : AfterSave) → f ≡ flatSaved a → afterSave a out ≡ d → savedOut f out ≡ flatSave d
+unfolding flatSave
+saved-whole f a out d e p = ap (λ (g : FlatSaved). savedOut g out) e ∙ ap flatSave p
+
+-- the struct that restore returns, from its answer and state
+pub restored-whole : (a : RestoreAnswer) (r : Run) (d : AfterRestore) (k : ℕ) → k ≡ restoreCauseOf a → afterRestore a (view r) ≡ d → record { cause = k; run = r } ≡ flatRestored d
+unfolding flatRestored runOf view
+restored-whole a r d k e p = (λ i. record { cause = e i; run = r }) ∙ ap flatRestored p
 
 -- ---- a whole replay
 

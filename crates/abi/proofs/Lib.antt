@@ -1,3 +1,2 @@
-pub mod CarLaws
 pub mod FlatLaws
 pub mod HostLaws

@@ -4,13 +4,17 @@ ghost use mathlib.Core.Path.{_≡_};
 ghost use Rattle.run.specs.Grader.Start.{startCauseOf, startValuesOf};
 ghost use Rattle.run.specs.Grader.Drive.{driveCauseOf};
 ghost use Rattle.run.specs.Grader.Settle.{settleCauseOf, settleValuesOf};
-ghost use Rattle.abi.specs.Grader.Flat.{flatLaid, flatCurbs, flatSheet, flatAngle, flatAnswers};
+ghost use Rattle.run.specs.Grader.Restore.{restoreCauseOf};
+ghost use Rattle.abi.specs.Grader.Flat.{flatLaid, flatCurbs, flatSheet, flatSaved, flatSavedFor, flatAngle, flatAnswers};
 use certificate::replay::Replayed;
 use course::curbs::CurbAnswer;
 use course::points;
 use course::points::Laid;
 use course::trig::Angle;
 use run::drive::DriveAnswer;
+use run::restore::RestoreAnswer;
+use run::restore::SavedCourse;
+use run::save::SaveAnswer;
 use run::settle::SettleAnswer;
 use run::settle::SettleValues;
 use run::sheet::SheetAnswer;
@@ -78,6 +82,28 @@ pub struct FlatSheet {
     pub lap: bool,
     pub ended: bool,
     pub fallback: bool,
+}
+
+// What save answers: how many bytes it wrote.
+#[repr(C)]
+pub struct FlatSaved {
+    pub cause: u32,
+    pub length: u32,
+}
+
+// What restore answers, and the state.
+#[repr(C)]
+pub struct FlatRestored {
+    pub cause: u32,
+    pub run: Run,
+}
+
+// The course that saved bytes are of.
+#[repr(C)]
+pub struct FlatSavedFor {
+    pub cause: u32,
+    pub seed: u32,
+    pub n: u32,
 }
 
 // What sine, cosine and atan2 answer.
@@ -247,6 +273,44 @@ pub(crate) fn sheet(answer: SheetAnswer) -> FlatSheet
             lap: false,
             ended: false,
             fallback: false,
+        },
+    }
+}
+
+// The answer of save.
+pub(crate) fn saved(answer: SaveAnswer) -> FlatSaved
+    ensures { λ r. ⌜ r ≡ flatSaved answer ⌝ }
+{
+    match answer {
+        SaveAnswer::Saved(length) => FlatSaved { cause: 0, length },
+        SaveAnswer::Refused(cause) => FlatSaved { cause, length: 0 },
+    }
+}
+
+// The cause that restore answered, 0 where it restored.
+pub(crate) fn restore_cause(answer: RestoreAnswer) -> u32
+    ensures { λ r. ⌜ r ≡ restoreCauseOf answer ⌝ }
+{
+    match answer {
+        RestoreAnswer::Restored => 0,
+        RestoreAnswer::Refused(cause) => cause,
+    }
+}
+
+// The answer of saved_course.
+pub(crate) fn saved_for(answer: SavedCourse) -> FlatSavedFor
+    ensures { λ r. ⌜ r ≡ flatSavedFor answer ⌝ }
+{
+    match answer {
+        SavedCourse::Course(v) => FlatSavedFor {
+            cause: 0,
+            seed: v.seed,
+            n: v.n,
+        },
+        SavedCourse::Refused(cause) => FlatSavedFor {
+            cause,
+            seed: 0,
+            n: 0,
         },
     }
 }

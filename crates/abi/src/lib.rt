@@ -9,3 +9,4 @@ pub mod inner;
 pub mod numbers;
 mod parts;
 pub mod runs;
+pub mod saves;

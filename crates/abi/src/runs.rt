@@ -1,5 +1,5 @@
 // The calls of a run: start, drive, settle, sheet, reward and replay. A host keeps its run where it stands: drive, settle and sheet take the
-// small records by value, and the car and the sets are lent as arrays of their lengths.
+// small records by value, and the car, the sets and the last poses are lent as arrays of their lengths.
 ghost use mathlib.Core.Path.{_≡_};
 ghost use Rattle.course.specs.Grader.Outcome.{lent};
 ghost use Rattle.run.specs.Grader.Widths.{fullWords, mostTiles};
@@ -17,14 +17,15 @@ use crate::flat::FlatSettled;
 use crate::flat::FlatSheet;
 use crate::flat::FlatStarted;
 use crate::flat::Poses;
-use crate::parts;
-use crate::parts::CAR_NUMBERS;
 use crate::parts::FORCE_NUMBERS;
 use crate::parts::MOTION_NUMBERS;
 use certificate::answer;
 use certificate::call;
 use certificate::replay;
 use run::drive;
+use run::numbers;
+use run::numbers::CAR_NUMBERS;
+use run::numbers::POSE_NUMBERS;
 use run::reward;
 use run::reward::Weights;
 use run::settle;
@@ -59,6 +60,7 @@ pub extern "C" fn grader_start(
     list: &[u32],
     n: u32,
     fallback: bool,
+    seed: u32,
     share: f64,
     limit: u32,
     poses: Poses,
@@ -67,11 +69,21 @@ pub extern "C" fn grader_start(
         r
         ≡ flatStarted
         (startOf fullWords mostTiles (columns (now (tiles .entry)) (now (offsets .entry)) (now (list .entry)))
-        (record { n = n; fallback = fallback; share = share; limit = limit; poses = poses .wheels }))
+        (record { n = n; fallback = fallback; seed = seed; share = share; limit = limit; poses = poses .wheels }))
         ⌝ }
 {
     let wheels = poses.wheels;
-    let s = start::start(tiles, offsets, list, n, fallback, share, limit, wheels);
+    let s = start::start(
+        tiles,
+        offsets,
+        list,
+        n,
+        fallback,
+        seed,
+        share,
+        limit,
+        wheels,
+    );
     let answer = s.answer;
     let run = s.run;
     let v = flat::start_values(answer);
@@ -100,7 +112,7 @@ pub extern "C" fn grader_drive_parts(
         (now (motions .entry)) (now (forces .entry))
         ⌝ }
 {
-    let before = parts::car_from(car);
+    let before = numbers::car_from(car);
     let given = call::motions_lent(motions);
     let d = drive::drive_parts(setup, progress, before, wheels, action, given);
     let answer = d.answer;
@@ -109,19 +121,20 @@ pub extern "C" fn grader_drive_parts(
     if cause == 0 {
         let after = d.car;
         let pushes = d.forces;
-        parts::put_car(after, car);
+        numbers::put_car(after, car);
         answer::put_forces_lent(pushes, forces);
     }
     FlatDriven { cause, progress }
 }
 
-// The contact after physics: the sets are changed where they stand. A refusal changes nothing.
+// The contact after physics: the sets and the last poses are changed where they stand. A refusal changes nothing.
 #[no_mangle]
 pub extern "C" fn grader_settle_parts(
     setup: Setup,
     progress: Progress,
     credited: &mut [u64; FULL_WORDS],
     wheels: &mut [u64; WHEEL_WORDS],
+    last: &mut [f64; POSE_NUMBERS],
     tiles: &[f64],
     offsets: &[u32],
     list: &[u32],
@@ -130,9 +143,10 @@ pub extern "C" fn grader_settle_parts(
     poses: Poses,
 ) -> FlatSettled
     ensures { λ r. ⌜
-        settledInPlace r (now (credited .exit)) (now (wheels .exit))
+        settledInPlace r (now (credited .exit)) (now (wheels .exit)) (now (last .exit))
         ≡ settleInPlace fullWords mostTiles setup progress (now (credited .entry)) (now (wheels .entry))
-        (columns (now (tiles .entry)) (now (offsets .entry)) (now (list .entry))) x y (poses .wheels)
+        (now (last .entry)) (columns (now (tiles .entry)) (now (offsets .entry)) (now (list .entry))) x y
+        (poses .wheels)
         ⌝ }
 {
     let given = poses.wheels;
@@ -141,6 +155,7 @@ pub extern "C" fn grader_settle_parts(
         progress,
         credited,
         wheels,
+        last,
         tiles,
         offsets,
         list,

@@ -7,18 +7,19 @@ use native.Mathlib.Omega.{arith}
 use native.Mathlib.Nat.{zero-min, min-zero, suc-min-suc, le-of-eq}
 use native.Mathlib.Numerals.{add-one}
 use lib.Dec.{eqb}
-use lib.ListN.{length, getD, replicate, take, drop, set, length-append, length-drop, drop-of-length-le}
-use lib.Seq.{sets, sets-eq, take-at, drop-at, drop-drop, length-take-le}
+use lib.ListN.{length, getD, replicate, take, drop, set, length-append, length-drop}
+use lib.Seq.{take-at, drop-at, drop-drop, length-take-le}
 use lib.Ieee.{Float}
 use Rattle.course.specs.Rules.Arithmetic.{nought}
 use Rattle.course.specs.Rules.Counting.{digit}
+use Rattle.run.proofs.NumberLaws.{written-over}
 use Rattle.run.specs.Grader.State.{State, Columns, columns}
 use Rattle.run.specs.Grader.Drive.{Driven, driven, driveOf}
 use Rattle.run.specs.Grader.Settle.{AfterSettle, afterSettle, settleOf}
 use Rattle.certificate.specs.Grader.Calls.{Call, driveSaid, settleSaid, replyOf, repliesOf, stateAfter}
 use Rattle.certificate.specs.Grader.Calls.Call.{drive, settle}
 use Rattle.course.specs.Rules.Tiles.{numberAt}
-use Rattle.certificate.specs.Grader.Numbers.{forceNumbers, motionsFrom, posesFrom}
+use Rattle.run.specs.Grader.Numbers.{forceNumbers, motionsFrom, posesFrom}
 use Rattle.certificate.specs.Grader.CallColumns.{answerWords, answerNumbers, wordsOf, numbersOf}
 use Rattle.certificate.specs.Grader.CallColumns.{callWords, callNumbers, partAt, allWords, allNumbers}
 use Rattle.certificate.specs.Steps.Replay.{lentTo, callFrom, callsTo}
@@ -35,10 +36,6 @@ use Rattle.run.specs.declared.settle.SettleAnswer.the-variants.{Settled, Refuse
 use Rattle.run.specs.declared.dynamics.Force.{Force}
 
 -- ---- writing
-
--- as many values as a column has, written from its front on, are the column
-pub written-over : {A : Type 0} (vs l : List A) → length l ≡ length vs → sets l 0 vs ≡ vs
-written-over {A} vs l e = sets-eq vs l 0 (omega arith) ∙ ap (λ (r : List A). vs ++ r) (drop-of-length-le l {i = 0 + length vs} (omega arith)) ∙ append-nil vs
 
 -- a force from number i on
 abbrev putForce : List Float → ℕ → Force → List Float

@@ -23,8 +23,8 @@ use Rattle.course.proofs.IndexLaws.{table-length, index-length}
 use Rattle.course.proofs.CourseRects.{needed-start}
 use Rattle.run.specs.Rules.Arguments.{shortColumns}
 use Rattle.run.specs.Grader.State.{columns, shortOf}
-use Rattle.certificate.specs.Claim.Certificate.{lentBy}
-use Rattle.certificate.specs.Claim.Certificate.Lending.{laid}
+use Rattle.certificate.specs.Claim.Items.{lentBy}
+use Rattle.certificate.specs.Claim.Items.Lending.{laid}
 
 -- ---- lengths of a course's columns
 

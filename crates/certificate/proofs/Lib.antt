@@ -2,6 +2,8 @@ pub mod ScoreLaws
 pub mod Simulation
 pub mod LaidTouch
 pub mod LentColumns
+pub mod RoundTrip
+pub mod ItemLaws
 pub mod Certificate
 pub mod ReplayLaws
 pub mod CallColumnLaws

@@ -9,7 +9,7 @@ use lib.Seq.{take-at, drop-at}
 use lib.Ieee.{Float}
 use Rattle.certificate.specs.Rules.Answers.{Answer}
 use Rattle.certificate.specs.Rules.Answers.Answer.{drove, settled, refused}
-use Rattle.certificate.specs.Grader.Numbers.{forceFrom, forcesFrom, forceNumbers}
+use Rattle.run.specs.Grader.Numbers.{forceFrom, forcesFrom, forceNumbers}
 use Rattle.certificate.specs.Grader.CallColumns.{answerWords, answerNumbers, valuesFrom, wordsOf, numbersOf, allWords, allNumbers, answerFrom, answersFrom}
 use Rattle.course.specs.Rules.Counting.{digit}
 use Rattle.course.specs.Grader.Outcome.{CourseColumns}

@@ -33,10 +33,11 @@ use Rattle.certificate.specs.Grader.Calls.{Call, repliesOf, stateAfter}
 use Rattle.certificate.specs.Rules.Answers.{Answer}
 use Rattle.certificate.specs.Rules.Answers.Answer.{refused}
 use Rattle.certificate.specs.Claim.Scorer.{LentLengths, Opening, Told, History, touchedCount, lapDone, startNumber, scores, keptOf}
-use Rattle.certificate.specs.Claim.Certificate.{Lending, lentBy, lengthsOf, CourseCall, callOf, toldOf, callsOf, toldsOf, settingsFor, settingsOn, startOn, layNumber}
-use Rattle.certificate.specs.Claim.Certificate.Lending.{laid, short}
+use Rattle.certificate.specs.Claim.Items.{Lending, lentBy, lengthsOf, CourseCall, callOf, toldOf, callsOf, toldsOf}
+use Rattle.certificate.specs.Claim.Items.Lending.{laid, short}
+use Rattle.certificate.specs.Claim.Certificate.{CourseLabel, settingsFor, settingsOn, startOn, layNumber}
 use Rattle.course.specs.Rules.Tiles.{numberAt}
-use Rattle.certificate.specs.Grader.Numbers.{motionsFrom, posesFrom}
+use Rattle.run.specs.Grader.Numbers.{motionsFrom, posesFrom}
 use Rattle.certificate.specs.Grader.CallColumns.{callWords, callNumbers, answerWords, answerNumbers, allWords, allNumbers, partAt}
 use Rattle.certificate.specs.Steps.Replay.{lentTo, callFrom, callsTo}
 use Rattle.certificate.specs.Grader.Replay.{toldFrom, toldsTo, plainStart, plainAnswers, sheetOn, plainSheet, laidCourse, replayOn, roomFor, replayOf}
@@ -141,6 +142,10 @@ tolds-many k ws ns (suc n) = length-append (toldsTo k ws ns n) _ ∙ add-one (le
 abbrev pub sheetIn : State → SheetAnswer
 sheetIn s = sheetOf mostTiles (s .setup) (s .progress)
 
+-- start is told the fallback that laying answered, and the seed
+abbrev laidLabel : Outcome → ℕ → CourseLabel
+laidLabel o seed = record { fallback = laidValuesOf (o .answer) .fallback; seed = seed }
+
 module _ (b : Opening) (k : LentLengths) (n : ℕ) (calls : List ℕ) (given : List Float) where
   abbrev ts : List Told
   ts = toldsTo k calls given n
@@ -178,32 +183,35 @@ module _ (b : Opening) (k : LentLengths) (n : ℕ) (calls : List ℕ) (given : L
   unfolding startNumber
   none-number = rw (or-true (shortColumns 0 (k .tiles) (k .offsets)))
 
-  none-cause : (l : Columns) (fb : Bool) → startCause mostTiles l (settingsFor 0 fb b) ≡ cond (not (settingsOk (b .share) (b .limit))) 1 2
+  none-cause : (l : Columns) (label : CourseLabel) → startCause mostTiles l (settingsFor 0 label b) ≡ cond (not (settingsOk (b .share) (b .limit))) 1 2
   unfolding startCause startShort
-  none-cause l fb = rw (or-true (shortOf 0 l))
+  none-cause l label = rw (or-true (shortOf 0 l))
 
   never-none : (p : Bool) → _≡_ {A = ℕ} (cond p 1 2) 0 → ⊥
   never-none true e = omega (arith, e)
   never-none false e = omega (arith, e)
 
-  no-course : (l : Columns) (fb : Bool) (sa : StartAnswer) (s : State)
-      → begun sa s ≡ startOf fullWords mostTiles l (settingsFor 0 fb b)
+  no-course : (l : Columns) (label : CourseLabel) (sa : StartAnswer) (s : State)
+      → begun sa s ≡ startOf fullWords mostTiles l (settingsFor 0 label b)
       → Plain (startNumber [] mostTiles k b) nothing l sa s
   unfolding startOf
-  no-course l fb sa s e = go (startNumber [] mostTiles k b) refl
+  no-course l label sa s e = go (startNumber [] mostTiles k b) refl
     where
       a : Settings
-      a = settingsFor 0 fb b
+      a = settingsFor 0 label b
 
       go : (j : ℕ) → startNumber [] mostTiles k b ≡ j → Plain j nothing l sa s
       go zero q = absurd (never-none (not (settingsOk (b .share) (b .limit))) (sym none-number ∙ q))
-      go (suc j) q = refused-plain j nothing l l a sa s (e ∙ ap (λ (x : ℕ). startAt fullWords x l a) (none-cause l fb ∙ sym none-number ∙ q))
+      go (suc j) q = refused-plain j nothing l l a sa s (e ∙ ap (λ (x : ℕ). startAt fullWords x l a) (none-cause l label ∙ sym none-number ∙ q))
 
   -- ---- a course of the points c that was laid in full
-  module _ (c : List TrackPoint) (some : 0 < length c) (fits : length c ≤ mostTiles) (fallback : Bool) (l : course.CourseColumns)
+  module _ (c : List TrackPoint) (some : 0 < length c) (fits : length c ≤ mostTiles) (fallback : Bool) (seed : ℕ) (l : course.CourseColumns)
       (whole : ltb (length (l .list)) (cellsOf c) ≡ false) where
     abbrev o : Outcome
     o = layInto (ownLength c) fallback c l
+
+    abbrev label : CourseLabel
+    label = record { fallback = fallback; seed = seed }
 
     abbrev room : mostTiles ≤ 64 * fullWords
     room = omega arith
@@ -228,9 +236,9 @@ module _ (b : Opening) (k : LentLengths) (n : ℕ) (calls : List ℕ) (given : L
         let p = parts o (length c) (length (o .lent .tiles)) (length (o .lent .offsets)) in
         (p .0, p .1 ∙ (λ i. columns (take-length (o .lent .tiles) i) (take-length (o .lent .offsets) i) (o .lent .list)))
 
-    figures : (h : History) → sheetIn (historyState fullWords mostTiles c room some fits fallback h) ≡ sheetOn c fallback h
+    figures : (h : History) → sheetIn (historyState fullWords mostTiles c room some fits label h) ≡ sheetOn c fallback h
     unfolding sheetOf sheetCause figuresOf setupOf sheetOn
-    figures h = rw (fits-state fullWords mostTiles c room some fits fallback h)
+    figures h = rw (fits-state fullWords mostTiles c room some fits label h)
 
     module _ (same-tiles : length (o .lent .tiles) ≡ k .tiles) (same-offsets : length (o .lent .offsets) ≡ k .offsets) where
       abbrev by : Lending (length c)
@@ -241,7 +249,7 @@ module _ (b : Opening) (k : LentLengths) (n : ℕ) (calls : List ℕ) (given : L
       told-lengths = ap lengthsOf (whole-lent .1) ∙ (λ i. record { tiles = same-tiles i; offsets = same-offsets i })
 
       accepted-plain : (sa : StartAnswer) (s : State)
-          → begun sa s ≡ record { answer = startAnswer 0 (record { count = touchedCount c (History.begun b); lap = lapDone c (History.begun b) }); state = historyState fullWords mostTiles c room some fits fallback (History.begun b) }
+          → begun sa s ≡ record { answer = startAnswer 0 (record { count = touchedCount c (History.begun b); lap = lapDone c (History.begun b) }); state = historyState fullWords mostTiles c room some fits label (History.begun b) }
           → Plain 0 (record { points = c; fallback = fallback }) (columnsOf o) sa s
       unfolding plainStart plainAnswers plainSheet
       accepted-plain sa s e =
@@ -252,36 +260,36 @@ module _ (b : Opening) (k : LentLengths) (n : ℕ) (calls : List ℕ) (given : L
             start = ap (λ (x : Begun). x .answer) e;
             answers =
                 ap₂ (λ (x : State) (y : List Call). repliesOf fullWords mostTiles x y) es (sym (m .1))
-                ∙ replies-are fullWords mostTiles c room some fits o counted holds fallback (m .0) (History.begun b) first
+                ∙ replies-are fullWords mostTiles c room some fits o counted holds label (m .0) (History.begun b) first
                 ∙ ap (scores c (History.begun b)) (m .2);
             sheet =
                 ap₂ (λ (x : State) (y : List Call). sheetIn (stateAfter fullWords mostTiles x y)) es (sym (m .1))
-                ∙ ap sheetIn (after-is fullWords mostTiles c room some fits o counted holds fallback (m .0) (History.begun b) first)
+                ∙ ap sheetIn (after-is fullWords mostTiles c room some fits o counted holds label (m .0) (History.begun b) first)
                 ∙ figures (keptOf c (History.begun b) (toldsOf o (m .0)))
                 ∙ ap (λ (x : List Told). sheetOn c fallback (keptOf c (History.begun b) x)) (m .2);
           }
 
       pub course-plain : (sa : StartAnswer) (s : State)
-          → begun sa s ≡ startOf fullWords mostTiles (columnsOf o) (settingsOn o (laidValuesOf (o .answer) .fallback) b)
+          → begun sa s ≡ startOf fullWords mostTiles (columnsOf o) (settingsOn o (laidLabel o seed) b)
           → Plain (startNumber c mostTiles k b) (record { points = c; fallback = fallback }) (columnsOf o) sa s
       course-plain sa s e = go (startNumber c mostTiles k b) refl
         where
-          on : begun sa s ≡ startOn fullWords mostTiles o by fallback b
+          on : begun sa s ≡ startOn fullWords mostTiles o by label b
           on =
-              e ∙ ap₂ (λ (x : Columns) (f : Bool). startOf fullWords mostTiles x (settingsOn o f b))
+              e ∙ ap₂ (λ (x : Columns) (f : Bool). startOf fullWords mostTiles x (settingsOn o (record { fallback = f; seed = seed }) b))
               (sym (whole-lent .1)) same-fallback
 
           number : startNumber c mostTiles (lengthsOf (lentBy o by)) b ≡ startNumber c mostTiles k b
           number = ap (λ (x : LentLengths). startNumber c mostTiles x b) told-lengths
 
           a : Settings
-          a = settingsFor (length c) fallback b
+          a = settingsFor (length c) label b
 
           go : (j : ℕ) → startNumber c mostTiles k b ≡ j → Plain j (record { points = c; fallback = fallback }) (columnsOf o) sa s
-          go zero q = accepted-plain sa s (on ∙ start-accepted fullWords mostTiles c room some fits o counted holds by fallback b (number ∙ q))
+          go zero q = accepted-plain sa s (on ∙ start-accepted fullWords mostTiles c room some fits o counted holds by label b (number ∙ q))
           go (suc j) q =
               refused-plain j (record { points = c; fallback = fallback }) (columnsOf o) (lentBy o by) a sa s
-              (on ∙ start-same fullWords mostTiles c room some fits o counted holds by fallback b ∙ ap (λ (x : ℕ). startAt fullWords x (lentBy o by) a) (number ∙ q))
+              (on ∙ start-same fullWords mostTiles c room some fits o counted holds by label b ∙ ap (λ (x : ℕ). startAt fullWords x (lentBy o by) a) (number ∙ q))
 
 -- ---- the whole replay
 few-points : (seed : ℕ) → length (courseOf seed .points) ≤ mostTiles
@@ -304,19 +312,19 @@ module _ (seed : ℕ) (l : course.CourseColumns) (b : Opening) (n : ℕ) (calls 
   -- lay, then a start with what it answered, then the calls
   replay-plain : (j : ℕ) → layNumber seed l ≡ j → (o : Outcome) → o ≡ layCall maxAttempts seed l → length (o .lent .tiles) ≡ length (l .tiles) → length (o .lent .offsets) ≡ length (l .offsets)
       → (sa : StartAnswer) (s : State)
-      → begun sa s ≡ startOf fullWords mostTiles (columnsOf o) (settingsOn o (laidValuesOf (o .answer) .fallback) b)
+      → begun sa s ≡ startOf fullWords mostTiles (columnsOf o) (settingsOn o (laidLabel o seed) b)
       → Plain b lengths n calls given (startNumber (laidCourse j seed .points) mostTiles lengths b) (laidCourse j seed) (columnsOf o) sa s
   unfolding laidCourse layNumber
   replay-plain zero q o eo et ef sa s es =
       let p = no-cause (roomy l) (ltb (length (l .list)) (cellsOf (courseOf seed .points))) q in
       subst (λ (x : Outcome). length (x .lent .tiles) ≡ length (l .tiles) → length (x .lent .offsets) ≡ length (l .offsets)
-      → begun sa s ≡ startOf fullWords mostTiles (columnsOf x) (settingsOn x (laidValuesOf (x .answer) .fallback) b)
+      → begun sa s ≡ startOf fullWords mostTiles (columnsOf x) (settingsOn x (laidLabel x seed) b)
       → Plain b lengths n calls given (startNumber (courseOf seed .points) mostTiles lengths b) (courseOf seed) (columnsOf x) sa s)
       (sym (eo ∙ lay-columns seed l (p .0)))
-      (λ t f e. course-plain b lengths n calls given (courseOf seed .points) (course-sized seed .some) (few-points seed) (courseOf seed .fallback) l (p .1) t f sa s e) et ef es
+      (λ t f e. course-plain b lengths n calls given (courseOf seed .points) (course-sized seed .some) (few-points seed) (courseOf seed .fallback) seed l (p .1) t f sa s e) et ef es
   replay-plain (suc j) q o eo et ef sa s es =
-      no-course b lengths n calls given (columnsOf o) (laidValuesOf (o .answer) .fallback) sa s
-      (es ∙ ap (λ (x : ℕ). startOf fullWords mostTiles (columnsOf o) (settingsFor x (laidValuesOf (o .answer) .fallback) b))
+      no-course b lengths n calls given (columnsOf o) (laidLabel o seed) sa s
+      (es ∙ ap (λ (x : ℕ). startOf fullWords mostTiles (columnsOf o) (settingsFor x (laidLabel o seed) b))
       (no-count (o .answer) j (ap (λ (x : Outcome). laidCauseOf (x .answer)) eo ∙ lays seed l ∙ q)))
 
 -- what each call of a replay leaves, where there is room for the calls told and their answers
@@ -327,7 +335,7 @@ pub record ReplayCalls (seed : ℕ) (l : course.CourseColumns) (b : Opening) (n 
   pub tiles : length (o .lent .tiles) ≡ length (l .tiles)
   pub offsets : length (o .lent .offsets) ≡ length (l .offsets)
   pub values : v ≡ laidValuesOf (o .answer)
-  pub start : begun sa s ≡ startOf fullWords mostTiles (columnsOf o) (settingsFor (v .n) (v .fallback) b)
+  pub start : begun sa s ≡ startOf fullWords mostTiles (columnsOf o) (settingsFor (v .n) (record { fallback = v .fallback; seed = seed }) b)
   pub state : last ≡ stateAfter fullWords mostTiles s (callsTo (columnsOf o) calls given n)
   pub answered : words′ ≡ allWords (repliesOf fullWords mostTiles s (callsTo (columnsOf o) calls given n)) ++ drop (answerWords * n) words
   pub numbered : numbers′ ≡ allNumbers (repliesOf fullWords mostTiles s (callsTo (columnsOf o) calls given n)) ++ drop (answerNumbers * n) numbers
@@ -341,7 +349,7 @@ pub replayed : {seed : ℕ} {l : course.CourseColumns} {b : Opening} {n : ℕ} {
 unfolding replayOf replayOn
 replayed {seed} {l} {b} {n} {calls} {given} {words} {numbers} {o} {v} {sa} {s} h =
     let p = replay-plain seed l b n calls given (layNumber seed l) refl o (h .laid) (h .tiles) (h .offsets) sa s
-    (h .start ∙ (λ i. startOf fullWords mostTiles (columnsOf o) (settingsFor (h .values i .n) (h .values i .fallback) b))) in
+    (h .start ∙ (λ i. startOf fullWords mostTiles (columnsOf o) (settingsFor (h .values i .n) (record { fallback = h .values i .fallback; seed = seed }) b))) in
     rw (h .room) (λ i.
     record {
       laid = h .laid i .answer;

@@ -1,7 +1,7 @@
--- Laws of the plain scorer over a list of calls: turns, counts, the end, and the numbers that cannot occur. Assumes nothing.
+-- Laws of the plain scorer over a list of calls: turns, sums, the end, and the numbers that cannot occur. Assumes nothing.
 use mathlib.Core.Bool.{Bool, true, false, cond, not, _&&_}
 use mathlib.Core.List.{List, [], _∷_}
-use mathlib.Core.Path.{_≡_, refl, ap, _∙_}
+use mathlib.Core.Path.{_≡_, refl, sym, ap, _∙_}
 use Prim.Native.Nat.{ℕ, zero, suc, _+_, _≤_, _<_}
 use native.Mathlib.Omega.{arith}
 use lib.Dec.{ltb, leb, eqb}
@@ -9,12 +9,12 @@ use lib.ListN.{length}
 use lib.Ieee.{Float}
 use borrow.Author.Tests.{ltb-true, ltb-false, lt-ltb, leb-false, not-false}
 use Rattle.course.specs.declared.tiles.TrackPoint.{TrackPoint}
-use Rattle.run.specs.Rules.Arguments.{shortColumns, placesOk, motionsOk}
-use Rattle.certificate.specs.Rules.Answers.{Answer}
-use Rattle.certificate.specs.Rules.Answers.Answer.{refused}
-use Rattle.certificate.specs.Claim.Scorer.{LentLengths, Told, History, opening, drives, settles, off, touched, touches, touchedCount, newTiles, lapDone, over, ended, driveNumber, settleNumber, driveScore, settleScore, score, scores, keptOf}
+use Rattle.run.specs.Rules.Arguments.{shortColumns, saveRoom, placesOk, motionsOk}
+use Rattle.certificate.specs.Rules.Answers.Reply.{answered}
+use Rattle.certificate.specs.Claim.Scorer.{LentLengths, Told, History, opening, drives, settles, off, touched, touches, touchedCount, newTiles, lapDone, over, ended, driveNumber, settleNumber, driveScore, settleScore, score, KeptCalls, saveNumber, restoreNumber, afterItem}
+use Rattle.certificate.specs.Claim.Scorer.History.{thenSettle}
 use Rattle.course.specs.Grader.Outcome.{Outcome}
-use Rattle.certificate.specs.Claim.Certificate.{CourseCall, lentBy, lengthsOf, toldOf, toldsOf, newSum, endedBy, occurs, allOccur}
+use Rattle.certificate.specs.Claim.Items.{Lending, CourseCall, lentBy, lengthsOf, toldOf, CourseItem, itemBy, itemsOf, replyTo, repliesTo, Sums, sums, sumsBy, occurs, allOccur}
 use Rattle.run.specs.declared.state.Pose.{Pose}
 use Rattle.run.specs.declared.dynamics.Motion.{Motion}
 use Rattle.run.proofs.WordLaws.{howMany-or}
@@ -35,6 +35,16 @@ no-ten-six false true c d = refl
 no-ten-six false false true d = refl
 no-ten-six false false false true = refl
 no-ten-six false false false false = refl
+
+no-four : (a b : Bool) → not (eqb (cond a 5 (cond b 2 0)) 4) ≡ true
+no-four true b = refl
+no-four false true = refl
+no-four false false = refl
+
+no-ten-twelve : (a b : Bool) → (not (eqb (cond a 11 (cond b 2 0)) 10) && not (eqb (cond a 11 (cond b 2 0)) 12)) ≡ true
+no-ten-twelve true b = refl
+no-ten-twelve false true = refl
+no-ten-twelve false false = refl
 
 -- drives and settles alternate, drive first, and a settle that is owed is within the tick limit
 pub record InTurn (h : History) : Type 0 where
@@ -80,92 +90,63 @@ module _ (c : List TrackPoint) where
   settle-opening zero h x y ps = refl
   settle-opening (suc k) h x y ps = refl
 
-  one-opening : (h : History) (t : Told) → opening (score c h t .kept) ≡ opening h
+  pub one-opening : (h : History) (t : Told) → opening (score c h t .kept) ≡ opening h
   unfolding score
   one-opening h (Told.drive a ms) = drive-opening (driveNumber c h a ms) h a ms
   one-opening h (Told.settle l x y ps) = settle-opening (settleNumber c h l x y ps) h x y ps
 
-  pub opening-kept : (h : History) (ts : List Told) → opening (keptOf c h ts) ≡ opening h
-  unfolding keptOf
-  opening-kept h [] = refl
-  opening-kept h (t ∷ ts) = opening-kept (score c h t .kept) ts ∙ one-opening h t
+  -- ---- what one answer adds to the sums
+  abbrev pub sumsOf : History → Sums
+  sumsOf h = sums (touchedCount c h) (ended c h)
 
-  -- ---- counts: the tiles touched before, and the new ones of each accepted settle
-  drive-sum : (k : ℕ) (h : History) (a : ℕ) (ms : List Motion) (r : List Answer)
-      → touchedCount c h + newSum (driveScore c k h a ms .answer ∷ r) ≡ touchedCount c (driveScore c k h a ms .kept) + newSum r
-  unfolding driveScore newSum touchedCount touched
-  drive-sum zero h a ms r = refl
-  drive-sum (suc k) h a ms r = refl
+  drive-sums : (k : ℕ) (h : History) (a : ℕ) (ms : List Motion) → sumsBy (sumsOf h) (answered (driveScore c k h a ms .answer)) ≡ sumsOf (driveScore c k h a ms .kept)
+  unfolding driveScore sumsBy touchedCount touched ended over off settles lapDone
+  drive-sums zero h a ms = refl
+  drive-sums (suc k) h a ms = refl
 
-  settle-sum : (k : ℕ) (h : History) (x y : Float) (ps : List Pose) (r : List Answer)
-      → touchedCount c h + newSum (settleScore c k h x y ps .answer ∷ r) ≡ touchedCount c (settleScore c k h x y ps .kept) + newSum r
-  unfolding settleScore newSum touchedCount newTiles touched
-  settle-sum zero h x y ps r = omega (arith, howMany-or (length c) (touched c h) (touches c ps))
-  settle-sum (suc k) h x y ps r = refl
+  settle-sums : (k : ℕ) (h : History) (x y : Float) (ps : List Pose) → sumsBy (sumsOf h) (answered (settleScore c k h x y ps .answer)) ≡ sumsOf (settleScore c k h x y ps .kept)
+  unfolding settleScore sumsBy touchedCount newTiles touched
+  settle-sums zero h x y ps = ap (λ (n : ℕ). sums n (ended c (thenSettle h x y ps))) (sym (howMany-or (length c) (touched c h) (touches c ps)))
+  settle-sums (suc k) h x y ps = refl
 
-  one-sum : (h : History) (t : Told) (r : List Answer) → touchedCount c h + newSum (score c h t .answer ∷ r) ≡ touchedCount c (score c h t .kept) + newSum r
+  pub one-sums : (h : History) (t : Told) → sumsBy (sumsOf h) (answered (score c h t .answer)) ≡ sumsOf (score c h t .kept)
   unfolding score
-  one-sum h (Told.drive a ms) r = drive-sum (driveNumber c h a ms) h a ms r
-  one-sum h (Told.settle l x y ps) r = settle-sum (settleNumber c h l x y ps) h x y ps r
-
-  no-sum : newSum [] ≡ 0
-  unfolding newSum
-  no-sum = refl
-
-  pub sum-is : (ts : List Told) (h : History) → touchedCount c h + newSum (scores c h ts) ≡ touchedCount c (keptOf c h ts)
-  unfolding scores keptOf
-  sum-is [] h = omega (arith, no-sum)
-  sum-is (t ∷ ts) h = one-sum h t (scores c (score c h t .kept) ts) ∙ sum-is ts (score c h t .kept)
-
-  -- ---- the end: what the last accepted settle says
-  drive-end : (k : ℕ) (h : History) (a : ℕ) (ms : List Motion) (r : List Answer) → endedBy (ended c h) (driveScore c k h a ms .answer ∷ r) ≡ endedBy (ended c (driveScore c k h a ms .kept)) r
-  unfolding driveScore endedBy ended over settles touched lapDone off
-  drive-end zero h a ms r = refl
-  drive-end (suc k) h a ms r = refl
-
-  settle-end : (k : ℕ) (h : History) (x y : Float) (ps : List Pose) (r : List Answer) → endedBy (ended c h) (settleScore c k h x y ps .answer ∷ r) ≡ endedBy (ended c (settleScore c k h x y ps .kept)) r
-  unfolding settleScore endedBy
-  settle-end zero h x y ps r = refl
-  settle-end (suc k) h x y ps r = refl
-
-  one-end : (h : History) (t : Told) (r : List Answer) → endedBy (ended c h) (score c h t .answer ∷ r) ≡ endedBy (ended c (score c h t .kept)) r
-  unfolding score
-  one-end h (Told.drive a ms) r = drive-end (driveNumber c h a ms) h a ms r
-  one-end h (Told.settle l x y ps) r = settle-end (settleNumber c h l x y ps) h x y ps r
-
-  pub end-is : (ts : List Told) (h : History) → endedBy (ended c h) (scores c h ts) ≡ ended c (keptOf c h ts)
-  unfolding scores keptOf endedBy
-  end-is [] h = refl
-  end-is (t ∷ ts) h = one-end h t (scores c (score c h t .kept) ts) ∙ end-is ts (score c h t .kept)
+  one-sums h (Told.drive a ms) = drive-sums (driveNumber c h a ms) h a ms
+  one-sums h (Told.settle l x y ps) = settle-sums (settleNumber c h l x y ps) h x y ps
 
   pub ended-over : (h : History) → 0 < settles h → ended c h ≡ over c h
   unfolding ended
   ended-over h l = rw (lt-ltb 0 (settles h) l)
 
-  -- ---- no call is refused by 10, and no settle by 6
-  drive-occurs : (n k : ℕ) (h : History) (a : ℕ) (ms : List Motion) → not (eqb k 10) ≡ true → occurs {n = n} (CourseCall.drive a ms) (driveScore c k h a ms .answer) ≡ true
+  -- ---- no call is refused by 10, and no settle by 6; no save by 4, and no restore by 12
+  drive-occurs : (n k : ℕ) (h : History) (a : ℕ) (ms : List Motion) → not (eqb k 10) ≡ true → occurs {n = n} (CourseItem.call (CourseCall.drive a ms)) (answered (driveScore c k h a ms .answer)) ≡ true
   unfolding driveScore occurs
   drive-occurs n zero h a ms e = refl
   drive-occurs n (suc k) h a ms e = e
 
-  settle-occurs : {n : ℕ} (k : ℕ) (h : History) (g : CourseCall n) (x y : Float) (ps : List Pose) → (not (eqb k 10) && not (eqb k 6)) ≡ true
-      → ((r : Answer) → r ≡ refused k → occurs g r ≡ (not (eqb k 10) && not (eqb k 6))) → occurs g (settleScore c k h x y ps .answer) ≡ true
+  settle-occurs : {n : ℕ} (k : ℕ) (h : History) (by : Lending n) (x y : Float) (ps : List Pose) → (not (eqb k 10) && not (eqb k 6)) ≡ true
+      → occurs (CourseItem.call (CourseCall.settle by x y ps)) (answered (settleScore c k h x y ps .answer)) ≡ true
   unfolding settleScore occurs
-  settle-occurs zero h g x y ps e f = refl
-  settle-occurs (suc k) h g x y ps e f = f (refused (suc k)) refl ∙ e
+  settle-occurs zero h by x y ps e = refl
+  settle-occurs (suc k) h by x y ps e = e
 
-  one-occurs : {n : ℕ} (o : Outcome) (g : CourseCall n) (h : History) → occurs g (score c h (toldOf o g) .answer) ≡ true
-  unfolding score toldOf driveNumber settleNumber occurs
-  one-occurs {n} o (CourseCall.drive a ms) h =
+  pub one-occurs : {n : ℕ} (o : Outcome) (i : CourseItem n) (k : KeptCalls) → occurs i (replyTo c k (itemBy o i)) ≡ true
+  unfolding score toldOf itemBy replyTo driveNumber settleNumber saveNumber restoreNumber occurs
+  one-occurs {n} o (CourseItem.call (CourseCall.drive a ms)) k =
+      let h : History = k .calls in
       drive-occurs n (driveNumber c h a ms) h a ms
       (no-ten (ended c h) (ltb (settles h) (drives h)) (leb (opening h .limit) (settles h)) (ltb 4 a) (not (motionsOk ms)))
-  one-occurs {n} o (CourseCall.settle by x y ps) h =
+  one-occurs {n} o (CourseItem.call (CourseCall.settle by x y ps)) k =
+      let h : History = k .calls in
       let l : LentLengths = lengthsOf (lentBy o by) in
-      settle-occurs (settleNumber c h l x y ps) h (CourseCall.settle by x y ps) x y ps
+      settle-occurs (settleNumber c h l x y ps) h by x y ps
       (no-ten-six (ended c h) (not (ltb (settles h) (drives h))) (shortColumns (length c) (l .tiles) (l .offsets)) (not (placesOk x y ps)))
-      (λ r e. ap (occurs (CourseCall.settle by x y ps)) e)
+  one-occurs {n} o (CourseItem.save out) k = no-four (ltb (settles (k .calls)) (drives (k .calls))) (ltb (length out) saveRoom)
+  one-occurs {n} o (CourseItem.restore by i) k =
+      let l : LentLengths = lengthsOf (lentBy o by) in
+      no-ten-twelve (leb (length (k .saves)) i) (shortColumns (length c) (l .tiles) (l .offsets))
 
-  pub all-occur : {n : ℕ} (o : Outcome) (cs : List (CourseCall n)) (h : History) → allOccur cs (scores c h (toldsOf o cs)) ≡ true
-  unfolding allOccur scores
-  all-occur o [] h = refl
-  all-occur o (g ∷ cs) h = both _ _ (one-occurs o g h) (all-occur o cs (score c h (toldOf o g) .kept))
+  pub all-occur : {n : ℕ} (o : Outcome) (is : List (CourseItem n)) (k : KeptCalls) → allOccur is (repliesTo c k (itemsOf o is)) ≡ true
+  unfolding allOccur repliesTo
+  all-occur o [] k = refl
+  all-occur o (i ∷ is) k = both _ _ (one-occurs o i k) (all-occur o is (afterItem c k (itemBy o i)))

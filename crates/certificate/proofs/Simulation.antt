@@ -19,15 +19,17 @@ use Rattle.run.specs.Rules.Wheel.{quadOf}
 use Rattle.run.specs.Grader.Touch.{touchedBy, soundPoses}
 use Rattle.run.specs.Grader.Contact.{wheelSets, Contacted, contacted, contactOf}
 use Rattle.run.specs.Grader.Grip.{onRoad, roadsOf}
+use Rattle.run.specs.Grader.Numbers.{poseNumbers}
 use Rattle.run.specs.Rules.Lap.{aboveShare, lapOf, offField, endOf}
 use Rattle.run.specs.Rules.Pass.{passOf}
 use Rattle.run.specs.Grader.Start.{setupOf, firstProgress, startAnswer, firstContact, startedBy}
 use Rattle.run.specs.Grader.Drive.{driveAnswer, driveCause, driveAt, drivePartsOf, driveOf}
-use Rattle.run.specs.Grader.Settle.{settleAnswer, settleCause, settledProgress, SettledParts, settledParts, settledBy, settleAt, settlePartsOf, settleOf}
+use Rattle.run.specs.Grader.Settle.{settleAnswer, settleCause, settledProgress, SettledParts, settledParts, settledBy, settleAt, settlePartsOf, posesAfter, settlePosesOf, settleOf}
 use Rattle.certificate.specs.Grader.Calls.{Call, Replied, driveSaid, settleSaid, replyOf}
 use Rattle.certificate.specs.Claim.Scorer.{Opening, Told, History, opening, drives, settles, lastPoses, off, Scored, touch, touches, touched, touchedCount, newTiles, meetsLap, lapDone, over, ended, grip, grips, passed, driveNumber, settleNumber, driveScore, settleScore, score}
 use Rattle.certificate.specs.Claim.Scorer.History.{begun, thenDrive, thenSettle}
-use Rattle.certificate.specs.Claim.Certificate.{lengthsOf, settingsFor, progressBy}
+use Rattle.certificate.specs.Claim.Items.{lengthsOf}
+use Rattle.certificate.specs.Claim.Certificate.{CourseLabel, settingsFor, progressBy}
 use Rattle.run.specs.declared.state.Pose.{Pose}
 use Rattle.run.specs.declared.state.Progress.{Progress}
 use Rattle.run.specs.declared.dynamics.Motion.{Motion}
@@ -64,18 +66,20 @@ module _ (m most : ℕ) (c : List TrackPoint) (room : most ≤ 64 * m) (some : 0
     pub sound : (ps : List Pose) → soundPoses (l .offsets) (l .list) (length c) ps ≡ true
 
   -- the state that the accepted calls lead to
-  abbrev pub historyState : Bool → History → State
-  historyState fb h =
+  abbrev pub historyState : CourseLabel → History → State
+  historyState label h =
       record {
-        setup = setupOf (settingsFor (length c) fb (opening h));
+        setup = setupOf (settingsFor (length c) label (opening h));
         progress = progressBy c h;
         car = passed c h .car;
         credited = creditedBy m (length c) held (touched c h);
         wheels = wheelsBy m (length c) held (touch c (lastPoses h));
+        poses = poseNumbers (lastPoses h);
+        seed = label .seed;
       }
 
-  abbrev pub withState : Bool → Scored → Replied
-  withState fb s = record { answer = s .answer; state = historyState fb (s .kept) }
+  abbrev pub withState : CourseLabel → Scored → Replied
+  withState label s = record { answer = s .answer; state = historyState label (s .kept) }
 
   -- tiles of the last contact are touched
   last-touched : (h : History) (t : ℕ) → touched c h t ≡ false → anyBelow 4 (λ w. touch c (lastPoses h) w t) ≡ false
@@ -94,7 +98,7 @@ module _ (m most : ℕ) (c : List TrackPoint) (room : most ≤ 64 * m) (some : 0
       contact-is m (length c) held (touched c h) (touch c (lastPoses h)) (λ v. touchedBy (l .tiles) (l .offsets) (l .list) (quadOf ps v)) (touch c ps)
       some (last-touched h) (w .same ps)
 
-  first-contact : (l : Columns) (b : Opening) → HoldsCourse l
+  pub first-contact : (l : Columns) (b : Opening) → HoldsCourse l
       → firstContact m l (b .poses)
       ≡ contacted (creditedBy m (length c) held (touched c (begun b))) (wheelsBy m (length c) held (touch c (b .poses))) (touchedCount c (begun b))
       (anyBelow 4 (λ w. touch c (b .poses) w 0 && not false))
@@ -119,11 +123,11 @@ module _ (m most : ℕ) (c : List TrackPoint) (room : most ≤ 64 * m) (some : 0
       all = howMany-cong (length c) (λ t. anyBelow 4 (λ v. touch c (b .poses) v t) && not false) (touches c (b .poses)) (λ t _. and-true (touches c (b .poses) t))
 
   -- ---- start
-  pub started : (l : Columns) (b : Opening) (fb : Bool) → HoldsCourse l
-      → startedBy (settingsFor (length c) fb b) (firstContact m l (b .poses))
-      ≡ record { answer = startAnswer 0 (record { count = touchedCount c (begun b); lap = lapDone c (begun b) }); state = historyState fb (begun b) }
+  pub started : (l : Columns) (b : Opening) (label : CourseLabel) → HoldsCourse l
+      → startedBy (settingsFor (length c) label b) (firstContact m l (b .poses))
+      ≡ record { answer = startAnswer 0 (record { count = touchedCount c (begun b); lap = lapDone c (begun b) }); state = historyState label (begun b) }
   unfolding startedBy firstProgress lapOf lapDone meetsLap opening settles drives lastPoses ended passed
-  started l b fb w = ap (startedBy (settingsFor (length c) fb b)) (first-contact l b w)
+  started l b label w = ap (startedBy (settingsFor (length c) label b)) (first-contact l b w)
 
   -- ---- drive
   roads-are : (h : History) → roadsOf m (wheelsBy m (length c) held (touch c (lastPoses h))) ≡ grips c h
@@ -133,34 +137,36 @@ module _ (m most : ℕ) (c : List TrackPoint) (room : most ≤ 64 * m) (some : 0
       at : (w : ℕ) → w < 4 → onRoad m (wheelsBy m (length c) held (touch c (lastPoses h))) w ≡ anyBelow (length c) (touch c (lastPoses h) w)
       at w l = on-road m (length c) held (touch c (lastPoses h)) w l
 
-  pub fits-state : (fb : Bool) (h : History) → unfit most (setupOf (settingsFor (length c) fb (opening h))) (progressBy c h) ≡ false
+  pub fits-state : (label : CourseLabel) (h : History) → unfit most (setupOf (settingsFor (length c) label (opening h))) (progressBy c h) ≡ false
   unfolding unfit setupOf touchedCount
-  fits-state fb h =
+  fits-state label h =
       rw (le-ltb (length c) 1 some, le-ltb most (length c) fits, le-ltb (length c) (howMany (length c) (touched c h)) (few (length c) (touched c h)))
 
-  drive-number : (fb : Bool) (h : History) (a : ℕ) (ms : List Motion) → driveCause most (setupOf (settingsFor (length c) fb (opening h))) (progressBy c h) a ms ≡ driveNumber c h a ms
+  drive-number : (label : CourseLabel) (h : History) (a : ℕ) (ms : List Motion) → driveCause most (setupOf (settingsFor (length c) label (opening h))) (progressBy c h) a ms ≡ driveNumber c h a ms
   unfolding driveCause driveNumber setupOf
-  drive-number fb h a ms = rw (fits-state fb h)
+  drive-number label h a ms = rw (fits-state label h)
 
   -- the answer and the state after, by what a drive leaves of its parts
-  abbrev droveBy : Bool → History → DroveParts → Replied
-  droveBy fb h d =
+  abbrev droveBy : CourseLabel → History → DroveParts → Replied
+  droveBy label h d =
       record {
         answer = driveSaid (d .answer) (d .forces);
         state = record {
-          setup = setupOf (settingsFor (length c) fb (opening h));
+          setup = setupOf (settingsFor (length c) label (opening h));
           progress = d .progress;
           car = d .car;
           credited = creditedBy m (length c) held (touched c h);
           wheels = wheelsBy m (length c) held (touch c (lastPoses h));
+          poses = poseNumbers (lastPoses h);
+          seed = label .seed;
         };
       }
 
-  drive-at : (fb : Bool) (h : History) → InTurn h → (a : ℕ) (ms : List Motion) (roads : List Bool) (k : ℕ) → roads ≡ grips c h
-      → droveBy fb h (driveAt k (progressBy c h) (passed c h .car) (passOf (passed c h .car) a ms roads)) ≡ withState fb (driveScore c k h a ms)
+  drive-at : (label : CourseLabel) (h : History) → InTurn h → (a : ℕ) (ms : List Motion) (roads : List Bool) (k : ℕ) → roads ≡ grips c h
+      → droveBy label h (driveAt k (progressBy c h) (passed c h .car) (passOf (passed c h .car) a ms roads)) ≡ withState label (driveScore c k h a ms)
   unfolding driveAt driveAnswer driveScore awaiting touched lastPoses touchedCount lapDone ended over off opening settles drives passed
-  drive-at fb h v a ms roads zero e = λ i.
-      droveBy fb h (record {
+  drive-at label h v a ms roads zero e = λ i.
+      droveBy label h (record {
         answer = driveAnswer zero;
         forces = passOf (passed c h .car) a ms (e i) .forces;
         progress = record { «visited_count» = touchedCount c h; tick = settles h; lap = lapDone c h; ended = ended c h; driven = sym (lt-ltb (settles h) (drives h + 1) (next (v .ahead))) i };
@@ -169,14 +175,14 @@ module _ (m most : ℕ) (c : List TrackPoint) (room : most ≤ 64 * m) (some : 0
     where
       next : {a b : ℕ} → a ≤ b → a < b + 1
       next l = omega arith
-  drive-at fb h v a ms roads (suc k) e = refl
+  drive-at label h v a ms roads (suc k) e = refl
 
   -- ---- settle
-  settle-number : (fb : Bool) (h : History) → InTurn h → (l : Columns) (x y : Float) (ps : List Pose) → (shortOf (length c) l ≡ false → HoldsCourse l)
-      → settleCause most (setupOf (settingsFor (length c) fb (opening h))) (progressBy c h) l x y ps ≡ settleNumber c h (lengthsOf l) x y ps
+  settle-number : (label : CourseLabel) (h : History) → InTurn h → (l : Columns) (x y : Float) (ps : List Pose) → (shortOf (length c) l ≡ false → HoldsCourse l)
+      → settleCause most (setupOf (settingsFor (length c) label (opening h))) (progressBy c h) l x y ps ≡ settleNumber c h (lengthsOf l) x y ps
   unfolding settleCause settleNumber shortOf lengthsOf setupOf
-  settle-number fb h v l x y ps w =
-      rw (fits-state fb h)
+  settle-number label h v l x y ps w =
+      rw (fits-state label h)
       (cond-else (ended c h) 4 _ _ (λ e₁.
       cond-else (not (ltb (settles h) (drives h))) 5 _ _ (λ e₂.
       cond-skip (leb (opening h .limit) (settles h)) 6 _ (lt-leb (opening h .limit) (settles h) (v .time (ltb-true _ _ (not-false _ e₂))))
@@ -198,10 +204,10 @@ module _ (m most : ℕ) (c : List TrackPoint) (room : most ≤ 64 * m) (some : 0
   abbrev entersZero : History → List Pose → Bool
   entersZero h ps = anyBelow 4 (λ w. touch c ps w 0 && not (touch c (lastPoses h) w 0))
 
-  settled-progress : (fb : Bool) (h : History) → InTurn h → (x y : Float) (ps : List Pose)
-      → settledProgress (setupOf (settingsFor (length c) fb (opening h))) (progressBy c h) (newTiles c h ps) (entersZero h ps) (offField x y) ≡ progressBy c (thenSettle h x y ps)
+  settled-progress : (label : CourseLabel) (h : History) → InTurn h → (x y : Float) (ps : List Pose)
+      → settledProgress (setupOf (settingsFor (length c) label (opening h))) (progressBy c h) (newTiles c h ps) (entersZero h ps) (offField x y) ≡ progressBy c (thenSettle h x y ps)
   unfolding settledProgress setupOf lapOf opening settles drives lapDone meetsLap
-  settled-progress fb h v x y ps =
+  settled-progress label h v x y ps =
       (λ i. at (count-is h x y ps i) (lapAt (count-is h x y ps i)) (endOf (count-is h x y ps i) (length c) (lapAt (count-is h x y ps i)) (offField x y)) (sym (le-ltb (settles h + 1) (drives h) (v .close)) i))
       ∙ ap (λ (e : Bool). at (touchedCount c (thenSettle h x y ps)) (lapDone c (thenSettle h x y ps)) e (ltb (settles h + 1) (drives h))) (end-is h x y ps)
     where
@@ -213,24 +219,32 @@ module _ (m most : ℕ) (c : List TrackPoint) (room : most ≤ 64 * m) (some : 0
       at count lap e driven = record { «visited_count» = count; tick = settles h + 1; lap = lap; ended = e; driven = driven }
 
   -- the answer and the state after, by what a settle leaves of its parts
-  abbrev settledFrom : Bool → History → SettledParts → Replied
-  settledFrom fb h d =
+  abbrev settledFrom : CourseLabel → History → List Pose → SettledParts → Replied
+  settledFrom label h ps d =
       record {
         answer = settleSaid (d .answer);
-        state = record { setup = setupOf (settingsFor (length c) fb (opening h)); progress = d .progress; car = passed c h .car; credited = d .credited; wheels = d .wheels };
+        state = record {
+          setup = setupOf (settingsFor (length c) label (opening h));
+          progress = d .progress;
+          car = passed c h .car;
+          credited = d .credited;
+          wheels = d .wheels;
+          poses = posesAfter (d .answer) ps (poseNumbers (lastPoses h));
+          seed = label .seed;
+        };
       }
 
-  settle-at : (fb : Bool) (h : History) → InTurn h → (l : Columns) (x y : Float) (ps : List Pose) (k : ℕ) → (k ≡ 0 → HoldsCourse l)
-      → settledFrom fb h (settleAt m k (setupOf (settingsFor (length c) fb (opening h))) (progressBy c h) (creditedBy m (length c) held (touched c h)) (wheelsBy m (length c) held (touch c (lastPoses h))) l x y ps)
-      ≡ withState fb (settleScore c k h x y ps)
-  unfolding settleAt settleAnswer settleScore settledBy setupOf off lastPoses opening passed
-  settle-at fb h v l x y ps zero w =
-      ap (λ (g : Contacted). settledFrom fb h (settledBy (setupOf (settingsFor (length c) fb (opening h))) (progressBy c h) (offField x y) g)) (settle-contact h l x y ps (w refl))
-      ∙ ap (λ (p : Progress). settledFrom fb h (settledParts (settleAnswer zero (values p)) p (creditedBy m (length c) held (touched c (thenSettle h x y ps))) (wheelsBy m (length c) held (touch c ps)))) (settled-progress fb h v x y ps)
+  settle-at : (label : CourseLabel) (h : History) → InTurn h → (l : Columns) (x y : Float) (ps : List Pose) (k : ℕ) → (k ≡ 0 → HoldsCourse l)
+      → settledFrom label h ps (settleAt m k (setupOf (settingsFor (length c) label (opening h))) (progressBy c h) (creditedBy m (length c) held (touched c h)) (wheelsBy m (length c) held (touch c (lastPoses h))) l x y ps)
+      ≡ withState label (settleScore c k h x y ps)
+  unfolding settleAt settleAnswer settleScore settledBy posesAfter setupOf off lastPoses opening passed
+  settle-at label h v l x y ps zero w =
+      ap (λ (g : Contacted). settledFrom label h ps (settledBy (setupOf (settingsFor (length c) label (opening h))) (progressBy c h) (offField x y) g)) (settle-contact h l x y ps (w refl))
+      ∙ ap (λ (p : Progress). settledFrom label h ps (settledParts (settleAnswer zero (values p)) p (creditedBy m (length c) held (touched c (thenSettle h x y ps))) (wheelsBy m (length c) held (touch c ps)))) (settled-progress label h v x y ps)
     where
       values : Progress → SettleValues
       values p = record { «new_tiles» = newTiles c h ps; n = length c; off = offField x y; lap = p .lap; ended = p .ended }
-  settle-at fb h v l x y ps (suc k) w = refl
+  settle-at label h v l x y ps (suc k) w = refl
 
   -- an accepted settle was lent columns that are long enough
   long-enough : (h : History) (l : Columns) (x y : Float) (ps : List Pose) → settleNumber c h (lengthsOf l) x y ps ≡ 0 → shortOf (length c) l ≡ false
@@ -248,12 +262,12 @@ module _ (m most : ℕ) (c : List TrackPoint) (room : most ≤ 64 * m) (some : 0
   WellLent (Call.drive a ms) = Unit
   WellLent (Call.settle l x y ps) = shortOf (length c) l ≡ false → HoldsCourse l
 
-  pub reply-is : (fb : Bool) (h : History) → InTurn h → (g : Call) → WellLent g → replyOf m most (historyState fb h) g ≡ withState fb (score c h (toldBy g))
-  unfolding replyOf score driveOf drivePartsOf settleOf settlePartsOf
-  reply-is fb h v (Call.drive a ms) w =
-      ap (λ (k : ℕ). droveBy fb h (driveAt k (progressBy c h) (passed c h .car) (passOf (passed c h .car) a ms (roadsOf m (wheelsBy m (length c) held (touch c (lastPoses h))))))) (drive-number fb h a ms)
-      ∙ drive-at fb h v a ms (roadsOf m (wheelsBy m (length c) held (touch c (lastPoses h)))) (driveNumber c h a ms) (roads-are h)
-  reply-is fb h v (Call.settle l x y ps) w =
-      ap (λ (k : ℕ). settledFrom fb h (settleAt m k (setupOf (settingsFor (length c) fb (opening h))) (progressBy c h) (creditedBy m (length c) held (touched c h)) (wheelsBy m (length c) held (touch c (lastPoses h))) l x y ps))
-      (settle-number fb h v l x y ps w)
-      ∙ settle-at fb h v l x y ps (settleNumber c h (lengthsOf l) x y ps) (λ e. w (long-enough h l x y ps e))
+  pub reply-is : (label : CourseLabel) (h : History) → InTurn h → (g : Call) → WellLent g → replyOf m most (historyState label h) g ≡ withState label (score c h (toldBy g))
+  unfolding replyOf score driveOf drivePartsOf settleOf settlePosesOf settlePartsOf
+  reply-is label h v (Call.drive a ms) w =
+      ap (λ (k : ℕ). droveBy label h (driveAt k (progressBy c h) (passed c h .car) (passOf (passed c h .car) a ms (roadsOf m (wheelsBy m (length c) held (touch c (lastPoses h))))))) (drive-number label h a ms)
+      ∙ drive-at label h v a ms (roadsOf m (wheelsBy m (length c) held (touch c (lastPoses h)))) (driveNumber c h a ms) (roads-are h)
+  reply-is label h v (Call.settle l x y ps) w =
+      ap (λ (k : ℕ). settledFrom label h ps (settleAt m k (setupOf (settingsFor (length c) label (opening h))) (progressBy c h) (creditedBy m (length c) held (touched c h)) (wheelsBy m (length c) held (touch c (lastPoses h))) l x y ps))
+      (settle-number label h v l x y ps w)
+      ∙ settle-at label h v l x y ps (settleNumber c h (lengthsOf l) x y ps) (λ e. w (long-enough h l x y ps e))

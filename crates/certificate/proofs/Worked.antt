@@ -1,11 +1,13 @@
--- A worked instance of the certificate: a course of two points, a start beside it and five calls, three of them refused. Assumes nothing.
+-- A worked instance of the certificate: a course of two points, a start beside it and ten calls, with a save that is restored after the run has ended.
+-- Assumes nothing.
 use mathlib.Core.Path.{_≡_, refl, ap, _∙_}
 use mathlib.Core.Bool.{true, false}
 use mathlib.Core.List.{List, [], _∷_, _++_, append-nil}
+use Prim.Native.Nat.{ℕ}
 use native.Mathlib.Omega.{arith}
 use lib.Dec.{ltb}
-use lib.ListN.{length}
-use lib.Ieee.{Float, ofInt, round, add, sub, mul, div, neg, lt, le, isNan, ofBits}
+use lib.ListN.{length, replicate, length-replicate}
+use lib.Ieee.{Float, ofInt, round, add, sub, mul, div, neg, lt, le, isNan, ofBits, fits}
 use Rattle.course.specs.Rules.Arithmetic.{natural, decimal}
 use Rattle.course.specs.Rules.Lengths.{quadNumbers, offsetCount}
 use Rattle.course.specs.Grader.Course.{fromPoints, cellsOf}
@@ -22,17 +24,20 @@ use Rattle.course.proofs.LengthLaws.{points-fit}
 use Rattle.run.specs.Rules.Below.{anyBelow, everyBelow, someOf}
 use Rattle.run.specs.Rules.Wheel.{size, wheelW, wheelR, placed, wheelQuad, quadOf, boxCells}
 use Rattle.run.specs.Rules.Overlap.{leastOn, greatestOn, apartOn, apartAlong, apartByEdges, overlapOf}
-use Rattle.run.specs.Rules.Arguments.{settingsOk, shortColumns, inRange, poseOk, posesOk, placesOk, motionOk, motionsOk}
+use Rattle.run.specs.Rules.Arguments.{settingsOk, shortColumns, saveRoom, inRange, poseOk, posesOk, placesOk, motionOk, motionsOk}
 use Rattle.run.specs.Rules.Lap.{offField}
+use Rattle.certificate.specs.Rules.Answers.{Reply}
 use Rattle.certificate.specs.Rules.Answers.Answer.{drove, settled, refused}
-use Rattle.certificate.specs.Claim.Scorer.{LentLengths, Opening, Told, opening, drives, settles, lastPoses, off, touch, touches, touched, touchedCount, newTiles, meetsLap, lapDone, over, ended, passed, startNumber, driveNumber, settleNumber, driveScore, settleScore, score, scores}
+use Rattle.certificate.specs.Rules.Answers.Reply.{answered, decided}
+use Rattle.certificate.specs.Claim.Scorer.{LentLengths, Opening, Told, Item, keptCalls, opening, drives, settles, lastPoses, off, touch, touches, touched, touchedCount, newTiles, meetsLap, lapDone, over, ended, passed, startNumber, driveNumber, settleNumber, driveScore, settleScore, score, saveNumber, restoreNumber, noted, takenUp, afterItem}
 use Rattle.certificate.specs.Claim.Scorer.History.{begun, thenDrive}
 use Rattle.run.specs.declared.dynamics.Motion.{Motion}
 use Rattle.run.specs.Grader.Widths.{fullWords, mostTiles}
 use Rattle.run.specs.Grader.State.{columns, shortOf}
-use Rattle.certificate.specs.Grader.Calls.{repliesOf}
-use Rattle.certificate.specs.Claim.Certificate.{CourseCall, lentBy, lengthsOf, toldOf, callsOf, toldsOf, startOn}
-use Rattle.certificate.specs.Claim.Certificate.Lending.{laid, short}
+use Rattle.run.specs.Grader.Numbers.{poseNumbers}
+use Rattle.certificate.specs.Claim.Items.{CourseCall, lentBy, lengthsOf, toldOf, CourseItem, itemBy, itemsOf, replyTo, repliesTo, allFit, isRestore, someRestore, typedItem, typedItems, typed}
+use Rattle.certificate.specs.Claim.Items.Lending.{laid, short}
+use Rattle.certificate.specs.Claim.Certificate.{CourseLabel, repliedBy, startOn}
 use Rattle.certificate.proofs.LentColumns.{tiles-few, own-long, offsets-long, ownLength, zerosPast, lent-laid}
 use Rattle.certificate.proofs.Certificate.{laid-demand3}
 use Rattle.run.specs.declared.state.Pose.{Pose}
@@ -58,6 +63,10 @@ on = wheelsAt (natural 0) (natural 10)
 abbrev pub beside : Opening
 beside = record { share = decimal 5 10; limit = 10; poses = away }
 
+-- a course of given points: no fallback, seed 0
+abbrev pub label : CourseLabel
+label = record { fallback = false; seed = 0 }
+
 -- at rest
 abbrev pub still : List Motion
 still =
@@ -67,30 +76,45 @@ still =
 abbrev enough : LentLengths
 enough = record { tiles = quadNumbers (ownLength points); offsets = offsetCount }
 
--- what the plain scorer is told: a settle out of turn, a drive, a settle with no columns, a settle on the strip, and a drive after the end
-abbrev told : List Told
+-- what the plain scorer is told: a settle out of turn, a save, a drive, a save while the settle is due, a settle with no columns, one on the strip, a drive after
+-- the end; then the save is restored and the drive made again; and a restore of a save that there is not
+abbrev told : List Item
 told =
-    Told.settle enough (natural 0) (natural 10) on
-    ∷ Told.drive 3 still
-    ∷ Told.settle (record { tiles = 0; offsets = 0 }) (natural 0) (natural 10) on
-    ∷ Told.settle enough (natural 0) (natural 10) on
-    ∷ Told.drive 0 still
+    Item.call (Told.settle enough (natural 0) (natural 10) on)
+    ∷ Item.save saveRoom
+    ∷ Item.call (Told.drive 3 still)
+    ∷ Item.save saveRoom
+    ∷ Item.call (Told.settle (record { tiles = 0; offsets = 0 }) (natural 0) (natural 10) on)
+    ∷ Item.call (Told.settle enough (natural 0) (natural 10) on)
+    ∷ Item.call (Told.drive 0 still)
+    ∷ Item.restore enough 0
+    ∷ Item.call (Told.drive 3 still)
+    ∷ Item.restore enough 1
     ∷ []
 
--- its answers: the settle on the strip finds both tiles new, completes the lap and ends the run
-pub plain : scores points (begun beside) told
-    ≡ refused 5
-    ∷ drove (passed points (thenDrive (begun beside) 3 still) .forces)
-    ∷ refused 2
-    ∷ settled (record { «new_tiles» = 2; n = 2; off = false; lap = true; ended = true })
-    ∷ refused 4
+-- what is replied: the settle on the strip finds both tiles new, completes the lap and ends the run; after the restore the run has not ended, and the drive
+-- has the forces that it had
+abbrev replies : List Reply
+replies =
+    answered (refused 5)
+    ∷ decided 0
+    ∷ answered (drove (passed points (thenDrive (begun beside) 3 still) .forces))
+    ∷ decided 5
+    ∷ answered (refused 2)
+    ∷ answered (settled (record { «new_tiles» = 2; n = 2; off = false; lap = true; ended = true }))
+    ∷ answered (refused 4)
+    ∷ decided 0
+    ∷ answered (drove (passed points (thenDrive (begun beside) 3 still) .forces))
+    ∷ decided 11
     ∷ []
-unfolding touches touched newTiles lapDone meetsLap touchedCount over ended off opening settles drives lastPoses driveNumber settleNumber startNumber driveScore settleScore score scores anyBelow everyBelow howMany offField absOf shortColumns settingsOk posesOk poseOk inRange placesOk motionsOk motionOk touch someOf holds rectOf tileOf tilesTo eight tileAt tileQuad beforeOf boxCells quadOf wheelQuad placed size wheelW wheelR leastX leastY greatestX greatestY cellAt cellOf along overlapOf apartByEdges apartAlong apartOn leastOn greatestOn leastOf greatestOf minOf maxOf within cosineOf sineOf pick quarterOf restOf turnsOf wholeBelow floor cosinePoly sinePoly cosineTerms sineTerms horner minus plus factorial scale playfield trackWidth gridCell halfPi f64Max f64Min natural decimal ofInt round add sub mul div neg lt le isNan ofBits
+
+pub plain : repliesTo points (keptCalls (begun beside) []) told ≡ replies
+unfolding touches touched newTiles lapDone meetsLap touchedCount over ended off opening settles drives lastPoses driveNumber settleNumber startNumber driveScore settleScore score saveNumber restoreNumber noted takenUp replyTo afterItem repliesTo anyBelow everyBelow howMany offField absOf shortColumns settingsOk posesOk poseOk inRange placesOk motionsOk motionOk touch someOf holds rectOf tileOf tilesTo eight tileAt tileQuad beforeOf boxCells quadOf wheelQuad placed size wheelW wheelR leastX leastY greatestX greatestY cellAt cellOf along overlapOf apartByEdges apartAlong apartOn leastOn greatestOn leastOf greatestOf minOf maxOf within cosineOf sineOf pick quarterOf restOf turnsOf wholeBelow floor cosinePoly sinePoly cosineTerms sineTerms horner minus plus factorial scale playfield trackWidth gridCell halfPi f64Max f64Min natural decimal ofInt round add sub mul div neg lt le isNan ofBits
 plain = refl
 
 -- the start beside the strip is accepted
 accepted : startNumber points mostTiles enough beside ≡ 0
-unfolding touches touched newTiles lapDone meetsLap touchedCount over ended off opening settles drives lastPoses driveNumber settleNumber startNumber driveScore settleScore score scores anyBelow everyBelow howMany offField absOf shortColumns settingsOk posesOk poseOk inRange placesOk motionsOk motionOk touch someOf holds rectOf tileOf tilesTo eight tileAt tileQuad beforeOf boxCells quadOf wheelQuad placed size wheelW wheelR leastX leastY greatestX greatestY cellAt cellOf along overlapOf apartByEdges apartAlong apartOn leastOn greatestOn leastOf greatestOf minOf maxOf within cosineOf sineOf pick quarterOf restOf turnsOf wholeBelow floor cosinePoly sinePoly cosineTerms sineTerms horner minus plus factorial scale playfield trackWidth gridCell halfPi f64Max f64Min natural decimal ofInt round add sub mul div neg lt le isNan ofBits
+unfolding touches touched newTiles lapDone meetsLap touchedCount over ended off opening settles drives lastPoses driveNumber settleNumber startNumber driveScore settleScore score anyBelow everyBelow howMany offField absOf shortColumns settingsOk posesOk poseOk inRange placesOk motionsOk motionOk touch someOf holds rectOf tileOf tilesTo eight tileAt tileQuad beforeOf boxCells quadOf wheelQuad placed size wheelW wheelR leastX leastY greatestX greatestY cellAt cellOf along overlapOf apartByEdges apartAlong apartOn leastOn greatestOn leastOf greatestOf minOf maxOf within cosineOf sineOf pick quarterOf restOf turnsOf wholeBelow floor cosinePoly sinePoly cosineTerms sineTerms horner minus plus factorial scale playfield trackWidth gridCell halfPi f64Max f64Min natural decimal ofInt round add sub mul div neg lt le isNan ofBits
 accepted = refl
 
 pub no-columns : shortOf (length points) (columns [] [] []) ≡ true
@@ -102,14 +126,19 @@ module _ (l : CourseColumns) (whole : ltb (length (l .list)) (cellsOf points) �
   abbrev o : Outcome
   o = layInto (ownLength points) false points l
 
-  -- the same calls: the first and the fourth are lent the course as laid, the third is lent nothing
-  abbrev pub given : List (CourseCall (length points))
+  -- the same calls: the first settle and the last and the restores are lent the course as laid, the one between is lent nothing; saves have just the room
+  abbrev pub given : List (CourseItem (length points))
   given =
-      CourseCall.settle (laid [] [] []) (natural 0) (natural 10) on
-      ∷ CourseCall.drive 3 still
-      ∷ CourseCall.settle (short (columns [] [] []) no-columns) (natural 0) (natural 10) on
-      ∷ CourseCall.settle (laid [] [] []) (natural 0) (natural 10) on
-      ∷ CourseCall.drive 0 still
+      CourseItem.call (CourseCall.settle (laid [] [] []) (natural 0) (natural 10) on)
+      ∷ CourseItem.save (replicate saveRoom 0)
+      ∷ CourseItem.call (CourseCall.drive 3 still)
+      ∷ CourseItem.save (replicate saveRoom 0)
+      ∷ CourseItem.call (CourseCall.settle (short (columns [] [] []) no-columns) (natural 0) (natural 10) on)
+      ∷ CourseItem.call (CourseCall.settle (laid [] [] []) (natural 0) (natural 10) on)
+      ∷ CourseItem.call (CourseCall.drive 0 still)
+      ∷ CourseItem.restore (laid [] [] []) 0
+      ∷ CourseItem.call (CourseCall.drive 3 still)
+      ∷ CourseItem.restore (laid [] [] []) 1
       ∷ []
 
   lent-enough : lengthsOf (lentBy {n = length points} o (laid [] [] [])) ≡ enough
@@ -121,24 +150,28 @@ module _ (l : CourseColumns) (whole : ltb (length (l .list)) (cellsOf points) �
         offsets = (ap length (append-nil (fromPoints points .offsets)) ∙ offsets-long points) i;
       })
 
-  told-same : toldsOf o given ≡ told
-  unfolding toldOf lentBy lengthsOf
+  told-same : itemsOf o given ≡ told
+  unfolding itemBy toldOf lentBy lengthsOf
   told-same = λ i.
-      Told.settle (lent-enough i) (natural 0) (natural 10) on
-      ∷ Told.drive 3 still
-      ∷ Told.settle (lengthsOf (columns [] [] [])) (natural 0) (natural 10) on
-      ∷ Told.settle (lent-enough i) (natural 0) (natural 10) on
-      ∷ Told.drive 0 still
+      Item.call (Told.settle (lent-enough i) (natural 0) (natural 10) on)
+      ∷ Item.save (length-replicate {A = ℕ} saveRoom 0 i)
+      ∷ Item.call (Told.drive 3 still)
+      ∷ Item.save (length-replicate {A = ℕ} saveRoom 0 i)
+      ∷ Item.call (Told.settle (lengthsOf (columns [] [] [])) (natural 0) (natural 10) on)
+      ∷ Item.call (Told.settle (lent-enough i) (natural 0) (natural 10) on)
+      ∷ Item.call (Told.drive 0 still)
+      ∷ Item.restore (lent-enough i) 0
+      ∷ Item.call (Told.drive 3 still)
+      ∷ Item.restore (lent-enough i) 1
       ∷ []
 
-  pub graded : repliesOf fullWords mostTiles (startOn {n = length points} fullWords mostTiles o (laid [] [] []) false beside .state) (callsOf o given)
-      ≡ refused 5
-      ∷ drove (passed points (thenDrive (begun beside) 3 still) .forces)
-      ∷ refused 2
-      ∷ settled (record { «new_tiles» = 2; n = 2; off = false; lap = true; ended = true })
-      ∷ refused 4
-      ∷ []
+  -- its values are ones that bytes can carry
+  carried : typed (label .seed) beside given ≡ true
+  unfolding typed someRestore isRestore typedItems typedItem allFit poseNumbers fits natural decimal ofInt round div ofBits
+  carried = refl
+
+  pub graded : repliedBy {n = length points} fullWords mostTiles o (startOn {n = length points} fullWords mostTiles o (laid [] [] []) label beside) given ≡ replies
   graded =
-      laid-demand3 fullWords mostTiles points (omega arith) (omega arith) (omega arith) (omega arith) false l whole (laid [] [] []) false beside given .runs
-      (ap (λ (k : LentLengths). startNumber points mostTiles k beside) lent-enough ∙ accepted) .answers
-      ∙ ap (scores points (begun beside)) told-same ∙ plain
+      laid-demand3 fullWords mostTiles points (omega arith) (omega arith) (omega arith) (omega arith) false l whole (laid [] [] []) label beside given .runs
+      (ap (λ (k : LentLengths). startNumber points mostTiles k beside) lent-enough ∙ accepted) carried .answers
+      ∙ ap (repliesTo points (keptCalls (begun beside) [])) told-same ∙ plain

@@ -6,7 +6,7 @@ ghost use lib.ListN.{length, set, replicate};
 ghost use Rattle.course.specs.Rules.Arithmetic.{nought};
 ghost use Rattle.course.specs.Rules.Counting.{digit};
 ghost use Rattle.certificate.specs.Grader.Calls.{driveSaid, settleSaid};
-ghost use Rattle.certificate.specs.Grader.Numbers.{forceNumbers};
+ghost use Rattle.run.specs.Grader.Numbers.{forceNumbers};
 ghost use Rattle.certificate.specs.Grader.CallColumns.{answerNumbers, wordsOf, numbersOf};
 use run::drive::DriveAnswer;
 use run::dynamics::Force;

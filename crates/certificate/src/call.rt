@@ -1,7 +1,7 @@
 // A call read from its columns: motions, poses and lent lengths.
 ghost use mathlib.Core.Path.{_≡_};
 ghost use Prim.Native.Nat.{_+_, _≤_, min};
-ghost use Rattle.certificate.specs.Grader.Numbers.{motionFrom, motionsFrom, poseFrom, posesFrom};
+ghost use Rattle.run.specs.Grader.Numbers.{motionFrom, motionsFrom, poseFrom, posesFrom};
 use run::dynamics::Motion;
 use run::state::Pose;
 

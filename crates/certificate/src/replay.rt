@@ -8,7 +8,7 @@ ghost use Rattle.run.specs.Grader.Widths.{fullWords, mostTiles};
 ghost use Rattle.run.specs.Grader.State.{view, columns};
 ghost use Rattle.certificate.specs.Grader.Calls.{Call, replyOf, repliesOf, stateAfter};
 ghost use Rattle.course.specs.Rules.Tiles.{numberAt};
-ghost use Rattle.certificate.specs.Grader.Numbers.{motionsFrom, posesFrom};
+ghost use Rattle.run.specs.Grader.Numbers.{motionsFrom, posesFrom};
 ghost use Rattle.certificate.specs.Grader.CallColumns.{callWords, callNumbers, answerWords, answerNumbers, wordsOf, numbersOf, allWords, allNumbers};
 ghost use Rattle.certificate.specs.Steps.Replay.{callFrom, callsTo};
 ghost use Rattle.certificate.specs.Grader.Replay.{roomFor, replay, replayOf};
@@ -282,6 +282,7 @@ pub fn replay(
         list,
         course.n,
         course.fallback,
+        seed,
         share,
         limit,
         poses,

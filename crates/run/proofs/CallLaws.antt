@@ -18,10 +18,11 @@ use Rattle.run.specs.Grader.Words.{member}
 use Rattle.run.specs.Grader.Contact.{entered, Contacted, contacted, contactOf}
 use Rattle.course.proofs.BoolLaws.{or-no, cleared}
 use Rattle.run.proofs.CreditLaws.{few}
+use Rattle.run.specs.Grader.Numbers.{poseNumbers}
 use Rattle.run.specs.Rules.Lap.{lapOf, offField}
 use Rattle.run.specs.Grader.Start.{Settings, startShort, startCause, startAnswer, setupOf, firstProgress, zeroState, begun, firstContact, startedBy, startAt, startOf}
 use Rattle.run.specs.Rules.Pass.{stillCar}
-use Rattle.run.specs.Grader.Settle.{settleCause, settleAnswer, settledProgress, SettledParts, settledParts, settledBy, settleAt, settlePartsOf, afterSettle, settleOf}
+use Rattle.run.specs.Grader.Settle.{settleCause, settleAnswer, settledProgress, SettledParts, settledParts, settledBy, settleAt, settlePartsOf, posesAfter, SettledPoses, settledPoses, settlePosesOf, afterSettle, settleOf}
 use Rattle.run.specs.declared.state.Setup.{Setup}
 use Rattle.run.specs.declared.state.Progress.{Progress}
 use Rattle.run.specs.declared.state.Car.{Car}
@@ -31,7 +32,7 @@ use Rattle.run.specs.declared.settle.SettleAnswer.{SettleAnswer}
 use Rattle.run.specs.declared.settle.SettleAnswer.the-variants.{Settled, Refused as NotSettled}
 
 -- the lent tiles are long enough for n of them
-long : (tiles offsets n most : ℕ) → shortColumns n tiles offsets ≡ false → ltb most n ≡ false → most ≤ mostPoints → n * 8 ≤ tiles
+pub long : (tiles offsets n most : ℕ) → shortColumns n tiles offsets ≡ false → ltb most n ≡ false → most ≤ mostPoints → n * 8 ≤ tiles
 unfolding shortColumns
 long tiles offsets n most h b m =
     let t = ltb-false tiles (quadNumbers (columnLength n)) (or-no (ltb tiles (quadNumbers (columnLength n))) (ltb offsets offsetCount) h .0) in
@@ -66,13 +67,13 @@ unfolding startOf startAt startAnswer
 start-refused m most l a zero s e n z = absurd (n refl)
 start-refused m most l a (suc k) s e n z = ap (begun (Refused (suc k))) z ∙ ap (λ (j : ℕ). startAt m j l a) e
 
-pub start-accepted : (m most : ℕ) (l : Columns) (a : Settings) (k : ℕ) (c w : List ℕ) (f : ℕ) (z lap : Bool) (p : Progress) (car : Car) → k ≡ startCause most l a → k ≡ 0
+pub start-accepted : (m most : ℕ) (l : Columns) (a : Settings) (k : ℕ) (c w : List ℕ) (f : ℕ) (z lap : Bool) (p : Progress) (car : Car) (last : List Float) → k ≡ startCause most l a → k ≡ 0
     → contacted c w f z ≡ firstContact m l (a .poses)
-    → lap ≡ lapOf false z f (a .n) (a .share) → p ≡ firstProgress f lap → car ≡ stillCar
-    → begun (Started (record { count = f; lap = lap })) (stateOf (setupOf a) p car c w) ≡ startOf m most l a
+    → lap ≡ lapOf false z f (a .n) (a .share) → p ≡ firstProgress f lap → car ≡ stillCar → last ≡ poseNumbers (a .poses)
+    → begun (Started (record { count = f; lap = lap })) (stateOf (setupOf a) p car c w last (a .seed)) ≡ startOf m most l a
 unfolding startOf startAt startAnswer startedBy
-start-accepted m most l a k c w f z lap p car e n h el ep er =
-    (λ i. begun (Started (record { count = f; lap = el i })) (stateOf (setupOf a) ((ep ∙ ap (firstProgress f) el) i) (er i) c w))
+start-accepted m most l a k c w f z lap p car last e n h el ep er es =
+    (λ i. begun (Started (record { count = f; lap = el i })) (stateOf (setupOf a) ((ep ∙ ap (firstProgress f) el) i) (er i) c w (es i) (a .seed)))
     ∙ ap (startedBy a) h ∙ ap (λ (j : ℕ). startAt m j l a) (sym n ∙ e)
 
 -- ---- settle
@@ -131,12 +132,21 @@ settle-accepted {m} {u = u} {p = p} {c = c} {w = w} {l = l} {x = x} {y = y} {ps 
     (λ i. settledParts (Settled (record { «new_tiles» = f; n = u .n; off = o; lap = h .progress i .lap; ended = h .progress i .ended })) (h .progress i) c′ w′)
     ∙ ap₂ (settledBy u p) (h .off) (h .contact) ∙ ap (λ (j : ℕ). settleAt m j u p c w l x y ps) (sym (h .none) ∙ h .cause)
 
+-- the same with the last poses, kept by the answer
+pub settled-poses : (m most : ℕ) (u : Setup) (p : Progress) (c w : List ℕ) (last : List Float) (l : Columns) (x y : Float) (ps : List Pose) (r : SettleAnswer) (p′ : Progress) (c′ w′ : List ℕ) (last′ : List Float)
+    → settledParts r p′ c′ w′ ≡ settlePartsOf m most u p c w l x y ps → last′ ≡ posesAfter r ps last
+    → settledPoses (settledParts r p′ c′ w′) last′ ≡ settlePosesOf m most u p c w last l x y ps
+unfolding settlePosesOf
+settled-poses m most u p c w last l x y ps r p′ c′ w′ last′ e k =
+    ap (settledPoses (settledParts r p′ c′ w′)) k ∙ ap (λ (d : SettledParts). settledPoses d (posesAfter (d .answer) ps last)) e
+
 -- the call on a whole state, put together around the parts that it leaves
-pub settled-from : (m most : ℕ) (s : State) (l : Columns) (x y : Float) (ps : List Pose) (r : SettleAnswer) (p : Progress) (c w : List ℕ)
-    → settledParts r p c w ≡ settlePartsOf m most (s .setup) (s .progress) (s .credited) (s .wheels) l x y ps
-    → afterSettle r (stateOf (s .setup) p (s .car) c w) ≡ settleOf m most s l x y ps
+pub settled-from : (m most : ℕ) (s : State) (l : Columns) (x y : Float) (ps : List Pose) (r : SettleAnswer) (p : Progress) (c w : List ℕ) (last : List Float)
+    → settledPoses (settledParts r p c w) last ≡ settlePosesOf m most (s .setup) (s .progress) (s .credited) (s .wheels) (s .poses) l x y ps
+    → afterSettle r (stateOf (s .setup) p (s .car) c w last (s .seed)) ≡ settleOf m most s l x y ps
 unfolding settleOf
-settled-from m most s l x y ps r p c w e = ap (λ (d : SettledParts). afterSettle (d .answer) (stateOf (s .setup) (d .progress) (s .car) (d .credited) (d .wheels))) e
+settled-from m most s l x y ps r p c w last e =
+    ap (λ (d : SettledPoses). afterSettle (d .parts .answer) (stateOf (s .setup) (d .parts .progress) (s .car) (d .parts .credited) (d .parts .wheels) (d .poses) (s .seed))) e
 
 -- a contact has no more new tiles than its words have bits
 pub contact-few : (m : ℕ) (c w : List ℕ) (P : ℕ → ℕ → Bool) {c′ w′ : List ℕ} {f : ℕ} {z : Bool} → contacted c′ w′ f z ≡ contactOf m c w P → f ≤ 64 * m

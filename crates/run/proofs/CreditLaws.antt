@@ -21,7 +21,7 @@ abbrev pub flipped : ℕ → ℕ
 flipped w = 2 ^ 64 - 1 - w
 
 -- a word has as many ones as numbers below 64 are its bits
-ones-bits : (w : ℕ) → w < 2 ^ 64 → ones w ≡ howMany 64 (bitOf w)
+pub ones-bits : (w : ℕ) → w < 2 ^ 64 → ones w ≡ howMany 64 (bitOf w)
 ones-bits w h = ap ones (word-ext 64 w (wordOf 64 (bitOf w)) h (word-lt 64 (bitOf w)) (λ i l. sym (word-bit 64 i (bitOf w) l))) ∙ ones-word 64 (bitOf w)
 
 pub few : (n : ℕ) (p : ℕ → Bool) → howMany n p ≤ n

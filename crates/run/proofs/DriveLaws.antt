@@ -89,6 +89,6 @@ module _ (m most : ℕ) (u : Setup) (p : Progress) (car : Car) (wheels : List �
 
 -- ---- the call on a whole state, put together around the parts that it leaves
 pub drove-from : (m most : ℕ) (s : State) (action : ℕ) (ms : List Motion) (d : DroveParts) → d ≡ drivePartsOf m most (s .setup) (s .progress) (s .car) (s .wheels) action ms
-    → driven (d .answer) (d .forces) (stateOf (s .setup) (d .progress) (d .car) (s .credited) (s .wheels)) ≡ driveOf m most s action ms
+    → driven (d .answer) (d .forces) (stateOf (s .setup) (d .progress) (d .car) (s .credited) (s .wheels) (s .poses) (s .seed)) ≡ driveOf m most s action ms
 unfolding driveOf
-drove-from m most s action ms d e = ap (λ (x : DroveParts). driven (x .answer) (x .forces) (stateOf (s .setup) (x .progress) (x .car) (s .credited) (s .wheels))) e
+drove-from m most s action ms d e = ap (λ (x : DroveParts). driven (x .answer) (x .forces) (stateOf (s .setup) (x .progress) (x .car) (s .credited) (s .wheels) (s .poses) (s .seed))) e

@@ -4,6 +4,7 @@ pub mod TouchLaws
 pub mod CellLaws
 pub mod BelowLaws
 pub mod ContactLaws
+pub mod NumberLaws
 pub mod CallLaws
 pub mod Literals
 pub mod SmallForces
@@ -16,3 +17,11 @@ pub mod Examples
 pub mod SheetLaws
 pub mod PlainContact
 pub mod SetMembers
+pub mod NumbersFit
+pub mod WordBounds
+pub mod FieldSizes
+pub mod SavedLaws
+pub mod SavedExamples
+pub mod SaveLaws
+pub mod LoadLaws
+pub mod RestoreLaws

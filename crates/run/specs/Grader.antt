@@ -11,6 +11,8 @@ pub mod Touch
 pub mod Contact
 -- which wheels touched any tile at the last contact
 pub mod Grip
+-- motions, poses, forces and a car as numbers of a column
+pub mod Numbers
 -- the first contact
 pub mod Start
 -- forces for the host
@@ -19,3 +21,9 @@ pub mod Drive
 pub mod Settle
 -- the run sheet
 pub mod Sheet
+-- what a save keeps of a run, as bytes
+pub mod Saved
+-- a run as bytes
+pub mod Save
+-- a run from bytes, on its course
+pub mod Restore

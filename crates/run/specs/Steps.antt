@@ -3,3 +3,7 @@
 pub mod Touch
 -- of drive
 pub mod Drive
+-- of save
+pub mod Save
+-- of load and restore
+pub mod Load

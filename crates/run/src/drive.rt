@@ -290,6 +290,7 @@ pub fn drive(run: Run, action: u32, motion: [Motion; 4]) -> Drove
     let setup = run.setup;
     let credited = run.credited;
     let wheels = run.wheels;
+    let poses = run.poses;
     let d = drive_parts(setup, run.progress, run.car, &wheels, action, motion);
     let answer = d.answer;
     let forces = d.forces;
@@ -301,6 +302,8 @@ pub fn drive(run: Run, action: u32, motion: [Motion; 4]) -> Drove
         car,
         credited,
         wheels,
+        poses,
+        seed: run.seed,
     };
     Drove {
         answer,

@@ -3,10 +3,12 @@ ghost use mathlib.Core.Path.{_≡_};
 ghost use Prim.Native.Nat.{_+_, _<_};
 ghost use Rattle.run.specs.Grader.Widths.{fullWords, mostTiles};
 ghost use Rattle.run.specs.Grader.State.{view, columns};
-ghost use Rattle.run.specs.Grader.Settle.{settleCause, settledProgress, settledParts, settlePartsOf, afterSettle, settleOf};
+ghost use Rattle.run.specs.Grader.Settle.{settleCause, settledProgress, settledParts, settlePartsOf, settledPoses, settlePosesOf, posesAfter, afterSettle, settleOf};
 ghost use Rattle.run.specs.Steps.Touch.{sixteenCells};
 use crate::contact;
 use crate::lap;
+use crate::numbers;
+use crate::numbers::POSE_NUMBERS;
 use crate::quad;
 use crate::state;
 use crate::state::Pose;
@@ -102,9 +104,8 @@ fn settled_progress(setup: Setup, progress: Progress, fresh: u32, zero: bool, of
     }
 }
 
-// The call on the parts that it reads and changes, the sets lent and changed in place: a caller who keeps the state moves none of them. A
-// refusal leaves them.
-pub fn settle_parts(
+// The call on the parts that a contact reads and changes, the sets lent and changed in place. A refusal leaves them.
+fn settle_sets(
     setup: Setup,
     progress: Progress,
     credited: &mut [u64; FULL_WORDS],
@@ -166,6 +167,56 @@ pub fn settle_parts(
     }
 }
 
+// The last poses are written where the settle is accepted.
+fn keep_poses(answer: SettleAnswer, poses: [Pose; 4], last: &mut [f64; POSE_NUMBERS])
+    ensures { λ _. ⌜ now (last .exit) ≡ posesAfter answer poses (now (last .entry)) ⌝ }
+{
+    match answer {
+        SettleAnswer::Settled(_) => numbers::put_poses(poses, last),
+        SettleAnswer::Refused(_) => (),
+    }
+}
+
+// The call on the parts that it reads and changes, sets and last poses lent and changed in place: a caller who keeps the state moves none of them.
+// A refusal leaves them.
+pub fn settle_parts(
+    setup: Setup,
+    progress: Progress,
+    credited: &mut [u64; FULL_WORDS],
+    wheels: &mut [u64; WHEEL_WORDS],
+    last: &mut [f64; POSE_NUMBERS],
+    tiles: &[f64],
+    offsets: &[u32],
+    list: &[u32],
+    x: f64,
+    y: f64,
+    poses: [Pose; 4],
+) -> Settling
+    ensures { λ r. ⌜
+        settledPoses (settledParts (r .answer) (r .progress) (now (credited .exit)) (now (wheels .exit)))
+        (now (last .exit))
+        ≡ settlePosesOf fullWords mostTiles setup progress (now (credited .entry)) (now (wheels .entry))
+        (now (last .entry)) (columns (now (tiles .entry)) (now (offsets .entry)) (now (list .entry))) x y poses
+        ⌝ }
+{
+    let s = settle_sets(
+        setup,
+        progress,
+        credited,
+        wheels,
+        tiles,
+        offsets,
+        list,
+        x,
+        y,
+        poses,
+    );
+    let answer = s.answer;
+    let progress = s.progress;
+    keep_poses(answer, poses, last);
+    Settling { answer, progress }
+}
+
 // The contact after physics, or the number of the cause with the state as it was.
 pub fn settle(
     run: Run,
@@ -186,11 +237,13 @@ pub fn settle(
     let car = run.car;
     let mut credited = run.credited;
     let mut wheels = run.wheels;
+    let mut last = run.poses;
     let s = settle_parts(
         setup,
         run.progress,
         &mut credited,
         &mut wheels,
+        &mut last,
         tiles,
         offsets,
         list,
@@ -206,6 +259,8 @@ pub fn settle(
         car,
         credited,
         wheels,
+        poses: last,
+        seed: run.seed,
     };
     Settlement { answer, run: after }
 }

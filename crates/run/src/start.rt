@@ -8,6 +8,8 @@ ghost use Rattle.run.specs.Rules.Arguments.{settingsOk};
 ghost use Rattle.run.specs.Steps.Touch.{sixteenCells};
 use crate::contact;
 use crate::lap;
+use crate::numbers;
+use crate::numbers::POSE_NUMBERS;
 use crate::quad;
 use crate::state;
 use crate::state::Car;
@@ -40,7 +42,7 @@ pub struct Started {
 }
 
 // Lap share and tick limit are in range (cause 1).
-fn settings_ok(share: f64, limit: u32) -> bool
+pub(crate) fn settings_ok(share: f64, limit: u32) -> bool
     ensures { λ r. ⌜ r ≡ settingsOk share limit ⌝ }
 {
     ((0.0 <= share) & (share <= 1.0)) & ((1 <= limit) & (limit <= 1000000))
@@ -54,6 +56,7 @@ fn start_cause(
     list: &[u32],
     n: u32,
     fallback: bool,
+    seed: u32,
     share: f64,
     limit: u32,
     poses: [Pose; 4],
@@ -63,7 +66,7 @@ fn start_cause(
     ensures { λ r. ⌜
         r
         ≡ startCause most (columns (now (tiles .entry)) (now (offsets .entry)) (now (list .entry)))
-        (record { n = n; fallback = fallback; share = share; limit = limit; poses = poses })
+        (record { n = n; fallback = fallback; seed = seed; share = share; limit = limit; poses = poses })
         ⌝ }
 {
     if !settings_ok(share, limit) {
@@ -112,7 +115,7 @@ fn still_car() -> Car
 }
 
 // The state of zeros.
-fn zero_run() -> Run
+pub(crate) fn zero_run() -> Run
     ensures { λ r. ⌜ view r ≡ zeroState fullWords ⌝ }
 {
     let setup = Setup {
@@ -125,12 +128,15 @@ fn zero_run() -> Run
     let car = still_car();
     let credited = [0u64; FULL_WORDS];
     let wheels = [0u64; WHEEL_WORDS];
+    let poses = [0.0; POSE_NUMBERS];
     Run {
         setup,
         progress,
         car,
         credited,
         wheels,
+        poses,
+        seed: 0,
     }
 }
 
@@ -141,6 +147,7 @@ pub fn start(
     list: &[u32],
     n: u32,
     fallback: bool,
+    seed: u32,
     share: f64,
     limit: u32,
     poses: [Pose; 4],
@@ -148,7 +155,7 @@ pub fn start(
     ensures { λ r. ⌜
         begun (r .answer) (view (r .run))
         ≡ startOf fullWords mostTiles (columns (now (tiles .entry)) (now (offsets .entry)) (now (list .entry)))
-        (record { n = n; fallback = fallback; share = share; limit = limit; poses = poses })
+        (record { n = n; fallback = fallback; seed = seed; share = share; limit = limit; poses = poses })
         ⌝ }
 {
     let cells = quad::wheel_cells(poses);
@@ -159,6 +166,7 @@ pub fn start(
         list,
         n,
         fallback,
+        seed,
         share,
         limit,
         poses,
@@ -192,12 +200,16 @@ pub fn start(
     };
     let progress = first_progress(c.fresh, lap);
     let car = still_car();
+    let mut last = [0.0; POSE_NUMBERS];
+    numbers::put_poses(poses, &mut last);
     let run = Run {
         setup,
         progress,
         car,
         credited,
         wheels,
+        poses: last,
+        seed,
     };
     let values = StartValues {
         count: c.fresh,

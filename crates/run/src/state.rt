@@ -3,6 +3,7 @@
 ghost use mathlib.Core.Path.{_≡_};
 ghost use Rattle.run.specs.Grader.State.{unfit};
 ghost use Rattle.run.specs.Rules.Arguments.{inRange, poseOk, posesOk, shortColumns};
+use crate::numbers::POSE_NUMBERS;
 use crate::widths::FULL_WORDS;
 use crate::widths::WHEEL_WORDS;
 use course::constants;
@@ -57,7 +58,8 @@ pub struct Car {
     pub fuel_spent: f64,
 }
 
-// The state of a run, by who writes it; then a set of the credited tiles, and for each wheel one of the tiles that it touched last.
+// The state of a run, by who writes it; then a set of the credited tiles, and for each wheel one of the tiles that it touched last; then what
+// only a save reads.
 #[repr(C)]
 pub struct Run {
     pub setup: Setup,
@@ -65,6 +67,10 @@ pub struct Run {
     pub car: Car,
     pub credited: [u64; FULL_WORDS],
     pub wheels: [u64; WHEEL_WORDS],
+    // The wheels' poses at the last contact, each x, y, cos, sin.
+    pub poses: [f64; POSE_NUMBERS],
+    // The course's seed, as start was told it.
+    pub seed: u32,
 }
 
 // Finite and within a million of 0 (cause 8).

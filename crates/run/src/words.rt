@@ -7,6 +7,7 @@ ghost use lib.Dec.{eqb};
 ghost use lib.ListN.{length, getD};
 ghost use Rattle.run.specs.Rules.Below.{howMany};
 ghost use Rattle.run.specs.Grader.Words.{member, setOf};
+ghost use Rattle.run.specs.Grader.Saved.{allBelow};
 ghost use Rattle.run.specs.Steps.Touch.{Creditable};
 
 // Whether the set has a tile.
@@ -69,4 +70,35 @@ pub(crate) fn credit(credited: &mut [u64], last: &[u64], cur: &[u64], n: usize) 
         i += 1;
     }
     fresh
+}
+
+// How many tiles the set has.
+pub(crate) fn count(set: &[u64]) -> u32
+    requires { ⌜ 64 * length (now set) < 2 ^ 32 ⌝ }
+    ensures { λ r. ⌜ r ≡ howMany (64 * length (now (set .entry))) (member (now (set .entry))) ⌝ }
+{
+    let mut n: u32 = 0;
+    let mut i: usize = 0;
+    while i < set.len() {
+        n += u64::count_ones(set[i]);
+        i += 1;
+    }
+    n
+}
+
+// No tile of the set is n or more. The words of lesser tiles are not gone through; `free` is how many
+// of the next word's tiles are below n.
+pub(crate) fn all_below(set: &[u64], n: usize) -> bool
+    ensures { λ r. ⌜ r ≡ allBelow n (now (set .entry)) ⌝ }
+{
+    let mut i = n / 64;
+    let mut free = n % 64;
+    while i < set.len() {
+        if set[i] >> free != 0 {
+            return false;
+        }
+        free = 0;
+        i += 1;
+    }
+    true
 }

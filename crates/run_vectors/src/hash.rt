@@ -1,4 +1,4 @@
-// Hashes of forces and of a whole state, field by field. A float goes by its bits.
+// Hashes of forces and of a state, field by field. A float goes by its bits.
 use run::dynamics::Force;
 use run::state::Car;
 use run::state::Progress;
@@ -77,7 +77,7 @@ fn mix_car(h: u64, car: Car) -> u64 {
     mix_float(d, car.fuel_spent)
 }
 
-// Of a whole state, field by field, in the order of the list's records.
+// Of a state but for its last poses and seed, field by field, in the order of the list's records.
 pub fn state(run: Run) -> u64 {
     let setup = run.setup;
     let progress = run.progress;
@@ -86,4 +86,16 @@ pub fn state(run: Run) -> u64 {
     let counts = mix_counts(1, setup, progress);
     let h = mix_car(mix_flags(counts, setup, progress), run.car);
     mix_words(mix_words(h, &credited), &wheels)
+}
+
+// Of the numbers of the last poses.
+pub fn last(run: Run) -> u64 {
+    let poses = run.poses;
+    vectors::hash::floats(&poses)
+}
+
+// Of a whole state.
+pub fn whole(run: Run) -> u64 {
+    let h = mix(1, state(run));
+    mix(mix(h, last(run)), wide(run.seed))
 }

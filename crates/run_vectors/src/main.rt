@@ -1,18 +1,20 @@
-// Replays a stored list over the crate run: start, drive, settle, sheet and reward on courses from given points,
-// and the rules for quads and brakes alone.
+// Replays a stored list over the crate run: start, drive, settle, sheet, reward, save and restore on courses from given
+// points, and the rules for quads and brakes alone.
 //
 // The list is ../stdin and the answers are ../stdout. Both are made by `host/compare/write run`, whose module
-// host/compare/lists/run.rs takes the answers from the Rust and, where the Rust has none, from document 01. A record
+// host/compare/lists/run.rs takes the answers from the Rust and, where the Rust has none, from documents 01 and 02. A record
 // of the list is a code and its arguments, a word each. The list comes in blocks of a fixed length; an unknown code
 // ends a block, as the zeros do that fill one up. The course's tiles, offsets and index list, and the state of the
 // run, stand from record to record.
 //
-// After each call that answers with a state, refused or not, comes a hash of the whole state.
+// After each call that answers with a state, refused or not, comes a hash of the state but for its last poses and seed;
+// after a restore one of the whole state.
 ghost use Prim.Native.Nat.{_≤_};
 
 mod change;
 mod hash;
 mod read;
+mod saves;
 
 use run::drive;
 use run::drive::DriveAnswer;
@@ -31,7 +33,7 @@ use run::start;
 use run::start::StartAnswer;
 use run::state::Run;
 
-// The state but for its sets, in the order that read::setup says.
+// The state but for its sets, last poses and seed, in the order that read::setup says.
 const CORE: u64 = 5;
 
 // First place, end, word: into the credited words, or the wheels'.
@@ -39,7 +41,7 @@ const CREDITED: u64 = 6;
 
 const WHEELS: u64 = 7;
 
-// The lengths of tiles, offsets and index list; n, fallback, lap share, tick limit, poses.
+// The lengths of tiles, offsets and index list; n, fallback, seed, lap share, tick limit, poses.
 const START: u64 = 8;
 
 // Action, motions.
@@ -77,16 +79,18 @@ fn words(rest: &[u8]) -> usize
 {
     match vectors::word(rest, 0) {
         change::COURSE => 2 + change::count(rest) * 3,
-        change::TILE | change::OFFSET | change::ID | BRAKED => 3,
+        change::TILE | change::OFFSET | change::ID | BRAKED | saves::SAVE => 3,
         CORE => 28,
         CREDITED | WHEELS => 4,
-        START => 24,
+        START => 25,
         DRIVE | SETTLE => 22,
-        SHEET | WEIGHTS => 1,
+        SHEET | WEIGHTS | saves::LAST => 1,
         REWARD => 7,
         OVERLAP => 17,
         QUAD => 5,
         CELLS => 9,
+        saves::PUT_LAST => 18,
+        saves::RESTORE => saves::words(rest),
         _ => 0,
     }
 }
@@ -108,6 +112,7 @@ fn put_credited(rest: &[u8], run: Run) -> Run {
     let car = run.car;
     let mut credited = run.credited;
     let wheels = run.wheels;
+    let poses = run.poses;
     fill(
         &mut credited,
         vectors::word(rest, 1),
@@ -120,6 +125,8 @@ fn put_credited(rest: &[u8], run: Run) -> Run {
         car,
         credited,
         wheels,
+        poses,
+        seed: run.seed,
     }
 }
 
@@ -130,6 +137,7 @@ fn put_wheels(rest: &[u8], run: Run) -> Run {
     let car = run.car;
     let credited = run.credited;
     let mut wheels = run.wheels;
+    let poses = run.poses;
     fill(
         &mut wheels,
         vectors::word(rest, 1),
@@ -142,22 +150,27 @@ fn put_wheels(rest: &[u8], run: Run) -> Run {
         car,
         credited,
         wheels,
+        poses,
+        seed: run.seed,
     }
 }
 
-// The record's state, with the sets as they were.
+// The record's state, with sets, last poses and seed as they were.
 fn put_core(rest: &[u8], run: Run) -> Run {
     let setup = read::setup(rest);
     let progress = read::progress(rest);
     let car = read::car(rest);
     let credited = run.credited;
     let wheels = run.wheels;
+    let poses = run.poses;
     Run {
         setup,
         progress,
         car,
         credited,
         wheels,
+        poses,
+        seed: run.seed,
     }
 }
 
@@ -178,9 +191,10 @@ fn replay_start(rest: &[u8], tiles: &[f64], offsets: &[u32], list: &[u32]) -> Ru
         vectors::front::ids(list, vectors::word(rest, 3)),
         read::narrow(vectors::word(rest, 4)),
         read::flag(vectors::word(rest, 5)),
-        vectors::float(rest, 6),
-        read::narrow(vectors::word(rest, 7)),
-        read::poses(rest, 8),
+        read::narrow(vectors::word(rest, 6)),
+        vectors::float(rest, 7),
+        read::narrow(vectors::word(rest, 8)),
+        read::poses(rest, 9),
     );
     let after = s.run;
     let answer = s.answer;
@@ -330,6 +344,8 @@ fn replay_rule(rest: &[u8], run: Run) {
             vectors::float(rest, 1),
             vectors::float(rest, 2),
         )),
+        saves::LAST => saves::line_last(run),
+        saves::SAVE => saves::replay_save(rest, run),
         _ => {}
     }
 }
@@ -343,6 +359,8 @@ fn replay_call(rest: &[u8], tiles: &[f64], offsets: &[u32], list: &[u32], run: R
         START => replay_start(rest, tiles, offsets, list),
         DRIVE => replay_drive(rest, run),
         SETTLE => replay_settle(rest, tiles, offsets, list, run),
+        saves::PUT_LAST => saves::put_last(rest, run),
+        saves::RESTORE => saves::replay_restore(rest, tiles, offsets, list, run),
         _ => run,
     }
 }
@@ -391,12 +409,15 @@ fn zero_run() -> Run {
     let car = read::car(b"");
     let credited = [0u64; 40];
     let wheels = [0u64; 160];
+    let poses = [0.0f64; 16];
     Run {
         setup,
         progress,
         car,
         credited,
         wheels,
+        poses,
+        seed: 0,
     }
 }
 

@@ -1,6 +1,8 @@
 // What a record says, from its words.
 ghost use Prim.Native.Nat.{_≤_};
 use run::dynamics::Motion;
+use run::numbers;
+use run::numbers::POSE_NUMBERS;
 use run::state::Car;
 use run::state::Pose;
 use run::state::Progress;
@@ -27,6 +29,13 @@ pub(crate) fn poses(rest: &[u8], k: usize) -> [Pose; 4]
     let c = pose(rest, k + 8);
     let d = pose(rest, k + 12);
     [a, b, c, d]
+}
+
+// The numbers of the four poses from word 1 on.
+pub fn last(rest: &[u8]) -> [f64; POSE_NUMBERS] {
+    let mut last = [0.0; POSE_NUMBERS];
+    numbers::put_poses(poses(rest, 1), &mut last);
+    last
 }
 
 fn motion(rest: &[u8], k: usize) -> Motion

@@ -7,9 +7,13 @@
 //! refused by what number, what state it leaves, and the sheet, is written out in ../model.rs and here from document 01
 //! ("Refusals by cause", "Beside the run"). The braking rule alone is the Rust's lines too, and held to what the Rust's
 //! phase shows of it. In whole runs the Rust also goes its own way, from the start on, and must come to the same state at
-//! every tick.
+//! every tick. Saves and restores are ../saved.rs's, with the Rust's contacts; run/saves.rs and run/kept.rs make their
+//! records.
 //!
 //! Random values come from the reference's SplitMix64 at a fixed seed, so the files come out the same each time.
+mod kept;
+mod saves;
+
 use super::blocks::{append, ROOM};
 use super::Stored;
 use crate::car::{beyond, bits, car, five, near_car, numbers, pick, road_motion, step, FAR, P};
@@ -39,16 +43,20 @@ const BRAKED: u64 = 14;
 const QUAD: u64 = 15;
 const CELLS: u64 = 16;
 const WEIGHTS: u64 = 17;
+const PUT_LAST: u64 = 18;
+const LAST: u64 = 19;
+const SAVE: u64 = 20;
+const RESTORE: u64 = 21;
 
 /// The lengths of the program's tiles, offsets and index list.
 const LONG: [usize; 3] = [20_100, 4_600, 60_000];
 
-/// What is counted: records of each code, refusals of start, drive, settle and sheet by each cause, settles that
-/// ended a run, and the ticks of each whole run.
+/// What is counted: records of each code, refusals of start, drive, settle, sheet, save and restore by each cause, settles
+/// that ended a run, and the ticks of each whole run.
 #[derive(Default)]
 struct Tally {
-    records: [usize; 18],
-    refused: [[usize; 11]; 4],
+    records: [usize; 22],
+    refused: [[usize; 13]; 6],
     laps: usize,
     offs: usize,
     all: usize,
@@ -59,11 +67,11 @@ impl Tally {
     fn tell(&self) {
         let names = [
             "course", "tile", "offset", "id", "core", "credited", "wheels", "start", "drive", "settle", "sheet", "reward",
-            "overlap", "braked", "quad", "cells", "weights",
+            "overlap", "braked", "quad", "cells", "weights", "put last", "last", "save", "restore",
         ];
         let counts: Vec<String> = names.iter().zip(&self.records[1..]).map(|(name, count)| format!("{name} {count}")).collect();
         eprintln!("{}", counts.join(", "));
-        eprintln!("refused, by cause from 0: start, drive, settle, sheet {:?}", self.refused);
+        eprintln!("refused, by cause from 0: start, drive, settle, sheet, save, restore {:?}", self.refused);
         eprintln!("settles that ended a run: by lap {}, off {}, all {}", self.laps, self.offs, self.all);
         eprintln!("ticks of whole runs: {:?}", self.ticks);
     }
@@ -143,14 +151,15 @@ impl Replay {
         self.ids[at] = value;
         self.made = None;
     }
-    /// The state but for its sets becomes that of s.
+    /// The state but for its sets, last poses and seed becomes that of s.
     fn core(&mut self, s: &State) {
         let counts = [s.n, s.count, s.tick, s.limit].map(u64::from);
         let flags = s.flags().iter().rev().fold(0, |w, &b| w * 2 + u64::from(b));
         let controls = s.ctl.iter().flatten().map(|x| x.to_bits());
         let front = counts.into_iter().chain([s.share.to_bits(), flags]);
         self.ask(CORE, front.chain(controls).chain([s.fuel.to_bits()]));
-        self.state = State { credited: self.state.credited, wheels: self.state.wheels, ..s.clone() };
+        let State { credited, wheels, poses, seed, .. } = self.state;
+        self.state = State { credited, wheels, poses, seed, ..s.clone() };
     }
     fn credited(&mut self, first: usize, end: usize, w: u64) {
         self.ask(CREDITED, [first as u64, end as u64, w]);
@@ -164,7 +173,7 @@ impl Replay {
     /// A start; the number of the cause, or 0.
     fn start(&mut self, b: &Begin, poses: &[Pose; 4]) -> usize {
         let lent = b.lent.map(|l| l as u64);
-        let rest = [b.n.into(), b.fallback.into(), b.share.to_bits(), b.limit.into()];
+        let rest = [b.n.into(), b.fallback.into(), b.seed.into(), b.share.to_bits(), b.limit.into()];
         self.ask(START, lent.into_iter().chain(rest).chain(poses.iter().flat_map(numbers).map(f64::to_bits)));
         let cause = self.model.start(b, poses);
         if cause > 0 {
@@ -272,7 +281,7 @@ impl Replay {
 }
 
 fn begin(n: u32, share: f64, limit: u32) -> Begin {
-    Begin { lent: LONG, n, fallback: false, share, limit }
+    Begin { lent: LONG, n, fallback: false, seed: 0, share, limit }
 }
 
 /// Points that wander: n of them, each up to `far` from the one before.
@@ -354,6 +363,7 @@ fn laid_runs(r: &mut Replay, g: &mut SplitMix64) {
         let n = r.course(&points);
         let mut b = begin(n, share, 1_000_000);
         b.fallback = s == 3;
+        b.seed = s;
         b.lent = exact(r.offsets[4_489] as usize);
         let around: Vec<usize> = (1..n as usize + 8).collect();
         let part = n as usize / 2;
@@ -955,6 +965,8 @@ fn records(r: &mut Replay, g: &mut SplitMix64) {
     overlaps(r, g);
     brakes(r, g);
     quads(r, g);
+    saves::records(r, g);
+    kept::records(r, g);
     // An unknown code ends a block: the record behind it has no answer.
     r.ask(0, []);
     r.list.extend([SHEET, SHEET].iter().flat_map(|w| w.to_le_bytes()));

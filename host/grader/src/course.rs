@@ -33,6 +33,7 @@ pub struct Curb {
 #[derive(Clone, Debug)]
 pub struct Course {
     columns: Owned,
+    seed: u32,
     n: u32,
     fallback: bool,
     first: Point,
@@ -49,7 +50,7 @@ impl Course {
         let mut columns = Owned::new();
         // Refused by 2 and 3 alone: the columns have their full lengths, and 3 makes the list grow.
         let laid = columns.growing(|lent| ffi::lay(seed, lent)).expect("columns of full lengths are not refused");
-        Course::of(columns, laid)
+        Course::of(columns, seed, laid)
     }
 
     /// The course of given points. Refused by [`Refusal::PointCount`] and [`Refusal::Number`].
@@ -59,13 +60,18 @@ impl Course {
         let count = u32::try_from(points.len()).unwrap_or(u32::MAX);
         let mut columns = Owned::new();
         let laid = columns.growing(|lent| ffi::points(&beta, &x, &y, count, lent))?;
-        Ok(Course::of(columns, laid))
+        Ok(Course::of(columns, 0, laid))
     }
 
-    fn of(mut columns: Owned, laid: Laid) -> Course {
+    fn of(mut columns: Owned, seed: u32, laid: Laid) -> Course {
         columns.list.truncate(laid.entries as usize);
         let first = Point { beta: laid.beta, x: laid.x, y: laid.y };
-        Course { columns, n: laid.n, fallback: laid.fallback, first }
+        Course { columns, seed, n: laid.n, fallback: laid.fallback, first }
+    }
+
+    /// The seed that it was laid from; 0 for a course of given points.
+    pub fn seed(&self) -> u32 {
+        self.seed
     }
 
     /// How many tiles, 1 to 2,500.
@@ -112,7 +118,7 @@ impl Course {
         Ok((0..found.count as usize).map(|i| Curb { quad: quad(&quads, i), white: white[i] == 1 }).collect())
     }
 
-    /// What start and settle are lent.
+    /// What start, settle and restore are lent.
     pub(crate) fn columns(&self) -> Columns<'_> {
         Columns { tiles: &self.columns.tiles, offsets: &self.columns.offsets, list: &self.columns.list }
     }

@@ -92,7 +92,8 @@ pub struct Car {
 }
 
 /// The state of a run, in records by who writes them. Tile t is bit t % 64 of word t / 64 of `credited`; a wheel's tiles at
-/// the last contact are forty words of `wheels`, wheel by wheel. Keep it as it is.
+/// the last contact are forty words of `wheels`, wheel by wheel. `poses` is where the wheels were then, and `seed` the
+/// course's: a save alone reads these two. Keep it as it is.
 #[repr(C)]
 #[derive(Clone, Copy, Debug, PartialEq)]
 pub struct State {
@@ -101,6 +102,8 @@ pub struct State {
     pub car: Car,
     pub credited: [u64; 40],
     pub wheels: [u64; 160],
+    pub poses: [Pose; 4],
+    pub seed: u32,
 }
 
 #[repr(C)]
@@ -170,6 +173,25 @@ pub struct Replayed {
 }
 
 #[repr(C)]
+pub struct Saved {
+    pub cause: u32,
+    pub length: u32,
+}
+
+#[repr(C)]
+pub struct Restored {
+    pub cause: u32,
+    pub run: State,
+}
+
+#[repr(C)]
+pub struct SavedFor {
+    pub cause: u32,
+    pub seed: u32,
+    pub n: u32,
+}
+
+#[repr(C)]
 pub struct Angle {
     pub cause: u32,
     pub value: f64,
@@ -191,17 +213,22 @@ type F = *const f64;
 type Fm = *mut f64;
 type I = *const u32;
 type Im = *mut u32;
+type B = *const u8;
+type Bm = *mut u8;
 type N = usize;
 
 #[rustfmt::skip]
 extern "C" {
     fn grader_lay(seed: u32, a: Fm, al: N, b: Fm, bl: N, x: Fm, xl: N, y: Fm, yl: N, t: Fm, tl: N, o: Im, ol: N, l: Im, ll: N) -> Laid;
     fn grader_points(gb: F, gbl: N, gx: F, gxl: N, gy: F, gyl: N, count: u32, a: Fm, al: N, b: Fm, bl: N, x: Fm, xl: N, y: Fm, yl: N, t: Fm, tl: N, o: Im, ol: N, l: Im, ll: N) -> Laid;
-    fn grader_curbs(gb: F, gbl: N, gx: F, gxl: N, gy: F, gyl: N, count: u32, q: Fm, ql: N, w: *mut u8, wl: N) -> CurbsFound;
-    fn grader_start(t: F, tl: N, o: I, ol: N, l: I, ll: N, n: u32, fallback: bool, share: f64, limit: u32, poses: Poses) -> Started;
+    fn grader_curbs(gb: F, gbl: N, gx: F, gxl: N, gy: F, gyl: N, count: u32, q: Fm, ql: N, w: Bm, wl: N) -> CurbsFound;
+    fn grader_start(t: F, tl: N, o: I, ol: N, l: I, ll: N, n: u32, fallback: bool, seed: u32, share: f64, limit: u32, poses: Poses) -> Started;
     fn grader_drive_parts(setup: Setup, progress: Progress, car: &mut Car, wheels: &[u64; 160], action: u32, motions: &[Motion; 4], forces: &mut [Force; 4]) -> Driven;
-    fn grader_settle_parts(setup: Setup, progress: Progress, credited: &mut [u64; 40], wheels: &mut [u64; 160], t: F, tl: N, o: I, ol: N, l: I, ll: N, x: f64, y: f64, poses: Poses) -> Settled;
+    fn grader_settle_parts(setup: Setup, progress: Progress, credited: &mut [u64; 40], wheels: &mut [u64; 160], last: &mut [Pose; 4], t: F, tl: N, o: I, ol: N, l: I, ll: N, x: f64, y: f64, poses: Poses) -> Settled;
     fn grader_sheet_parts(setup: Setup, progress: Progress) -> Figures;
+    fn grader_save(run: State, out: Bm, outl: N) -> Saved;
+    fn grader_saved_course(b: B, bl: N) -> SavedFor;
+    fn grader_restore(b: B, bl: N, t: F, tl: N, o: I, ol: N, l: I, ll: N, n: u32) -> Restored;
     fn grader_reward(weights: Weights, new_tiles: u32, n: u32, off: bool) -> f64;
     fn grader_replay(seed: u32, a: Fm, al: N, b: Fm, bl: N, x: Fm, xl: N, y: Fm, yl: N, t: Fm, tl: N, o: Im, ol: N, l: Im, ll: N, share: f64, limit: u32, poses: Poses, many: u32, c: I, cl: N, g: F, gl: N, w: Im, wl: N, n: Fm, nl: N) -> Replayed;
     fn grader_sine(a: f64) -> Angle;
@@ -223,7 +250,7 @@ pub struct Lent<'a> {
     pub list: &'a mut [u32],
 }
 
-/// The part of a course that a start or settle reads.
+/// The part of a course that a start, settle or restore reads.
 #[derive(Clone, Copy)]
 pub struct Columns<'a> {
     pub tiles: &'a [f64],
@@ -267,9 +294,9 @@ pub fn curbs(beta: &[f64], x: &[f64], y: &[f64], count: u32, quads: &mut [f64], 
 }
 
 #[rustfmt::skip]
-pub fn start(c: Columns, n: u32, fallback: bool, opening: Opening) -> Started {
+pub fn start(c: Columns, n: u32, fallback: bool, seed: u32, opening: Opening) -> Started {
     unsafe {
-        grader_start(c.tiles.as_ptr(), c.tiles.len(), c.offsets.as_ptr(), c.offsets.len(), c.list.as_ptr(), c.list.len(), n, fallback,
+        grader_start(c.tiles.as_ptr(), c.tiles.len(), c.offsets.as_ptr(), c.offsets.len(), c.list.as_ptr(), c.list.len(), n, fallback, seed,
             opening.lap_share, opening.tick_limit, Poses { wheels: opening.poses })
     }
 }
@@ -282,11 +309,11 @@ pub fn drive(run: &mut State, action: u32, motions: &[Motion; 4], forces: &mut [
     d.cause
 }
 
-/// The same for a settle, which changes the sets.
+/// The same for a settle, which changes the sets and the last poses; these are sixteen numbers to the grader.
 #[rustfmt::skip]
 pub fn settle(run: &mut State, c: Columns, x: f64, y: f64, poses: [Pose; 4]) -> Settled {
     let s = unsafe {
-        grader_settle_parts(run.setup, run.progress, &mut run.credited, &mut run.wheels,
+        grader_settle_parts(run.setup, run.progress, &mut run.credited, &mut run.wheels, &mut run.poses,
             c.tiles.as_ptr(), c.tiles.len(), c.offsets.as_ptr(), c.offsets.len(), c.list.as_ptr(), c.list.len(),
             x, y, Poses { wheels: poses })
     };
@@ -296,6 +323,22 @@ pub fn settle(run: &mut State, c: Columns, x: f64, y: f64, poses: [Pose; 4]) -> 
 
 pub fn sheet(run: &State) -> Figures {
     unsafe { grader_sheet_parts(run.setup, run.progress) }
+}
+
+pub fn save(run: &State, out: &mut [u8]) -> Saved {
+    unsafe { grader_save(*run, out.as_mut_ptr(), out.len()) }
+}
+
+pub fn saved_course(bytes: &[u8]) -> SavedFor {
+    unsafe { grader_saved_course(bytes.as_ptr(), bytes.len()) }
+}
+
+#[rustfmt::skip]
+pub fn restore(bytes: &[u8], c: Columns, n: u32) -> Restored {
+    unsafe {
+        grader_restore(bytes.as_ptr(), bytes.len(),
+            c.tiles.as_ptr(), c.tiles.len(), c.offsets.as_ptr(), c.offsets.len(), c.list.as_ptr(), c.list.len(), n)
+    }
 }
 
 pub fn reward(weights: Weights, new_tiles: u32, n: u32, off: bool) -> f64 {
@@ -356,9 +399,10 @@ mod tests {
     fn sizes_are_those_of_the_header() {
         assert_eq!([size_of::<Pose>(), size_of::<Motion>(), size_of::<Force>(), size_of::<Wheel>()], [32, 40, 24, 40]);
         assert_eq!([size_of::<Weights>(), size_of::<Poses>()], [24, 128]);
-        assert_eq!([size_of::<Setup>(), size_of::<Progress>(), size_of::<Car>(), size_of::<State>()], [24, 12, 168, 1808]);
+        assert_eq!([size_of::<Setup>(), size_of::<Progress>(), size_of::<Car>(), size_of::<State>()], [24, 12, 168, 1944]);
         assert_eq!([size_of::<Laid>(), size_of::<CurbsFound>(), size_of::<Figures>(), size_of::<Replayed>()], [40, 8, 24, 80]);
-        assert_eq!([size_of::<Started>(), size_of::<Driven>(), size_of::<Settled>()], [1824, 16, 28]);
+        assert_eq!([size_of::<Started>(), size_of::<Driven>(), size_of::<Settled>()], [1960, 16, 28]);
+        assert_eq!([size_of::<Saved>(), size_of::<Restored>(), size_of::<SavedFor>()], [8, 1952, 12]);
         assert_eq!([size_of::<Angle>(), size_of::<Drawn>()], [16, 16]);
     }
 
@@ -376,7 +420,7 @@ mod tests {
         places!(Setup: n 0, tick_limit 4, lap_share 8, fallback 16);
         places!(Progress: visited_count 0, tick 4, lap 8, ended 9, driven 10);
         places!(Car: ctl 0, fuel_spent 160);
-        places!(State: setup 0, progress 24, car 40, credited 208, wheels 528);
+        places!(State: setup 0, progress 24, car 40, credited 208, wheels 528, poses 1808, seed 1936);
         places!(Laid: cause 0, n 4, entries 8, fallback 12, beta 16, x 24, y 32);
         places!(CurbsFound: cause 0, count 4);
         places!(Started: cause 0, count 4, lap 8, run 16);
@@ -384,6 +428,9 @@ mod tests {
         places!(Settled: cause 0, new_tiles 4, n 8, off 12, lap 13, ended 14, progress 16);
         places!(Figures: cause 0, tick 4, credited 8, n 12, share 16, lap 20, ended 21, fallback 22);
         places!(Replayed: laid 0, start_cause 40, start_count 44, start_lap 48, sheet 52);
+        places!(Saved: cause 0, length 4);
+        places!(Restored: cause 0, run 8);
+        places!(SavedFor: cause 0, seed 4, n 8);
         places!(Angle: cause 0, value 8);
         places!(Drawn: value 0, state 8);
     }

@@ -20,6 +20,8 @@
 //! # Ok::<(), grader::Refusal>(())
 //! ```
 //!
+//! [`Run::save`] keeps a run in bytes over a restart of the host, and [`Run::restore`] goes on from them.
+//!
 //! docs/HOST.md of the repository says what a host does tick by tick and what it must not do.
 #![deny(unsafe_code)]
 
@@ -30,9 +32,11 @@ pub mod numbers;
 mod refusal;
 mod replay;
 mod run;
+mod saved;
 
 pub use course::{Course, Curb, Point, Quad};
 pub use ffi::{Car, Force, Motion, Pose, Progress, Setup, State, Weights, Wheel};
 pub use refusal::Refusal;
 pub use replay::{replay, Answer, Call, Replayed};
 pub use run::{Run, Settled, Sheet, Started};
+pub use saved::{saved_course, SavedFor};

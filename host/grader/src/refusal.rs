@@ -1,4 +1,4 @@
-//! Why a call is refused: document 01, "Refusals by cause".
+//! Why a call is refused: document 01, "Refusals by cause", and document 02, order 1.
 use std::fmt;
 
 /// The first cause that holds of those a call is refused for. A refused call changes nothing.
@@ -24,10 +24,14 @@ pub enum Refusal {
     PointCount,
     /// 10: the lent index is damaged where a wheel looks it up.
     Index,
+    /// 11: bytes that are no saved form, or that say what no run has.
+    Saved,
+    /// 12: the course has another tile count than the saved run's.
+    OtherCourse,
 }
 
 impl Refusal {
-    /// The cause's number in document 01, 1 to 10.
+    /// The cause's number in documents 01 and 02, 1 to 12.
     pub fn number(self) -> u32 {
         match self {
             Refusal::Settings => 1,
@@ -40,6 +44,8 @@ impl Refusal {
             Refusal::Number => 8,
             Refusal::PointCount => 9,
             Refusal::Index => 10,
+            Refusal::Saved => 11,
+            Refusal::OtherCourse => 12,
         }
     }
 
@@ -57,6 +63,8 @@ impl Refusal {
             8 => Refusal::Number,
             9 => Refusal::PointCount,
             10 => Refusal::Index,
+            11 => Refusal::Saved,
+            12 => Refusal::OtherCourse,
             // Only where library and crate are of different versions.
             _ => panic!("the grader answered cause {cause}, which this crate does not know"),
         })
@@ -76,6 +84,8 @@ impl fmt::Display for Refusal {
             Refusal::Number => write!(f, "a number is not finite or out of its range"),
             Refusal::PointCount => write!(f, "a course has 1 to 2,500 points"),
             Refusal::Index => write!(f, "the course's index is damaged"),
+            Refusal::Saved => write!(f, "the bytes are not those of a saved run"),
+            Refusal::OtherCourse => write!(f, "the course has another number of tiles than the saved run"),
         }
     }
 }
@@ -89,7 +99,7 @@ mod tests {
     #[test]
     fn every_number_comes_back() {
         assert_eq!(Refusal::check(0, 7), Ok(()));
-        for cause in 1..=10 {
+        for cause in 1..=12 {
             assert_eq!(Refusal::check(cause, 7).unwrap_err().number(), cause);
         }
         assert_eq!(Refusal::check(3, 7), Err(Refusal::ShortList { needed: 7 }));

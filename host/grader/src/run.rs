@@ -57,7 +57,8 @@ impl Run {
     /// `lap_share` of the tiles are credited and a wheel comes upon tile 0; after `tick_limit` ticks no drive is taken.
     /// Refused by [`Refusal::Settings`] and [`Refusal::Number`].
     pub fn start(course: &Course, lap_share: f64, tick_limit: u32, poses: [Pose; 4]) -> Result<(Run, Started), Refusal> {
-        let s = ffi::start(course.columns(), course.n(), course.fallback(), Opening { lap_share, tick_limit, poses });
+        let opening = Opening { lap_share, tick_limit, poses };
+        let s = ffi::start(course.columns(), course.n(), course.fallback(), course.seed(), opening);
         Refusal::check(s.cause, 0)?;
         Ok((Run { state: s.run }, Started { count: s.count, lap: s.lap }))
     }
@@ -94,7 +95,7 @@ impl Run {
         tile < self.state.setup.n && self.state.credited.get(tile as usize / 64).is_some_and(|w| w >> (tile % 64) & 1 == 1)
     }
 
-    /// The grader's state as it is: a plain value, good for [`Run::from_state`].
+    /// The grader's state as it is: a plain value, good for [`Run::from_state`]. To keep a run in bytes see [`Run::save`].
     pub fn state(&self) -> &State {
         &self.state
     }

@@ -75,6 +75,124 @@ fn replay_says_refusals_in_words() {
     assert!(json.contains("{\"line\":4,\"call\":\"drive 5\",\"answer\":{\"refused\":7,\"why\":\"the action must be 0 to 4\"}}"));
 }
 
+/// A demo's log of a seed in a folder of its own, cut behind so many ticks: the whole of it, what comes before the cut, and
+/// what comes after it with the number of its lines kept.
+fn cut(name: &str, seed: &str, ticks: usize) -> [PathBuf; 3] {
+    let dir = folder(name);
+    assert!(grade(&["demo", seed, "--out", dir.to_str().unwrap()]).status.success());
+    let text = std::fs::read_to_string(dir.join("log.txt")).unwrap();
+    let at = text.match_indices("\nsettle").nth(ticks - 1).unwrap().0 + 1;
+    let (before, after) = text.split_at(at + text[at..].find('\n').unwrap() + 1);
+    assert!(before.ends_with('\n') && after.starts_with("drive"));
+    std::fs::write(dir.join("before.txt"), before).unwrap();
+    std::fs::write(dir.join("after.txt"), "\n".repeat(before.lines().count()) + after).unwrap();
+    ["log.txt", "before.txt", "after.txt"].map(|file| dir.join(file))
+}
+
+/// The last words are given names of files.
+fn with(words: &[&str], files: &[&PathBuf]) -> Output {
+    let files = files.iter().map(|file| file.to_str().unwrap());
+    grade(&words.iter().copied().chain(files).collect::<Vec<_>>())
+}
+
+#[test]
+fn a_log_cut_in_two_is_answered_like_the_whole() {
+    for ticks in [1, 300] {
+        let [whole, before, after] = cut(&format!("cut{ticks}"), "7", ticks);
+        let file = whole.with_file_name("run.saved");
+        let saved = with(&["save"], &[&before, &file]);
+        assert!(saved.status.success(), "{}", said(&saved).1);
+        let resumed = with(&["resume"], &[&file, &after]);
+        assert!(resumed.status.success(), "{}", said(&resumed).1);
+
+        let whole = said(&with(&["replay"], &[&whole])).0;
+        let (saved, resumed) = (said(&saved).0, said(&resumed).0);
+        let length = std::fs::read(&file).unwrap().len();
+        assert!(saved.ends_with(&format!("\n\nThe run is saved in {}, {length} bytes.\n", file.display())) && length <= 641);
+        let (start, rest) = resumed.split_once('\n').unwrap();
+        assert!(start.starts_with(&format!("restored  seed 7, tick {ticks}, ")) && start.ends_with(" of 272 tiles credited"));
+        let first = saved.split("\n\n").next().unwrap();
+        assert_eq!(format!("{first}\n{rest}"), whole);
+        assert!(said(&with(&["replay"], &[&before])).0.lines().eq(saved.lines().take(saved.lines().count() - 2)));
+    }
+}
+
+#[test]
+fn a_run_is_resumed_without_a_log() {
+    let [_, before, after] = cut("alone", "7", 20);
+    let file = before.with_file_name("run.saved");
+    let saved = said(&with(&["save", "--json"], &[&before, &file])).0;
+    let sheet = saved.split_once("\"sheet\":").unwrap().1.split_once('}').unwrap().0;
+    assert!(saved.starts_with("{\"seed\":7,\"started\":{\"count\":") && sheet.starts_with("{\"tick\":20,"));
+    let length = std::fs::read(&file).unwrap().len();
+    assert!(saved.ends_with(&format!("\"saved\":{{\"file\":\"{}\",\"length\":{length}}}}}\n", file.display())));
+    let resumed = said(&with(&["resume", "--json"], &[&file])).0;
+    assert_eq!(resumed, format!("{{\"seed\":7,\"restored\":{sheet}}},\"answers\":[],\"sheet\":{sheet}}}}}\n"));
+    let resumed = said(&with(&["resume"], &[&file])).0;
+    assert!(resumed.starts_with("restored  seed 7, tick 20, ") && resumed.contains(" tiles credited\n\ntick      20\n"));
+    let resumed = said(&with(&["resume", "--json"], &[&file, &after])).0;
+    assert!(resumed.contains("\"answers\":[{\"line\":44,\"call\":\"drive "));
+}
+
+#[test]
+fn a_run_that_cannot_be_saved_is_told_and_no_file_written() {
+    let dir = folder("unsaved");
+    let (log, file) = (dir.join("log.txt"), dir.join("run.saved"));
+    let _ = std::fs::remove_file(&file);
+    let (poses, still) = ("220 -50 1 0 ".repeat(4), "0 0 1 0 0 ".repeat(4));
+    for (text, why) in [
+        (
+            format!("seed 0\nstart 0.95 9 {poses}\ndrive 3 {still}\n"),
+            "log.txt: the run cannot be saved here, refused by 5: its last drive awaits a settle",
+        ),
+        (format!("seed 0\nstart 2 9 {poses}\n"), "log.txt:2: there is no run to save, its start is refused by 1: the lap share"),
+        ("seed 0\nstart 2 nine".into(), "log.txt:2: expected the tick limit, a whole number of 32 bits, found `nine`"),
+    ] {
+        std::fs::write(&log, text).unwrap();
+        let out = with(&["save"], &[&log, &file]);
+        assert_eq!((out.status.code(), said(&out).0, file.exists()), (Some(1), String::new(), false));
+        assert!(said(&out).1.contains(why), "{}", said(&out).1);
+    }
+    let text = format!("seed 0\nstart 0.95 9 {poses}\n");
+    std::fs::write(&log, &text).unwrap();
+    assert_eq!(with(&["save"], &[&log, &dir.join(".").join("log.txt")]).status.code(), Some(2));
+    assert_eq!(std::fs::read_to_string(&log).unwrap(), text);
+    let out = with(&["save"], &[&log, &PathBuf::from("no-such-folder/run.saved")]);
+    assert_eq!(out.status.code(), Some(1));
+    assert!(said(&out).1.contains("cannot write no-such-folder/run.saved: "));
+}
+
+#[test]
+fn a_file_that_is_no_saved_run_is_told() {
+    let [_, before, after] = cut("damaged", "7", 5);
+    let file = before.with_file_name("run.saved");
+    assert!(with(&["save"], &[&before, &file]).status.success());
+    let bytes = std::fs::read(&file).unwrap();
+    let told = |bytes: &[u8], why: &str| {
+        std::fs::write(&file, bytes).unwrap();
+        let out = with(&["resume"], &[&file, &after]);
+        assert_eq!((out.status.code(), said(&out).0), (Some(1), String::new()));
+        assert!(said(&out).1.contains(why), "{}", said(&out).1);
+    };
+    let damaged = "run.saved: no saved run, or a damaged one, refused by 11: the bytes are not those of a saved run";
+    told(&bytes[..bytes.len() - 1], damaged);
+    told(&[&bytes[..], b"\n"].concat(), damaged);
+    told(&std::fs::read(&before).unwrap(), damaged);
+    told(b"", damaged);
+    told(
+        &[4, 2, 1, 0, 0, 0, 1, 0],
+        "run.saved: its seed 0 lays 292 tiles and the run has 1: it is not of a seed's course, refused by 12: the course",
+    );
+    std::fs::write(&file, bytes).unwrap();
+    let out = with(&["resume"], &[&file, &before]);
+    assert_eq!(out.status.code(), Some(1));
+    assert!(said(&out).1.contains("before.txt:2: a log to go on with has no line `seed ..`: the saved run tells it"));
+    let out = with(&["resume"], &[&file.with_file_name("no-such-run")]);
+    assert_eq!(out.status.code(), Some(1));
+    assert!(said(&out).1.contains("cannot read ") && said(&out).1.contains("no-such-run: "));
+    assert!(with(&["resume"], &[&file, &after]).status.success());
+}
+
 #[test]
 fn failures_have_a_status_and_say_where() {
     let log = folder("wrong").join("log.txt");
@@ -91,12 +209,21 @@ fn failures_have_a_status_and_say_where() {
         &["lay", "0", "--out", "a"],
         &["lay", "0", "--svg"],
         &["replay"],
+        &["save"],
+        &["save", "log.txt"],
+        &["save", "log.txt", "run.saved", "more"],
+        &["save", "log.txt", "run.saved", "--svg", "a.svg"],
+        &["resume"],
+        &["resume", "run.saved", "log.txt", "more"],
+        &["resume", "run.saved", "--out", "a"],
     ] {
         assert_eq!(grade(words).status.code(), Some(2), "{words:?}");
     }
     assert_eq!(grade(&["replay", "no-such-log"]).status.code(), Some(1));
     assert_eq!(grade(&["lay", "0", "--svg", "no-such-folder/a.svg"]).status.code(), Some(1));
-    for words in [&["--help"][..], &["lay", "--help"], &["replay", "-h"], &["demo", "--help"]] {
+    let helps =
+        [&["--help"][..], &["lay", "--help"], &["replay", "-h"], &["save", "--help"], &["resume", "-h"], &["demo", "--help"]];
+    for words in helps {
         assert_eq!(grade(words).status.code(), Some(0), "{words:?}");
     }
 }

@@ -16,6 +16,8 @@ use Rattle.run.specs.Grader.Start.{Begun, startCauseOf, startValuesOf}
 use Rattle.run.specs.Grader.Drive.{driveCauseOf}
 use Rattle.run.specs.Grader.Settle.{settleCauseOf, settleValuesOf}
 use Rattle.run.specs.Grader.Sheet.{sheetCauseOf, sheetFiguresOf}
+use Rattle.run.specs.Grader.Save.{AfterSave, saveCauseOf, saveLengthOf}
+use Rattle.run.specs.Grader.Restore.{AfterRestore, restoreCauseOf, savedCauseOf, savedForOf}
 use Rattle.certificate.specs.Grader.Replay.{Replay}
 use Rattle.run.specs.declared.state.Run.{Run}
 use Rattle.run.specs.declared.start.StartAnswer.{StartAnswer}
@@ -23,12 +25,17 @@ use Rattle.run.specs.declared.state.Progress.{Progress}
 use Rattle.run.specs.declared.drive.DriveAnswer.{DriveAnswer}
 use Rattle.run.specs.declared.settle.SettleAnswer.{SettleAnswer}
 use Rattle.run.specs.declared.sheet.SheetAnswer.{SheetAnswer}
+use Rattle.run.specs.declared.save.SaveAnswer.{SaveAnswer}
+use Rattle.run.specs.declared.restore.SavedCourse.{SavedCourse}
 use Rattle.abi.specs.declared.flat.FlatLaid.{FlatLaid}
 use Rattle.abi.specs.declared.flat.FlatCurbs.{FlatCurbs}
 use Rattle.abi.specs.declared.flat.FlatStarted.{FlatStarted}
 use Rattle.abi.specs.declared.flat.FlatDriven.{FlatDriven}
 use Rattle.abi.specs.declared.flat.FlatSettled.{FlatSettled}
 use Rattle.abi.specs.declared.flat.FlatSheet.{FlatSheet}
+use Rattle.abi.specs.declared.flat.FlatSaved.{FlatSaved}
+use Rattle.abi.specs.declared.flat.FlatRestored.{FlatRestored}
+use Rattle.abi.specs.declared.flat.FlatSavedFor.{FlatSavedFor}
 use Rattle.abi.specs.declared.flat.FlatAngle.{FlatAngle}
 use Rattle.abi.specs.declared.flat.FlatReplayed.{FlatReplayed}
 use Rattle.abi.specs.declared.flat.FlatCheckpoint.{FlatCheckpoint}
@@ -93,7 +100,16 @@ cornersFrom q = pairAt q 0 ∷ pairAt q 1 ∷ pairAt q 2 ∷ pairAt q 3 ∷ []
 
 -- a state whose sets have the full width, as the struct that is passed
 unfoldable pub runOf : State → Run
-runOf s = record { setup = s .setup; progress = s .progress; car = s .car; credited = s .credited; wheels = s .wheels }
+runOf s =
+    record {
+      setup = s .setup;
+      progress = s .progress;
+      car = s .car;
+      credited = s .credited;
+      wheels = s .wheels;
+      poses = s .poses;
+      seed = s .seed;
+    }
 
 unfoldable pub flatStarted : Begun → FlatStarted
 flatStarted b =
@@ -131,6 +147,28 @@ flatSheet a =
       ended = sheetFiguresOf a .ended;
       fallback = sheetFiguresOf a .fallback;
     }
+
+-- ---- saves
+
+unfoldable pub flatSaved : SaveAnswer → FlatSaved
+flatSaved a = record { cause = saveCauseOf a; length = saveLengthOf a }
+
+-- with what the lent output holds after it
+pub record SavedOut : Type 0 where
+  pub answer : FlatSaved
+  pub out : List ℕ
+
+abbrev pub savedOut : FlatSaved → List ℕ → SavedOut
+savedOut r out = record { answer = r; out = out }
+
+unfoldable pub flatSave : AfterSave → SavedOut
+flatSave d = savedOut (flatSaved (d .answer)) (d .out)
+
+unfoldable pub flatRestored : AfterRestore → FlatRestored
+flatRestored d = record { cause = restoreCauseOf (d .answer); run = runOf (d .state) }
+
+unfoldable pub flatSavedFor : SavedCourse → FlatSavedFor
+flatSavedFor a = record { cause = savedCauseOf a; seed = savedForOf a .seed; n = savedForOf a .n }
 
 -- ---- a whole replay: its three answers, and the columns that it is lent
 

@@ -1,5 +1,5 @@
--- Drive and settle for a host that keeps its run where it stands: the car and the sets are lent and changed in place, motions are read and forces written as
--- numbers. What such a call answers and leaves is said by the call on the parts of a state. For sets of m words that hold `most` tiles. Assumes nothing.
+-- Drive and settle for a host that keeps its run where it stands: the car, the sets and the last poses are lent and changed in place, motions are read and forces
+-- written as numbers. What such a call answers and leaves is said by the call on the parts of a state. For sets of m words that hold `most` tiles. Assumes nothing.
 use mathlib.Core.Bool.{cond}
 use mathlib.Core.List.{List}
 use Prim.Native.Nat.{ℕ}
@@ -7,8 +7,8 @@ use lib.Dec.{eqb}
 use lib.Ieee.{Float}
 use Rattle.run.specs.Grader.State.{Columns}
 use Rattle.run.specs.Grader.Drive.{driveCauseOf, drivePartsOf}
-use Rattle.run.specs.Grader.Settle.{settlePartsOf}
-use Rattle.certificate.specs.Grader.Numbers.{motionsFrom, forceNumbers, carFrom, carNumbers}
+use Rattle.run.specs.Grader.Settle.{settlePosesOf}
+use Rattle.run.specs.Grader.Numbers.{motionsFrom, forceNumbers, carFrom, carNumbers}
 use Rattle.run.specs.declared.state.Setup.{Setup}
 use Rattle.run.specs.declared.state.Progress.{Progress}
 use Rattle.run.specs.declared.state.Pose.{Pose}
@@ -35,16 +35,17 @@ driveInPlace m most u p car wheels action motions forces =
 
 -- ---- settle
 
--- what it answers, and what it leaves in the lent sets
+-- what it answers, and what it leaves in the lent sets and last poses
 pub record SettledInPlace : Type 0 where
   pub answer : FlatSettled
   pub credited : List ℕ
   pub wheels : List ℕ
+  pub poses : List Float
 
-abbrev pub settledInPlace : FlatSettled → List ℕ → List ℕ → SettledInPlace
-settledInPlace r credited wheels = record { answer = r; credited = credited; wheels = wheels }
+abbrev pub settledInPlace : FlatSettled → List ℕ → List ℕ → List Float → SettledInPlace
+settledInPlace r credited wheels last = record { answer = r; credited = credited; wheels = wheels; poses = last }
 
-unfoldable pub settleInPlace : ℕ → ℕ → Setup → Progress → List ℕ → List ℕ → Columns → Float → Float → List Pose → SettledInPlace
-settleInPlace m most u p credited wheels l x y ps =
-    let d = settlePartsOf m most u p credited wheels l x y ps in
-    settledInPlace (flatSettled (d .answer) (d .progress)) (d .credited) (d .wheels)
+unfoldable pub settleInPlace : ℕ → ℕ → Setup → Progress → List ℕ → List ℕ → List Float → Columns → Float → Float → List Pose → SettledInPlace
+settleInPlace m most u p credited wheels last l x y ps =
+    let d = settlePosesOf m most u p credited wheels last l x y ps in
+    settledInPlace (flatSettled (d .parts .answer) (d .parts .progress)) (d .parts .credited) (d .parts .wheels) (d .poses)

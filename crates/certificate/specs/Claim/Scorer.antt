@@ -1,17 +1,17 @@
--- Document 01, "The plain scorer". It is fed the points of a course and the calls' arguments, of lent columns the lengths alone. Its state is the
+-- Document 01, "The plain scorer", and document 02, order 1. It is fed the points of a course and the calls' arguments, of lent columns the lengths alone. Its state is the
 -- accepted calls with their arguments, in order; every answer is worked out from them anew, and every tile is tried against every wheel.
 -- Assumes nothing.
 use mathlib.Core.Bool.{Bool, false, cond, not, _&&_, _||_}
 use mathlib.Core.List.{List, [], _∷_}
 use Prim.Native.Nat.{ℕ, zero, suc, _+_}
 use lib.Dec.{ltb, leb}
-use lib.ListN.{length}
+use lib.ListN.{length, getD}
 use lib.Ieee.{Float}
 use Rattle.course.specs.Rules.Rect.{holdsOf}
 use Rattle.course.specs.Rules.Tiles.{tileAt, tilesOf}
 use Rattle.course.specs.declared.tiles.TrackPoint.{TrackPoint}
 use Rattle.run.specs.Rules.Below.{anyBelow, everyBelow, someOf, howMany}
-use Rattle.run.specs.Rules.Arguments.{settingsOk, shortColumns, posesOk, placesOk, motionsOk}
+use Rattle.run.specs.Rules.Arguments.{settingsOk, shortColumns, saveRoom, posesOk, placesOk, motionsOk}
 use Rattle.run.specs.Rules.Overlap.{overlapOf}
 use Rattle.run.specs.Rules.Wheel.{quadOf, boxCells}
 use Rattle.run.specs.Rules.Lap.{aboveShare, offField}
@@ -38,6 +38,13 @@ pub record Opening : Type 0 where
 pub data Told : Type 0 where
   drive : ℕ → List Motion → Told
   settle : LentLengths → Float → Float → List Pose → Told
+
+-- an item of a list that holds saves and restores too: a drive or settle; a save, with how many bytes it is lent; a restore of what an accepted save of the
+-- list wrote, with the lengths that it is lent, and how many saves were accepted after that one
+pub data Item : Type 0 where
+  call : Told → Item
+  save : ℕ → Item
+  restore : LentLengths → ℕ → Item
 
 -- ---- its state: the accepted calls, the last one outermost
 pub data History : Type 0 where
@@ -79,6 +86,14 @@ pub record Scored : Type 0 where
 
 abbrev pub scored : Answer → History → Scored
 scored a h = record { answer = a; kept = h }
+
+-- the accepted calls, and those that it had at each accepted save, the last save first
+pub record KeptCalls : Type 0 where
+  pub calls : History
+  pub saves : List History
+
+abbrev pub keptCalls : History → List History → KeptCalls
+keptCalls h hs = record { calls = h; saves = hs }
 
 -- ---- what follows from it, on the course of the points c
 module _ (c : List TrackPoint) where
@@ -185,3 +200,33 @@ module _ (c : List TrackPoint) where
   unfoldable pub keptOf : History → List Told → History
   keptOf h [] = h
   keptOf h (t ∷ ts) = keptOf (score h t .kept) ts
+
+  -- ---- saves and restores: it answers neither, and they are refused for these causes alone
+
+  -- 5 while a settle is due, then 2 by the output's length
+  unfoldable pub saveNumber : History → ℕ → ℕ
+  saveNumber h room = cond (ltb (settles h) (drives h)) 5 (cond (ltb room saveRoom) 2 0)
+
+  -- 11 where there is no such save, then 2 by the lent lengths
+  unfoldable pub restoreNumber : KeptCalls → LentLengths → ℕ → ℕ
+  restoreNumber k l i = cond (leb (length (k .saves)) i) 11 (cond (shortColumns tileCount (l .tiles) (l .offsets)) 2 0)
+
+  -- by the number: an accepted save notes the accepted calls, an accepted restore makes them again those that it had at its save
+  unfoldable pub noted : ℕ → KeptCalls → KeptCalls
+  noted zero k = keptCalls (k .calls) (k .calls ∷ k .saves)
+  noted (suc j) k = k
+
+  unfoldable pub takenUp : ℕ → KeptCalls → ℕ → KeptCalls
+  takenUp zero k i = keptCalls (getD (k .saves) i (k .calls)) (k .saves)
+  takenUp (suc j) k i = k
+
+  -- the calls kept after an item
+  unfoldable pub afterItem : KeptCalls → Item → KeptCalls
+  afterItem k (call t) = keptCalls (score (k .calls) t .kept) (k .saves)
+  afterItem k (save room) = noted (saveNumber (k .calls) room) k
+  afterItem k (restore l i) = takenUp (restoreNumber k l i) k i
+
+  -- and after a list of items
+  unfoldable pub afterItems : KeptCalls → List Item → KeptCalls
+  afterItems k [] = k
+  afterItems k (i ∷ is) = afterItems (afterItem k i) is

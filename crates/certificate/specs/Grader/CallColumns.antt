@@ -9,7 +9,7 @@ use Rattle.course.specs.Rules.Arithmetic.{nought}
 use Rattle.course.specs.Rules.Counting.{digit}
 use Rattle.certificate.specs.Rules.Answers.{Answer}
 use Rattle.certificate.specs.Rules.Answers.Answer.{drove, settled, refused}
-use Rattle.certificate.specs.Grader.Numbers.{forcesFrom, forceNumbers}
+use Rattle.run.specs.Grader.Numbers.{forcesFrom, forceNumbers}
 use Rattle.run.specs.declared.settle.SettleValues.{SettleValues}
 
 -- ---- widths of a call and of its answer

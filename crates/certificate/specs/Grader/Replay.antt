@@ -21,7 +21,7 @@ use Rattle.certificate.specs.Claim.Scorer.{LentLengths, Opening, Told, H
 use Rattle.certificate.specs.Claim.Scorer.History.{begun}
 use Rattle.certificate.specs.Claim.Certificate.{layNumber}
 use Rattle.course.specs.Rules.Tiles.{numberAt}
-use Rattle.certificate.specs.Grader.Numbers.{motionsFrom, posesFrom}
+use Rattle.run.specs.Grader.Numbers.{motionsFrom, posesFrom}
 use Rattle.certificate.specs.Grader.CallColumns.{callWords, callNumbers, answerWords, answerNumbers, partAt, allWords, allNumbers}
 use Rattle.run.specs.declared.start.StartAnswer.{StartAnswer}
 use Rattle.run.specs.declared.sheet.SheetAnswer.{SheetAnswer}

@@ -9,7 +9,7 @@ use Rattle.run.specs.Grader.State.{Columns, columns}
 use Rattle.certificate.specs.Grader.Calls.{Call}
 use Rattle.certificate.specs.Grader.Calls.Call.{drive, settle}
 use Rattle.course.specs.Rules.Tiles.{numberAt}
-use Rattle.certificate.specs.Grader.Numbers.{motionsFrom, posesFrom}
+use Rattle.run.specs.Grader.Numbers.{motionsFrom, posesFrom}
 use Rattle.certificate.specs.Grader.CallColumns.{callWords, callNumbers, partAt}
 
 -- the first of the lent tiles and offsets, and the whole list

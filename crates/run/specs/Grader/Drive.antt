@@ -63,4 +63,4 @@ driven r fs s = record { answer = r; forces = fs; state = s }
 unfoldable pub driveOf : ℕ → ℕ → State → ℕ → List Motion → Driven
 driveOf m most s action ms =
     let d = drivePartsOf m most (s .setup) (s .progress) (s .car) (s .wheels) action ms in
-    driven (d .answer) (d .forces) (stateOf (s .setup) (d .progress) (d .car) (s .credited) (s .wheels))
+    driven (d .answer) (d .forces) (stateOf (s .setup) (d .progress) (d .car) (s .credited) (s .wheels) (s .poses) (s .seed))

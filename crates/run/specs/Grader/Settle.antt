@@ -1,4 +1,4 @@
--- Document 01, "Settle: contact after physics" and "Refusals by cause": settle 4, 5, 6, 2, 8, 10. For states whose sets have m words and
+-- Document 01, "Settle: contact after physics" and "Refusals by cause": settle 4, 5, 6, 2, 8, 10; document 02, order 1: the last poses. For states whose sets have m words and
 -- take n up to `most`. Assumes nothing.
 use mathlib.Core.Bool.{Bool, false, cond, not, _||_}
 use mathlib.Core.List.{List}
@@ -10,6 +10,7 @@ use Rattle.run.specs.Rules.Arguments.{placesOk}
 use Rattle.run.specs.Rules.Wheel.{quadOf}
 use Rattle.run.specs.Grader.Touch.{touchedBy, soundPoses}
 use Rattle.run.specs.Grader.Contact.{Contacted, contactOf}
+use Rattle.run.specs.Grader.Numbers.{poseNumbers}
 use Rattle.run.specs.Rules.Lap.{lapOf, offField, endOf}
 use Rattle.run.specs.declared.state.Pose.{Pose}
 use Rattle.run.specs.declared.state.Setup.{Setup}
@@ -83,6 +84,24 @@ settleAt m (suc k) u p credited wheels l x y ps = settledParts (settleAnswer (su
 unfoldable pub settlePartsOf : ℕ → ℕ → Setup → Progress → List ℕ → List ℕ → Columns → Float → Float → List Pose → SettledParts
 settlePartsOf m most u p credited wheels l x y ps = settleAt m (settleCause most u p l x y ps) u p credited wheels l x y ps
 
+-- the last poses after it: an accepted settle's, else as they were
+unfoldable pub posesAfter : SettleAnswer → List Pose → List Float → List Float
+posesAfter (Settled v) ps last = poseNumbers ps
+posesAfter (Refused k) ps last = last
+
+-- the same with the last poses
+pub record SettledPoses : Type 0 where
+  pub parts : SettledParts
+  pub poses : List Float
+
+abbrev pub settledPoses : SettledParts → List Float → SettledPoses
+settledPoses d last = record { parts = d; poses = last }
+
+unfoldable pub settlePosesOf : ℕ → ℕ → Setup → Progress → List ℕ → List ℕ → List Float → Columns → Float → Float → List Pose → SettledPoses
+settlePosesOf m most u p credited wheels last l x y ps =
+    let d = settlePartsOf m most u p credited wheels l x y ps in
+    settledPoses d (posesAfter (d .answer) ps last)
+
 -- an answer and the state beside it
 pub record AfterSettle : Type 0 where
   pub answer : SettleAnswer
@@ -94,5 +113,6 @@ afterSettle r s = record { answer = r; state = s }
 -- on a whole state
 unfoldable pub settleOf : ℕ → ℕ → State → Columns → Float → Float → List Pose → AfterSettle
 settleOf m most s l x y ps =
-    let d = settlePartsOf m most (s .setup) (s .progress) (s .credited) (s .wheels) l x y ps in
-    afterSettle (d .answer) (stateOf (s .setup) (d .progress) (s .car) (d .credited) (d .wheels))
+    let d = settlePosesOf m most (s .setup) (s .progress) (s .credited) (s .wheels) (s .poses) l x y ps in
+    afterSettle (d .parts .answer)
+    (stateOf (s .setup) (d .parts .progress) (s .car) (d .parts .credited) (d .parts .wheels) (d .poses) (s .seed))

@@ -1,4 +1,4 @@
--- Document 01, "Start: the first contact" and "Refusals by cause": start 1, 2, 8, 10. For states whose sets have m words and take n up to
+-- Document 01, "Start: the first contact" and "Refusals by cause": start 1, 2, 8, 10; document 02, order 1: the seed. For states whose sets have m words and take n up to
 -- `most`. Assumes nothing.
 use mathlib.Core.Bool.{Bool, false, cond, not, _||_}
 use mathlib.Core.List.{List}
@@ -13,6 +13,7 @@ use Rattle.run.specs.Rules.Pass.{stillCar}
 use Rattle.run.specs.Rules.Wheel.{quadOf}
 use Rattle.run.specs.Grader.Touch.{touchedBy, soundPoses}
 use Rattle.run.specs.Grader.Contact.{Contacted, contactOf}
+use Rattle.run.specs.Grader.Numbers.{poseCount, poseNumbers}
 use Rattle.run.specs.Rules.Lap.{lapOf}
 use Rattle.run.specs.declared.state.Pose.{Pose}
 use Rattle.run.specs.declared.state.Setup.{Setup}
@@ -25,6 +26,7 @@ use Rattle.run.specs.declared.start.StartAnswer.the-variants.{Started, R
 pub record Settings : Type 0 where
   pub n : ℕ
   pub fallback : Bool
+  pub seed : ℕ
   pub share : Float
   pub limit : ℕ
   pub poses : List Pose
@@ -80,6 +82,8 @@ zeroState m =
       car = stillCar;
       credited = replicate m 0;
       wheels = replicate (4 * m) 0;
+      poses = replicate poseCount nought;
+      seed = 0;
     }
 
 -- an answer and the state beside it
@@ -94,11 +98,11 @@ begun r s = record { answer = r; state = s }
 unfoldable pub firstContact : ℕ → Columns → List Pose → Contacted
 firstContact m l ps = contactOf m (replicate m 0) (replicate (4 * m) 0) (λ w. touchedBy (l .tiles) (l .offsets) (l .list) (quadOf ps w))
 
--- controls and fuel begin at 0
+-- controls and fuel begin at 0; poses and seed are kept
 unfoldable pub startedBy : Settings → Contacted → Begun
 startedBy a c =
     let lap = lapOf false (c .zero) (c .fresh) (a .n) (a .share) in
-    begun (startAnswer zero (record { count = c .fresh; lap = lap })) (stateOf (setupOf a) (firstProgress (c .fresh) lap) stillCar (c .credited) (c .wheels))
+    begun (startAnswer zero (record { count = c .fresh; lap = lap })) (stateOf (setupOf a) (firstProgress (c .fresh) lap) stillCar (c .credited) (c .wheels) (poseNumbers (a .poses)) (a .seed))
 
 -- no cause: the first contact; a cause: its number and the state of zeros
 unfoldable pub startAt : ℕ → ℕ → Columns → Settings → Begun

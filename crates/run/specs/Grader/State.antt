@@ -1,4 +1,4 @@
--- Document 01, "Refusals by cause" and "Touch": the state of a run, the columns that a call is lent, and the tests of both. Assumes nothing.
+-- Document 01, "Refusals by cause" and "Touch", and document 02, order 1: the state of a run, the columns that a call is lent, and the tests of both. Assumes nothing.
 use mathlib.Core.Bool.{Bool, true, _||_}
 use mathlib.Core.List.{List}
 use Prim.Native.Nat.{ℕ}
@@ -11,19 +11,22 @@ use Rattle.run.specs.declared.state.Progress.{Progress}
 use Rattle.run.specs.declared.state.Car.{Car}
 use Rattle.run.specs.declared.state.Run.{Run}
 
--- ---- states, whatever the number of words of their sets: what start fixes, what settle changes, what drive changes, and the sets
+-- ---- states, whatever the number of words of their sets: what start fixes, what settle changes, what drive changes, and the sets; and what is kept for
+-- a save alone (document 02, order 1): the numbers of the last poses, and the seed
 pub record State : Type 0 where
   pub setup : Setup
   pub progress : Progress
   pub car : Car
   pub credited : List ℕ
   pub wheels : List ℕ
+  pub poses : List Float
+  pub seed : ℕ
 
-abbrev pub stateOf : Setup → Progress → Car → List ℕ → List ℕ → State
-stateOf u p car c ws = record { setup = u; progress = p; car = car; credited = c; wheels = ws }
+abbrev pub stateOf : Setup → Progress → Car → List ℕ → List ℕ → List Float → ℕ → State
+stateOf u p car c ws last seed = record { setup = u; progress = p; car = car; credited = c; wheels = ws; poses = last; seed = seed }
 
 unfoldable pub view : Run → State
-view r = stateOf (r .setup) (r .progress) (r .car) (r .credited) (r .wheels)
+view r = stateOf (r .setup) (r .progress) (r .car) (r .credited) (r .wheels) (r .poses) (r .seed)
 
 -- a drive awaits its settle; all else as it was
 unfoldable pub awaiting : Progress → Progress

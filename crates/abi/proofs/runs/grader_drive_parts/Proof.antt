@@ -6,11 +6,11 @@ use Rattle.abi.proofs.runs.grader_drive_parts.Tie as tie
 use Rattle.abi.proofs.runs.grader_drive_parts.Reads as reads
 use Rattle.abi.proofs.runs.grader_drive_parts.Lts as lts
 use Rattle.abi.proofs.flat.drive_cause.Reads as drive-cause-reads
-use Rattle.abi.proofs.parts.car_from.Reads as car-from-reads
-use Rattle.abi.proofs.parts.put_car.Reads as put-car-reads
 use Rattle.certificate.proofs.answer.put_forces_lent.Reads as put-forces-lent-reads
 use Rattle.certificate.proofs.call.motions_lent.Reads as motions-lent-reads
 use Rattle.run.proofs.drive.drive_parts.Reads as drive-parts-reads
+use Rattle.run.proofs.numbers.car_from.Reads as car-from-reads
+use Rattle.run.proofs.numbers.put_car.Reads as put-car-reads
 
 car-from-requires : tie.Need-car-from-requires
 car-from-requires c κs = search needs

@@ -1,6 +1,6 @@
 -- `certificate::answer::put_words` meets its contract. Assumes nothing.
 use mathlib.Core.List.{[], _∷_}
-use Rattle.certificate.proofs.CallColumnLaws.{written-over}
+use Rattle.run.proofs.NumberLaws.{written-over}
 use borrow.Author.Needs.{needs}
 use Rattle.certificate.proofs.answer.put_words.Statement.{statement}
 use Rattle.certificate.proofs.answer.put_words.Tie as tie

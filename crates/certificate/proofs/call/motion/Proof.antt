@@ -1,6 +1,6 @@
 -- `certificate::call::motion` meets its contract. Assumes nothing.
 use mathlib.Core.Path.{refl}
-use Rattle.certificate.specs.Grader.Numbers.{motionFrom}
+use Rattle.run.specs.Grader.Numbers.{motionFrom}
 use borrow.Author.Needs.{needs}
 use Rattle.certificate.proofs.call.motion.Statement.{statement}
 use Rattle.certificate.proofs.call.motion.Tie as tie

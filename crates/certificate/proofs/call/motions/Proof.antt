@@ -1,5 +1,5 @@
 -- `certificate::call::motions` meets its contract. Assumes nothing.
-use Rattle.certificate.specs.Grader.Numbers.{motionsFrom}
+use Rattle.run.specs.Grader.Numbers.{motionsFrom}
 use borrow.Author.Needs.{needs}
 use Rattle.certificate.proofs.call.motions.Statement.{statement}
 use Rattle.certificate.proofs.call.motions.Tie as tie

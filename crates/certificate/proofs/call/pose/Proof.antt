@@ -1,6 +1,6 @@
 -- `certificate::call::pose` meets its contract. Assumes nothing.
 use mathlib.Core.Path.{refl}
-use Rattle.certificate.specs.Grader.Numbers.{poseFrom}
+use Rattle.run.specs.Grader.Numbers.{poseFrom}
 use borrow.Author.Needs.{needs}
 use Rattle.certificate.proofs.call.pose.Statement.{statement}
 use Rattle.certificate.proofs.call.pose.Tie as tie

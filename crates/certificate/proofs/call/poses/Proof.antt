@@ -1,5 +1,5 @@
 -- `certificate::call::poses` meets its contract. Assumes nothing.
-use Rattle.certificate.specs.Grader.Numbers.{posesFrom}
+use Rattle.run.specs.Grader.Numbers.{posesAt}
 use borrow.Author.Needs.{needs}
 use Rattle.certificate.proofs.call.poses.Statement.{statement}
 use Rattle.certificate.proofs.call.poses.Tie as tie
@@ -20,7 +20,7 @@ pose-requires-4 : tie.Need-pose-requires-4
 pose-requires-4 c κs = search needs
 
 returns : tie.Need-returns
-unfolding posesFrom
+unfolding posesAt
 returns c = search needs
 
 pub poses-spec : {M : Type 1} → statement M

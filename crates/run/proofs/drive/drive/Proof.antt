@@ -13,7 +13,7 @@ drive-parts-requires c κs = search needs
 
 returns : tie.Need-returns
 unfolding view
-returns c = drove-from _ _ (view (c .before .before .before .before .before .before .before .before .args .run)) _ _ _ (c .before .before .before .drive-parts .ensures)
+returns c = drove-from _ _ (view (c .before .before .before .before .before .before .before .before .before .args .run)) _ _ _ (c .before .before .before .drive-parts .ensures)
 
 pub drive-spec : {M : Type 1} → statement M
 drive-spec = tie.close (tie.spec drive-parts-requires returns)

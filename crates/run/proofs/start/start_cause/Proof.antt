@@ -34,7 +34,7 @@ abbrev cause : tie.Start → ℕ
 cause s =
     let a = s .args in
     startCause (a .most) (columns (a .tiles .now) (a .offsets .now) (a .list .now))
-    (record { n = a .n; fallback = a .fallback; share = a .share; limit = a .limit; poses = a .poses })
+    (record { n = a .n; fallback = a .fallback; seed = a .seed; share = a .share; limit = a .limit; poses = a .poses })
 
 -- one cause is left where the cells are tested
 past-poses : (c : tie.After-cells-sound) → cause (given-at c) ≡ cond (not (c .cells-sound .result)) 10 0

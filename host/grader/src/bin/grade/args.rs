@@ -69,8 +69,18 @@ pub fn seed(word: &str) -> Result<u32, Failure> {
     word.parse().map_err(|_| Failure::Usage(format!("a seed is a whole number from 0 to {}, not {word}", u32::MAX)))
 }
 
-pub fn save(path: &Path, text: &str) -> Done {
-    std::fs::write(path, text).map_err(|e| Failure::Work(format!("cannot write {}: {e}", path.display())))
+/// What a file's text says by `reader`, whose errors have the line and what was expected there.
+pub fn read<T>(name: &str, reader: impl Fn(&str) -> Result<T, (usize, String)>) -> Result<T, Failure> {
+    let said = std::fs::read_to_string(name).map_err(|e| unreadable(name, &e))?;
+    reader(&said).map_err(|(line, what)| Failure::Work(format!("{name}:{line}: {what}")))
+}
+
+pub fn unreadable(name: &str, e: &std::io::Error) -> Failure {
+    Failure::Work(format!("cannot read {name}: {e}"))
+}
+
+pub fn save(path: &Path, what: impl AsRef<[u8]>) -> Done {
+    std::fs::write(path, what).map_err(|e| Failure::Work(format!("cannot write {}: {e}", path.display())))
 }
 
 /// Prints to the standard output. A reader that has gone (`| head`) is no failure.

@@ -8,8 +8,8 @@ use std::time::Instant;
 const HELP: &str = "\
 grade bench [SEED] [--json]: how long the grader's calls take
 
-Times laying the course of a seed (0 if none is given), and start, drive and settle over the demo's run on it, each through the C
-boundary: the median of 21 rounds, in nanoseconds a call. For port and Rust side by side see host/bench.
+Times laying the course of a seed (0 if none is given), and start, drive, settle, save and restore over the demo's run on it, each
+through the C boundary: the median of 21 rounds, in nanoseconds a call. For port and Rust side by side see host/bench.
 
   --json       one JSON object in place of the text
 ";
@@ -51,10 +51,21 @@ fn times(seed: u32) -> Result<Vec<(&'static str, u128)>, grader::Refusal> {
     let begin = median(100, || (0..100).for_each(|_| drop(black_box(start()))));
     let drive = median(drives.len(), || drives.iter().for_each(|(run, call)| once(&course, run, call)));
     let settle = median(settles.len(), || settles.iter().for_each(|(run, call)| once(&course, run, call)));
+    let kept = drives.iter().map(|(run, _)| run.save()).collect::<Result<Vec<_>, _>>()?;
+    let save = median(drives.len(), || drives.iter().for_each(|(run, _)| drop(black_box(run.save()))));
+    let restore = median(kept.len(), || kept.iter().for_each(|bytes| drop(black_box(Run::restore(&course, bytes)))));
     let whole = median(calls.len(), || {
         let _ = black_box(replay(seed, log.start.lap_share, log.start.tick_limit, log.start.poses, &calls));
     });
-    Ok(vec![("lay", lay), ("start", begin), ("drive", drive), ("settle", settle), ("replay", whole)])
+    Ok(vec![
+        ("lay", lay),
+        ("start", begin),
+        ("drive", drive),
+        ("settle", settle),
+        ("save", save),
+        ("restore", restore),
+        ("replay", whole),
+    ])
 }
 
 /// The runs just before each drive and each settle of the list, with the call.

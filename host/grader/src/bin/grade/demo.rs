@@ -102,6 +102,6 @@ fn write(dir: &Path, log: &Log, sheet: Sheet) -> Done {
     }
     std::fs::create_dir_all(dir).map_err(|e| Failure::Work(format!("cannot make {}: {e}", dir.display())))?;
     save(&dir.join("log.txt"), &said)?;
-    save(&dir.join("sheet.txt"), &text::sheet(&Ok(sheet)))?;
-    save(&dir.join("lap.svg"), &replay::picture(&again, &replayed)?)
+    save(&dir.join("sheet.txt"), text::sheet(&Ok(sheet)))?;
+    save(&dir.join("lap.svg"), replay::picture(&again, &replayed)?)
 }

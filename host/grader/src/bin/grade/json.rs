@@ -1,5 +1,6 @@
 //! Answers for machines, each a JSON value.
-use grader::{Answer, Refusal, Sheet};
+use crate::text;
+use grader::{Answer, Call, Refusal, Sheet};
 
 /// A text in quotes.
 pub fn quoted(text: &str) -> String {
@@ -27,7 +28,15 @@ pub fn refusal(r: &Refusal) -> String {
     format!("{{\"refused\":{},\"why\":{}}}", r.number(), quoted(&r.to_string()))
 }
 
-pub fn answer(a: &Answer) -> String {
+/// The answers to calls, each call with the number of its line: an array.
+pub fn answers(calls: &[(usize, Call)], answers: &[Answer]) -> String {
+    let one = |((line, call), a): (&(usize, Call), &Answer)| {
+        format!("{{\"line\":{line},\"call\":{},\"answer\":{}}}", quoted(&text::call(call)), answer(a))
+    };
+    format!("[{}]", calls.iter().zip(answers).map(one).collect::<Vec<_>>().join(","))
+}
+
+fn answer(a: &Answer) -> String {
     match a {
         Answer::Forces(f) => {
             let wheels = f.map(|w| format!("{{\"motor\":{},\"fx\":{},\"fy\":{}}}", number(w.motor), number(w.fx), number(w.fy)));

@@ -25,7 +25,7 @@ pub fn run(given: Vec<String>) -> Done {
     let course = Course::lay(seed);
     if let Some(path) = &args.svg {
         let title = format!("seed {seed}: {} tiles", course.n());
-        save(path, &Picture::of(&course)?.drawn(&title))?;
+        save(path, Picture::of(&course)?.drawn(&title))?;
     }
     print(&if args.json { json(seed, &course) } else { text(seed, &course) })
 }

@@ -18,6 +18,16 @@ pub struct Start {
     pub poses: [Pose; 4],
 }
 
+/// Of a log to go on with.
+pub const CALLS: &str = "\
+The log: one line a call, words parted by spaces; what follows # is a comment, and empty lines are passed over.
+
+  drive ACTION  angle sin cos vx vy ..  the motions of four wheels (20 numbers): joint angle, sin, cos, velocity
+  settle X Y  x y cos sin ..            the hull, and the poses of four wheels (16 numbers)
+
+grade replay --help says more of both.
+";
+
 pub const FORM: &str = "\
 The log: one line a call, words parted by spaces; what follows # is a comment, and empty lines are passed over.
 
@@ -29,6 +39,17 @@ The log: one line a call, words parted by spaces; what follows # is a comment, a
 Wheels: front left, front right, rear left, rear right. Actions: 0 nothing, 1 right, 2 left, 3 gas, 4 brake. Numbers are
 decimal, and inf, -inf and nan are read too, so that a log can hold calls that are refused.
 ";
+
+/// Reads the calls of a log that goes on with a run: it has neither seed nor start.
+pub fn calls(text: &str) -> Result<Vec<(usize, Call)>, (usize, String)> {
+    let only = |mut words: Words| match words.rest.last() {
+        Some(&word @ ("seed" | "start")) => {
+            words.wrong(format!("a log to go on with has no line `{word} ..`: the saved run tells it"))
+        }
+        _ => Ok((words.line, words.call()?)),
+    };
+    text.lines().enumerate().filter_map(|(k, line)| Words::of(k + 1, line)).map(only).collect()
+}
 
 impl Log {
     /// Reads a log. An error says the line and what was expected there.
@@ -164,6 +185,17 @@ mod tests {
         assert_eq!((log.seed, log.start.line, log.calls[0].0, log.calls[1].0), (7, 4, 5, 6));
         let again = Log::read(&log.text()).unwrap();
         assert_eq!(again.calls.iter().map(|c| c.1).collect::<Vec<_>>(), log.calls.iter().map(|c| c.1).collect::<Vec<_>>());
+    }
+
+    #[test]
+    fn a_log_to_go_on_with_has_calls_alone() {
+        let text = format!("# later\n\ndrive 3 0.5 0 0 0 {POSES}\nsettle 1 2 {POSES}\n");
+        let lines = |text: &str| calls(text).map(|all| all.iter().map(|c| c.0).collect::<Vec<_>>());
+        assert_eq!((lines(&text), lines("")), (Ok(vec![3, 4]), Ok(vec![])));
+        let told = |word: &str| format!("a log to go on with has no line `{word} ..`: the saved run tells it");
+        assert_eq!(lines("\nseed 7"), Err((2, told("seed"))));
+        assert_eq!(lines(&format!("{text}start 0.95 9 {POSES}")), Err((5, told("start"))));
+        assert_eq!(lines("turn 1"), Err((1, "expected `drive ..` or `settle ..`, found `turn`".into())));
     }
 
     fn wrong(text: &str) -> String {

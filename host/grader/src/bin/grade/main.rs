@@ -9,6 +9,8 @@ mod lay;
 mod log;
 mod pilot;
 mod replay;
+mod resume;
+mod save;
 mod svg;
 mod text;
 
@@ -20,6 +22,8 @@ grade: courses and graded runs
 
   grade lay SEED [--svg FILE] [--json]      the course of a seed
   grade replay LOG [--svg FILE] [--json]    the answers to a log of calls, and the run sheet
+  grade save LOG FILE [--json]              the same, and the run after the last call is kept in a file
+  grade resume FILE [LOG] [--json]          a kept run goes on with a log of calls
   grade demo [SEED] [--out DIR] [--json]    a built-in car drives a lap and writes log, sheet and picture
   grade bench [SEED] [--json]               how long the grader's calls take on this machine
   grade compare [..]                        port and Rust side by side (host/compare/run)
@@ -34,6 +38,8 @@ fn main() -> ExitCode {
     let done = match command.as_deref() {
         Some("lay") => lay::run(rest),
         Some("replay") => replay::run(rest),
+        Some("save") => save::run(rest),
+        Some("resume") => resume::run(rest),
         Some("demo") => demo::run(rest),
         Some("bench") => bench::run(rest),
         Some("compare") => compare::run(rest),

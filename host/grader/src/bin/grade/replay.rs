@@ -1,10 +1,9 @@
 //! grade replay: the answers to a log of calls.
-use crate::args::{print, save, Args, Done, Failure};
+use crate::args::{print, read, save, Args, Done, Failure};
 use crate::log::{Log, FORM};
 use crate::svg::Picture;
 use crate::{json, text};
-use grader::{Call, Course, Replayed, Run};
-use std::fmt::Write;
+use grader::{Answer, Call, Course, Replayed, Run};
 
 const HELP: &str = "\
 grade replay LOG [--svg FILE] [--json]: the answers to a log of calls
@@ -25,13 +24,12 @@ pub fn run(given: Vec<String>) -> Done {
         return print(&format!("{HELP}{FORM}"));
     }
     let name = args.words.first().ok_or_else(|| Failure::Usage("replay needs a log; see grade replay --help".into()))?;
-    let said = std::fs::read_to_string(name).map_err(|e| Failure::Work(format!("cannot read {name}: {e}")))?;
-    let log = Log::read(&said).map_err(|(line, what)| Failure::Work(format!("{name}:{line}: {what}")))?;
+    let log = read(name, Log::read)?;
     let replayed = answers(&log)?;
     if let Some(path) = &args.svg {
-        save(path, &picture(&log, &replayed)?)?;
+        save(path, picture(&log, &replayed)?)?;
     }
-    print(&if args.json { as_json(&log, &replayed) } else { as_text(&log, &replayed) })
+    print(&if args.json { format!("{{{}}}\n", members(&log, &replayed)) } else { as_text(&log, &replayed) })
 }
 
 pub fn answers(log: &Log) -> Result<Replayed, Failure> {
@@ -41,67 +39,58 @@ pub fn answers(log: &Log) -> Result<Replayed, Failure> {
         .map_err(|r| Failure::Work(format!("the log is {}", text::refusal(&r))))
 }
 
-fn kind(call: &Call) -> String {
-    match call {
-        Call::Drive { action, .. } => format!("drive {action}"),
-        Call::Settle { .. } => "settle".into(),
-    }
-}
-
-fn as_text(log: &Log, r: &Replayed) -> String {
+/// The answer to each line, and the sheet.
+pub fn as_text(log: &Log, r: &Replayed) -> String {
     let started = match &r.started {
         Ok(s) => format!("{} tiles credited{}", s.count, if s.lap { ", lap" } else { "" }),
         Err(e) => text::refusal(e),
     };
-    let mut out = format!("line {}  start  {started}\n", log.start.line);
-    for ((line, call), answer) in log.calls.iter().zip(&r.answers) {
-        let _ = writeln!(out, "line {line}  {}  {}", kind(call), text::answer(answer));
-    }
-    format!("{out}\n{}", text::sheet(&r.sheet))
+    let answers = text::answers(&log.calls, &r.answers);
+    format!("line {}  start  {started}\n{answers}\n{}", log.start.line, text::sheet(&r.sheet))
 }
 
-fn as_json(log: &Log, r: &Replayed) -> String {
+/// The same as the members of a JSON object.
+pub fn members(log: &Log, r: &Replayed) -> String {
     let started = match &r.started {
         Ok(s) => format!("{{\"count\":{},\"lap\":{}}}", s.count, s.lap),
         Err(e) => json::refusal(e),
     };
-    let answers: Vec<String> = (log.calls.iter().zip(&r.answers))
-        .map(|((line, call), a)| {
-            format!("{{\"line\":{line},\"call\":{},\"answer\":{}}}", json::quoted(&kind(call)), json::answer(a))
-        })
-        .collect();
-    format!(
-        "{{\"seed\":{},\"started\":{started},\"answers\":[{}],\"sheet\":{}}}\n",
-        log.seed,
-        answers.join(","),
-        json::sheet(&r.sheet)
-    )
+    let answers = json::answers(&log.calls, &r.answers);
+    format!("\"seed\":{},\"started\":{started},\"answers\":{answers},\"sheet\":{}", log.seed, json::sheet(&r.sheet))
 }
 
-/// The course with credited tiles and the hull's path. The replay does not say which tiles were credited, so the log
-/// goes through the calls one by one too, and both must come to the same sheet.
+/// The run after the log's last call, none where its start is refused. The replay hands back no run, so the log goes through
+/// the calls one by one too, and both must come to the same sheet. Each accepted settle's hull is told.
+pub fn one_by_one(log: &Log, course: &Course, r: &Replayed, mut hull: impl FnMut([f64; 2])) -> Result<Option<Run>, Failure> {
+    let s = &log.start;
+    let Ok((mut run, _)) = Run::start(course, s.lap_share, s.tick_limit, s.poses) else { return Ok(None) };
+    for (_, call) in &log.calls {
+        if let (Call::Settle { x, y, .. }, Answer::Settled(_)) = (call, answer(&mut run, course, call)) {
+            hull([*x, *y]);
+        }
+    }
+    if run.sheet() != r.sheet {
+        return Err(Failure::Work("the replay and the calls one by one come to different sheets".into()));
+    }
+    Ok(Some(run))
+}
+
+/// What the run answers to a call of a log.
+pub fn answer(run: &mut Run, course: &Course, call: &Call) -> Answer {
+    match *call {
+        Call::Drive { action, motions } => run.drive(action, motions).map_or_else(Answer::Refused, Answer::Forces),
+        Call::Settle { x, y, poses } => run.settle(course, x, y, poses).map_or_else(Answer::Refused, Answer::Settled),
+    }
+}
+
+/// The course with credited tiles and the hull's path.
 pub fn picture(log: &Log, replayed: &Replayed) -> Result<String, Failure> {
     let course = Course::lay(log.seed);
     let mut picture = Picture::of(&course)?;
     let mut title = format!("seed {}: no run", log.seed);
-    let s = &log.start;
-    if let Ok((mut run, _)) = Run::start(&course, s.lap_share, s.tick_limit, s.poses) {
-        for (_, call) in &log.calls {
-            match *call {
-                Call::Drive { action, motions } => drop(run.drive(action, motions)),
-                Call::Settle { x, y, poses } => {
-                    if run.settle(&course, x, y, poses).is_ok() {
-                        picture.path.push([x, y]);
-                    }
-                }
-            }
-        }
-        let sheet = run.sheet();
-        if sheet != replayed.sheet {
-            return Err(Failure::Work("the replay and the calls one by one come to different sheets".into()));
-        }
+    if let Some(run) = one_by_one(log, &course, replayed, |at| picture.path.push(at))? {
         picture.credited = (0..course.n()).map(|t| run.credited(t)).collect();
-        title = sheet.map_or(title, |s| {
+        title = run.sheet().map_or(title, |s| {
             let end = [(s.lap, ", lap"), (s.ended, ", ended")].map(|(flag, word)| if flag { word } else { "" });
             format!("seed {}: {} of {} tiles in {} ticks{}", log.seed, s.credited, s.n, s.tick, end.concat())
         });

@@ -1,5 +1,5 @@
 //! Answers in words.
-use grader::{Answer, Refusal, Settled, Sheet};
+use grader::{Answer, Call, Refusal, Settled, Sheet};
 
 pub fn yes(flag: bool) -> &'static str {
     if flag {
@@ -13,7 +13,21 @@ pub fn refusal(r: &Refusal) -> String {
     format!("refused by {}: {r}", r.number())
 }
 
-pub fn answer(a: &Answer) -> String {
+/// A call's name in a line of answers.
+pub fn call(call: &Call) -> String {
+    match call {
+        Call::Drive { action, .. } => format!("drive {action}"),
+        Call::Settle { .. } => "settle".into(),
+    }
+}
+
+/// The answers to calls, each call with the number of its line: one line to a call.
+pub fn answers(calls: &[(usize, Call)], answers: &[Answer]) -> String {
+    let line = |((line, c), a): (&(usize, Call), &Answer)| format!("line {line}  {}  {}\n", call(c), answer(a));
+    calls.iter().zip(answers).map(line).collect()
+}
+
+fn answer(a: &Answer) -> String {
     match a {
         Answer::Forces(f) => {
             let wheels = f.map(|w| format!("{:.3} ({:.2}, {:.2})", w.motor, w.fx, w.fy));
