@@ -8,7 +8,7 @@ use native.Mathlib.Omega.{arith}
 use lib.Dec.{T, lit<, lit≤, lt→ltb}
 use lib.IntN.{ℤ, pos, negsuc}
 use lib.Pow.{pow-pos, pow-add, pow-mono, shr-lt, shl-lt}
-use lib.Ieee.{Float, nan, inf, fin, Format, binary64, up, down, unlike, mul, div, round, ofInt, lt, le, isNan}
+use lib.Ieee.{Float, nan, inf, fin, Format, binary64, up, down, unlike, mul, div, round, ofInt, toBits, lt, le, isNan}
 use lib.Ieee.Fits.{down-pos}
 use lib.Ieee.Exact.{HasValue, round-exact}
 use lib.Ieee.Back.{round-whole}
@@ -36,6 +36,10 @@ div-is-mul f k (fin s m e) =
 
 pub unit-by-mul : (draw : ℕ) → mul binary64 (ofInt binary64 (pos (draw / 2 ^ 11))) (fin false 1 (negsuc 52)) ≡ unitOf draw
 unit-by-mul draw = sym (over-two53 draw ∙ div-is-mul binary64 52 (ofInt binary64 (pos (draw / 2 ^ 11))))
+
+-- so every draw has the bits that the quotient gave it
+pub unit-bits : (draw : ℕ) → toBits binary64 (mul binary64 (ofInt binary64 (pos (draw / 2 ^ 11))) (fin false 1 (negsuc 52))) ≡ toBits binary64 (unitOf draw)
+unit-bits draw = ap (toBits binary64) (unit-by-mul draw)
 
 -- a quotient by 2^53 of a value n, rounded: the fraction n / 2^53
 div-value : (x : Float) (n : ℕ) → HasValue x false n 1 → div binary64 x (fin false 1 (pos 53)) ≡ round binary64 false n (2 ^ 53)

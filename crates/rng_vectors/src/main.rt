@@ -1,5 +1,6 @@
-// Replays SplitMix64: the published draws of the seeds 1234567 and 0, and units of four courses' seeds as
-// bit patterns. The expected lines stand in ../stdout; `host/compare/write rng` makes them from the Rust.
+// Replays SplitMix64: the published draws of the seeds 1234567 and 0, and units of four courses' seeds and of
+// chosen draws as bit patterns. The expected lines stand in ../stdout; `host/compare/write rng` makes them from
+// the Rust.
 use rng::SplitMix64;
 
 fn line(n: u64) {
@@ -36,6 +37,11 @@ fn units(seed: u32) {
     }
 }
 
+// The unit of a draw.
+fn unit(draw: u64) {
+    hex_line(f64::to_bits(rng::unit_of(draw)));
+}
+
 // A draw from lo to hi, where it is a number.
 fn uniform(g: SplitMix64, lo: f64, hi: f64) {
     let d = g.uniform(lo, hi);
@@ -56,4 +62,13 @@ fn main() {
     uniform(SplitMix64::from_seed(7), 0.0, 0.5235987755982988);
     line(rng::wrapping_mul64(18446744073709551615, 18446744073709551615));
     line(rng::wrapping_mul64(0x9E37_79B9_7F4A_7C15, 0xBF58_476D_1CE4_E5B9));
+    unit(0);
+    unit(2047);
+    unit(2048);
+    unit(4095);
+    unit(4096);
+    unit(0xCA75_EED0);
+    unit(0x8000_0000_0000_0000);
+    unit(0xFFFF_FFFF_FFFF_F800);
+    unit(0xFFFF_FFFF_FFFF_FFFF);
 }

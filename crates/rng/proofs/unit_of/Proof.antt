@@ -1,12 +1,11 @@
--- `rng::unit_of` meets its contract: a draw shifted right 11 is below 2^53, so the cast is exact.
+-- `rng::unit_of` meets its contract: a draw shifted right 11 is below 2^53, so the cast is exact; and the product by 2^−53 is the quotient.
 -- Assumes nothing.
-use mathlib.Core.Path.{refl}
 use Prim.Native.Nat.{_/_, _^_}
 use native.Mathlib.Nat.{le-of-lt}
 use lib.Dec.{le→leb}
 use lib.Pow.{shr-lt}
-use lib.Ieee.{inFloat, ofBits, ofInt}
-use Rattle.rng.specs.Rules.Unit.{unitOf}
+use lib.Ieee.{inFloat, ofBits}
+use Rattle.rng.proofs.Units.{unit-by-mul}
 use Rattle.rng.proofs.unit_of.Statement.{statement}
 use Rattle.rng.proofs.unit_of.Tie as tie
 use Rattle.rng.proofs.unit_of.Reads as reads
@@ -17,8 +16,8 @@ unfolding inFloat
 int-to-float-result c = le→leb (c .before .args .draw / 2 ^ 11) (2 ^ 53) (le-of-lt (shr-lt 53 11 (c .before .fits .draw .fits)))
 
 returns : tie.Need-returns
-unfolding unitOf ofBits ofInt
-returns c = refl
+unfolding ofBits
+returns c = unit-by-mul (c .before .args .draw)
 
 pub unit-of-spec : {M : Type 1} → statement M
 unit-of-spec = tie.close (tie.spec int-to-float-result returns)
