@@ -37,7 +37,7 @@ div-is-mul f k (fin s m e) =
 pub unit-by-mul : (draw : ℕ) → mul binary64 (ofInt binary64 (pos (draw / 2 ^ 11))) (fin false 1 (negsuc 52)) ≡ unitOf draw
 unit-by-mul draw = sym (over-two53 draw ∙ div-is-mul binary64 52 (ofInt binary64 (pos (draw / 2 ^ 11))))
 
--- so every draw has the bits that the quotient gave it
+-- so every draw has the bits that the quotient gave it; none is a NaN, whose bits would be free (`unit-not-nan`)
 pub unit-bits : (draw : ℕ) → toBits binary64 (mul binary64 (ofInt binary64 (pos (draw / 2 ^ 11))) (fin false 1 (negsuc 52))) ≡ toBits binary64 (unitOf draw)
 unit-bits draw = ap (toBits binary64) (unit-by-mul draw)
 
