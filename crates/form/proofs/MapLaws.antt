@@ -2,7 +2,7 @@
 use mathlib.Core.Bool.{Bool, true, false, cond, not, _&&_, _||_, true≢false}
 use mathlib.Core.List.{List, [], _∷_, _++_, append-assoc}
 use mathlib.Core.Path.{_≡_, refl, sym, ap, ap₂, _∙_, subst}
-use Prim.Native.Nat.{ℕ, zero, suc, _+_, _*_, _/_, _%_, _^_, _≤_}
+use Prim.Native.Nat.{ℕ, zero, suc, _+_, _*_, _/_, _%_, _^_, _≤_, _<_}
 use native.Mathlib.Nat.{pow-le-pow-right}
 use native.Mathlib.Omega.{arith}
 use lib.Dec.{eqb}
@@ -77,12 +77,15 @@ map-fits (r ∷ rs) (f ∷ fs) h = go (map-fits rs fs (h .1)) (allZero f) refl
         (shown r rs (bit true + 2 * mapOf fs) f fs (low-bit true (mapOf fs)) (h .0) (ap (λ (b : Bool). r .zeros || not b) e ∙ or-right (r .zeros)) (rest k true))
 
 -- ---- the whole form, map and fields
+pub map-in : (m : ℕ) (fs : List (List ℕ)) → m < 2 ^ mostRows → mapIn (packed m fs) ≡ m
+unfolding mapIn packed
+map-in m fs h = ap number (take-at (low 2 m) (standing m fs) 2 (low-length 2 m)) ∙ number-back 2 m (omega (arith, h))
+
 module _ (rs : List Row) (m : ℕ) (fs : List (List ℕ)) (few : length rs ≤ mostRows) (k : Fits rs m fs) where
   pub map-back : mapIn (packed m fs) ≡ m
-  unfolding mapIn packed
   map-back =
       let p : 2 ^ length rs ≤ 2 ^ mostRows = pow-le-pow-right {n = 2} (omega arith) few in
-      ap number (take-at (low 2 m) (standing m fs) 2 (low-length 2 m)) ∙ number-back 2 m (omega (arith, p, fits-small rs m fs k))
+      map-in m fs (omega (arith, p, fits-small rs m fs k))
 
   long-enough : 2 ≤ length (packed m fs)
   unfolding packed

@@ -1,6 +1,6 @@
 -- The rows of a table one after another, over fields that lie end to end. Assumes nothing.
-use Prim.Native.Nat.{ℕ, _+_, _*_, _-_, _/_, _^_, _≤_, _<_, min}
-use mathlib.Core.Path.{_≡_, refl, sym, ap, ap₂, _∙_}
+use Prim.Native.Nat.{ℕ, suc, _+_, _*_, _-_, _/_, _^_, _≤_, _<_, min}
+use mathlib.Core.Path.{_≡_, refl, sym, ap, ap₂, _∙_, subst}
 use mathlib.Core.Bool.{Bool, true, false, cond, not}
 use mathlib.Core.List.{List, [], _∷_, _++_, append-nil}
 use native.Mathlib.Nat.{pow-suc, pow-le-pow-right, mul-add, mul-assoc}
@@ -71,11 +71,18 @@ bit-small : (b : Bool) → bit b ≤ 1
 bit-small true = omega arith
 bit-small false = omega arith
 
+pub map-below : (fs : List (List ℕ)) → mapOf fs < 2 ^ length fs
+unfolding mapOf
+map-below [] = omega arith
+map-below (f ∷ fs) = omega (arith, bit-small (not (allZero f)), map-below fs, pow-suc 2 (length fs))
+
+cut-many : (ws full : List ℕ) → length (cut ws full) ≡ length ws
+unfolding cut
+cut-many [] full = refl
+cut-many (w ∷ ws) full = ap suc (cut-many ws (drop w full))
+
 pub map-small : (ws full : List ℕ) → mapOf (cut ws full) < 2 ^ length ws
-unfolding mapOf cut
-map-small [] full = omega arith
-map-small (w ∷ ws) full =
-    omega (arith, bit-small (not (allZero (take w full))), map-small ws (drop w full), pow-suc 2 (length ws))
+map-small ws full = subst (λ (k : ℕ). mapOf (cut ws full) < 2 ^ k) (cut-many ws full) (map-below (cut ws full))
 
 -- what was gathered, with one field more
 pub gathered : (all m v s r r′ : ℕ) → all ≡ m + v * r → r ≡ s + 2 * r′ → all ≡ m + v * s + v * 2 * r′
