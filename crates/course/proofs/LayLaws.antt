@@ -4,6 +4,7 @@ use native.Mathlib.Omega.{arith}
 use mathlib.Core.Path.{_≡_, refl, sym, ap, ap₂, _∙_}
 use mathlib.Core.Bool.{Bool, true, false, cond}
 use mathlib.Core.List.{List, [], _++_, append-assoc}
+use lib.Bits.{bitXor}
 use lib.Dec.{ltb}
 use lib.ListN.{length, take, drop, replicate, length-append, length-replicate, length-map, take-append-drop}
 use lib.Seq.{take-at}
@@ -16,7 +17,8 @@ use Rattle.course.specs.Rules.Tiles.{betas, xs, ys, pointsOf, tilesOf}
 use Rattle.course.specs.Grader.Course.{fromPoints, cellsOf}
 use Rattle.course.specs.Grader.Outcome.{CourseColumns, lent, Outcome, outcome, roomyOf, filled, written, laidFigures, laidAnswer, answered, layInto, laidCauseOf, laidValuesOf}
 use Rattle.course.specs.Steps.Tiles.{Roomy}
-use Rattle.course.specs.Rules.Lay.{CoursePoints, courseWithin, courseOf}
+use Rattle.rng.specs.Rules.SplitMix.{atState, seeded}
+use Rattle.course.specs.Rules.Lay.{CoursePoints, courseFrom, courseWithin, courseOf}
 use Rattle.course.specs.Grader.LayCall.{layCause, layAt, layCall}
 use Rattle.course.specs.Steps.Lay.{InFront}
 use Rattle.course.specs.declared.tiles.TrackPoint.{TrackPoint}
@@ -129,7 +131,14 @@ lay-columns seed l h =
     lay-course seed l h
     ∙ ap (λ (m : ℕ). layInto m (courseOf seed .fallback) (courseOf seed .points) l) (sym (column-laid (length (courseOf seed .points)) (omega (arith, course-sized seed .few))))
 
--- ---- the course is a function of the seed alone: what lay leaves in the stated lengths
+-- ---- the course is a function of the seed alone
+
+-- a seed of any width enters it by its generator, whose state is hexadecimal CA75EED0 xor the seed (document 02, order 3): below 2^32 as before
+pub seed-enters : (seed : ℕ) → courseOf seed ≡ courseFrom maxAttempts (atState (bitXor 0xCA75_EED0 seed))
+unfolding courseOf courseWithin seeded
+seed-enters seed = refl
+
+-- what lay leaves in the stated lengths
 filled-stated : (m : ℕ) (own c : List Float) → length own ≤ m → take m (filled m own c) ≡ own ++ replicate (m - length own) nought
 unfolding filled
 filled-stated m own c h =

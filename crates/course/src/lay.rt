@@ -131,7 +131,7 @@ fn ring_points(beta: &mut [f64], x: &mut [f64], y: &mut [f64])
 // The points of a seed's course, after so many refused attempts the ring's.
 fn generate_with_attempts(
     attempts: u32,
-    seed: u32,
+    seed: u64,
     alpha: &mut [f64],
     beta: &mut [f64],
     x: &mut [f64],
@@ -197,7 +197,7 @@ fn generate_on(
 // The course of a seed in the lent columns, with so many attempts.
 pub fn lay_attempts(
     attempts: u32,
-    seed: u32,
+    seed: u64,
     alpha: &mut [f64],
     beta: &mut [f64],
     x: &mut [f64],
@@ -234,7 +234,7 @@ pub fn lay_attempts(
 
 // The course of a seed in the lent columns.
 pub fn lay(
-    seed: u32,
+    seed: u64,
     alpha: &mut [f64],
     beta: &mut [f64],
     x: &mut [f64],

@@ -81,6 +81,15 @@ parsed-past rs qs bs fs e = go (ltb (length bs) 2) e
     go true q = absurd (subst IsBroken q tt)
     go false q = parse-past rs qs (mapIn bs) (drop 2 bs) fs q
 
+-- a field for each row
+pub parsed-many : (rs : List Row) (bs : List ℕ) (fs : List (List ℕ)) → parsed rs bs ≡ fields fs → length fs ≡ length rs
+unfolding parsed
+parsed-many rs bs fs e = go (ltb (length bs) 2) e
+  where
+    go : (b : Bool) → cond b broken (parse rs (mapIn bs) (drop 2 bs)) ≡ fields fs → length fs ≡ length rs
+    go true q = absurd (subst IsBroken q tt)
+    go false q = fits-many rs (mapIn bs) fs (parse-only rs (mapIn bs) (drop 2 bs) fs q .fits)
+
 -- ---- a bit past the table's last row
 
 -- whatever else stands, and whatever the bytes are
@@ -99,15 +108,20 @@ map-at [] k e = absurd (true≢false e)
 map-at (f ∷ fs) zero e = subst (λ (b : Bool). 1 ≤ bit (not b) + 2 * mapOf fs) (sym e) (omega arith)
 map-at (f ∷ fs) (suc k) e = omega (arith, map-at fs k e, pow-suc 2 k)
 
--- the bytes of a number that is not 0 are not all zeros
-number-none : (k : ℕ) → number (replicate k 0) ≡ 0
+-- the bytes of 0 are zeros, those of another number are not
+pub zeros-low : (k : ℕ) → allZero (low k 0) ≡ true
+unfolding low allZero
+zeros-low zero = refl
+zeros-low (suc k) = zeros-low k
+
+pub number-zeros : (k : ℕ) → number (replicate k 0) ≡ 0
 unfolding number
-number-none zero = refl
-number-none (suc k) = omega (arith, number-none k)
+number-zeros zero = refl
+number-zeros (suc k) = omega (arith, number-zeros k)
 
 pub some-byte : (k v : ℕ) → 0 < v → v < 256 ^ k → allZero (low k v) ≡ false
 some-byte k v p h = go (allZero (low k v)) refl
   where
     go : (z : Bool) → allZero (low k v) ≡ z → z ≡ false
-    go true e = absurd (omega (arith, ap number (zeros-are (low k v) e) ∙ number-none (length (low k v)), number-back k v h, p))
+    go true e = absurd (omega (arith, ap number (zeros-are (low k v) e) ∙ number-zeros (length (low k v)), number-back k v h, p))
     go false e = refl

@@ -10,6 +10,7 @@ use lib.ListN.{length, getD, take, drop, replicate, length-append, length-drop, 
 use lib.Seq.{take-at, drop-at, take-add, length-take-le}
 use borrow.Author.Tests.{le-leb, eqb-true}
 use Rattle.form.proofs.ByteLaws.{Bytes, low-length, number-back, bytes-back}
+use Rattle.form.proofs.TableLaws.{shown-length, shown-small, standing-small}
 use Rattle.form.proofs.ReadLaws.{parsed-long}
 use Rattle.form.proofs.FormLaws.{Fits, none, shown, hidden, parse-back, fits-small, stands, parse-only}
 use Rattle.form.specs.Rules.Bytes.{low, number, allZero}
@@ -35,6 +36,20 @@ unfolding mapOf allZero
 map-bit [] k = no-bit k
 map-bit (f ∷ fs) zero = low-bit (not (allZero f)) (mapOf fs)
 map-bit (f ∷ fs) (suc k) = ap (stands k) (high-bits (not (allZero f)) (mapOf fs)) ∙ map-bit fs k
+
+-- ---- a field of zeros is left out
+pub left-out : (f : List ℕ) (fs gs : List (List ℕ)) → allZero f ≡ true
+    → length (standing (mapOf (fs ++ (f ∷ gs))) (fs ++ (f ∷ gs))) + length f ≤ length (joined (fs ++ (f ∷ gs)))
+unfolding standing mapOf joined
+left-out f [] gs e =
+    let m = mapOf (f ∷ gs) in
+    let hidden = ap (λ (b : Bool). cond b f []) (low-bit (not (allZero f)) (mapOf gs) ∙ ap not e) in
+    omega (arith, length-append (cond (odd m) f []) (standing (m / 2) gs), ap length hidden, length-append f (joined gs), standing-small (m / 2) gs)
+left-out f (g ∷ fs) gs e =
+    let rest = fs ++ (f ∷ gs) in
+    let m = mapOf (g ∷ rest) in
+    let next = ap (λ (k : ℕ). length (standing k rest)) (high-bits (not (allZero g)) (mapOf rest)) in
+    omega (arith, length-append (cond (odd m) g []) (standing (m / 2) rest), shown-length (odd m) g, shown-small (odd m) (length g), next, length-append g (joined rest), left-out f fs gs e)
 
 -- ---- it fits them
 abbrev pub Sized : List Row → List (List ℕ) → Type 0

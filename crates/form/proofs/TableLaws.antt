@@ -13,7 +13,7 @@ use borrow.Author.Tests.{le-leb, lt-leb}
 use Rattle.form.proofs.ByteLaws.{low-length, store-room}
 use Rattle.form.proofs.Filling.{Filling, begins, goes-on, ends, part-on, part-least, past-least}
 use Rattle.form.specs.Rules.Bytes.{low, allZero, Leaves, leaves, store}
-use Rattle.form.specs.Rules.Form.{sum, cut, odd, bit, mapOf, standing, packed, wrote, packInto}
+use Rattle.form.specs.Rules.Form.{sum, cut, joined, odd, bit, mapOf, standing, packed, wrote, packInto}
 
 pub row-at : (ws : List ℕ) (k : ℕ) → k < length ws → drop k ws ≡ getD ws k 0 ∷ drop (k + 1) ws
 row-at ws k h = drop-cons ws k 0 h ∙ ap (λ (j : ℕ). getD ws k 0 ∷ drop j ws) (sym (add-one k))
@@ -133,6 +133,13 @@ counted b f r n m all d e l q =
 pub shown-small : (b : Bool) (n : ℕ) → cond b n 0 ≤ n
 shown-small true n = omega arith
 shown-small false n = omega arith
+
+-- what stands is no longer than all fields
+pub standing-small : (m : ℕ) (fs : List (List ℕ)) → length (standing m fs) ≤ length (joined fs)
+unfolding standing joined
+standing-small m [] = omega arith
+standing-small m (f ∷ fs) =
+    omega (arith, length-append f (joined fs), length-append (cond (odd m) f []) (standing (m / 2) fs), shown-length (odd m) f, shown-small (odd m) (length f), standing-small (m / 2) fs)
 
 -- ---- the whole form
 pub packed-length : (m : ℕ) (fs : List (List ℕ)) → length (packed m fs) ≡ 2 + length (standing m fs)

@@ -60,10 +60,10 @@ impl SplitMix64 {
     }
 
     // The generator of a course's seed.
-    pub fn from_seed(seed: u32) -> Self
+    pub fn from_seed(seed: u64) -> Self
         ensures { λ r. ⌜ r ≡ seeded seed ⌝ }
     {
-        SplitMix64::new(0xCA75_EED0 ^ (seed as u64))
+        SplitMix64::new(0xCA75_EED0 ^ seed)
     }
 
     // The state, by which `new` makes the same generator again.

@@ -12,7 +12,7 @@ use Rattle.form.proofs.MapLaws.{Sized}
 use Rattle.run.specs.Grader.Widths.{fullWords}
 use Rattle.run.specs.Grader.State.{State}
 use Rattle.run.specs.Grader.Numbers.{controlCount, poseCount, carNumbers}
-use Rattle.run.specs.Grader.Saved.{Fields, fieldsOf, flagsOf, bytesOf, fieldBytes, firstForm}
+use Rattle.run.specs.Grader.Saved.{Fields, fieldsOf, flagsOf, narrowPart, widePart, tenFields, bytesOf, fieldBytes, secondForm}
 use Rattle.run.specs.Steps.Save.{firstFields, lastFields, firstBytes, lastBytes, allBytes}
 
 -- ---- lists of fields
@@ -34,20 +34,20 @@ sized-append (w ∷ ws) vs (f ∷ fs) gs h k = (h .0, sized-append ws vs fs gs (
 -- ---- a save's fields: those before the credited tiles, these, and those behind
 
 abbrev pub firstOf : Fields → List (List ℕ)
-firstOf f = firstFields (f .seed) (f .share) (f .limit) (f .tick)
+firstOf f = firstFields (narrowPart (f .seed)) (f .share) (f .limit) (f .tick)
 
 abbrev pub lastOf : Fields → List (List ℕ)
-lastOf f = lastFields (flagsOf (f .lap) (f .ended) (f .fallback)) (f .fuel) (f .controls) (f .poses) (f .n)
+lastOf f = lastFields (flagsOf (f .lap) (f .ended) (f .fallback)) (f .fuel) (f .controls) (f .poses) (f .n) (widePart (f .seed))
 
 pub apart : (f : Fields) → bytesOf f ≡ firstOf f ++ (wordBytes (f .credited) ∷ lastOf f)
-unfolding bytesOf firstFields lastFields
+unfolding bytesOf tenFields firstFields lastFields
 apart f = refl
 
 abbrev firstWidths : List ℕ
 firstWidths = 4 ∷ 8 ∷ 4 ∷ 4 ∷ []
 
 abbrev lastWidths : List ℕ
-lastWidths = 1 ∷ 8 ∷ 8 * controlCount ∷ 8 * poseCount ∷ 2 ∷ []
+lastWidths = 1 ∷ 8 ∷ 8 * controlCount ∷ 8 * poseCount ∷ 2 ∷ 8 ∷ []
 
 pub words-long : (ws : List ℕ) (m : ℕ) → length ws ≡ m → length (wordBytes ws) ≡ 8 * m
 words-long ws m h = each-length (λ (w : ℕ). w) ws ∙ ap (λ (k : ℕ). 8 * k) h
@@ -55,15 +55,15 @@ words-long ws m h = each-length (λ (w : ℕ). w) ws ∙ ap (λ (k : ℕ). 8 * k
 pub floats-long : (xs : List Float) (m : ℕ) → length xs ≡ m → length (floatBytes xs) ≡ 8 * m
 floats-long xs m h = each-length (toBits binary64) xs ∙ ap (λ (k : ℕ). 8 * k) h
 
-first-sized : (seed : ℕ) (share : Float) (limit tick : ℕ) → Sized (rowsOf firstWidths []) (firstFields seed share limit tick)
+first-sized : (narrow : ℕ) (share : Float) (limit tick : ℕ) → Sized (rowsOf firstWidths []) (firstFields narrow share limit tick)
 unfolding firstFields rowsOf
-first-sized seed share limit tick = (low-length 4 seed, (floats-long (share ∷ []) 1 refl, (low-length 4 limit, (low-length 4 tick, tt))))
+first-sized narrow share limit tick = (low-length 4 narrow, (floats-long (share ∷ []) 1 refl, (low-length 4 limit, (low-length 4 tick, tt))))
 
-last-sized : (flags : ℕ) (fuel : Float) (controls poses : List Float) (n : ℕ) → length controls ≡ controlCount → length poses ≡ poseCount
-    → Sized (rowsOf lastWidths []) (lastFields flags fuel controls poses n)
+last-sized : (flags : ℕ) (fuel : Float) (controls poses : List Float) (n wide : ℕ) → length controls ≡ controlCount → length poses ≡ poseCount
+    → Sized (rowsOf lastWidths []) (lastFields flags fuel controls poses n wide)
 unfolding lastFields rowsOf
-last-sized flags fuel controls poses n c p =
-    (low-length 1 flags, (floats-long (fuel ∷ []) 1 refl, (floats-long controls controlCount c, (floats-long poses poseCount p, (low-length 2 n, tt)))))
+last-sized flags fuel controls poses n wide c p =
+    (low-length 1 flags, (floats-long (fuel ∷ []) 1 refl, (floats-long controls controlCount c, (floats-long poses poseCount p, (low-length 2 n, (low-length 8 wide, tt))))))
 
 -- fields of m words, with the numbers of four wheels
 pub record Whole (m : ℕ) (f : Fields) : Type 0 where
@@ -72,13 +72,13 @@ pub record Whole (m : ℕ) (f : Fields) : Type 0 where
   pub poses : length (f .poses) ≡ poseCount
 
 last-of : (m : ℕ) (f : Fields) → Whole m f → Sized (rowsOf lastWidths []) (lastOf f)
-last-of m f h = last-sized (flagsOf (f .lap) (f .ended) (f .fallback)) (f .fuel) (f .controls) (f .poses) (f .n) (h .controls) (h .poses)
+last-of m f h = last-sized (flagsOf (f .lap) (f .ended) (f .fallback)) (f .fuel) (f .controls) (f .poses) (f .n) (widePart (f .seed)) (h .controls) (h .poses)
 
-pub bytes-sized : (m : ℕ) (f : Fields) → Whole m f → Sized (firstForm m) (bytesOf f)
+pub bytes-sized : (m : ℕ) (f : Fields) → Whole m f → Sized (secondForm m) (bytesOf f)
 unfolding rowsOf fieldBytes
 bytes-sized m f h =
-    subst (Sized (firstForm m)) (sym (apart f))
-    (sized-append firstWidths (8 * m ∷ lastWidths) (firstOf f) (wordBytes (f .credited) ∷ lastOf f) (first-sized (f .seed) (f .share) (f .limit) (f .tick))
+    subst (Sized (secondForm m)) (sym (apart f))
+    (sized-append firstWidths (8 * m ∷ lastWidths) (firstOf f) (wordBytes (f .credited) ∷ lastOf f) (first-sized (narrowPart (f .seed)) (f .share) (f .limit) (f .tick))
     (words-long (f .credited) m (h .credited), last-of m f h))
 
 -- a state's are whole where its sets and poses are
@@ -90,7 +90,7 @@ state-whole m s c p = record { credited = c; controls = refl; poses = p }
 
 pub first-length : (f : Fields) → length (joined (firstOf f)) ≡ firstBytes
 unfolding sum
-first-length f = sized-length firstWidths [] (firstOf f) (first-sized (f .seed) (f .share) (f .limit) (f .tick))
+first-length f = sized-length firstWidths [] (firstOf f) (first-sized (narrowPart (f .seed)) (f .share) (f .limit) (f .tick))
 
 pub last-length : (f : Fields) → Whole fullWords f → length (joined (lastOf f)) ≡ lastBytes
 unfolding sum

@@ -25,3 +25,4 @@ pub mod SavedExamples
 pub mod SaveLaws
 pub mod LoadLaws
 pub mod RestoreLaws
+pub mod FirstReader

@@ -19,9 +19,10 @@ use Rattle.form.proofs.FormLaws.{Fits, none, shown, hidden, parse-only}
 use Rattle.form.proofs.MapLaws.{Sized, cut-joined}
 use Rattle.run.specs.Grader.Widths.{fullWords}
 use Rattle.run.specs.Grader.Numbers.{controlCount}
-use Rattle.run.specs.Grader.Saved.{Fields, fieldBytes, firstForm, fieldAt, floatIn, fieldsFrom, soundFields, Loaded, loadedFrom, loaded}
+use Rattle.run.specs.Grader.Saved.{Fields, fieldBytes, secondForm, fieldAt, floatIn, fieldsWith, seedFrom, fieldsFrom, seedsOk, soundFields, Loaded, loadedFrom, loaded}
 use Rattle.run.specs.Grader.Saved.Loaded.{kept, notKept}
-use Rattle.run.specs.Steps.Load.{savedField, fieldsAs, loadedAs}
+use Rattle.run.specs.Steps.Load.{savedField, seedsRead, fieldsAs, loadedAs}
+use Rattle.run.specs.declared.saved.SeedParts.{SeedParts}
 use Rattle.run.specs.declared.load.Fields.{Fields as CodeFields}
 use Rattle.run.proofs.FieldSizes.{all-bytes}
 
@@ -90,6 +91,14 @@ module _ (full : List ℕ) where
   unfolding fieldBytes sum
   lies-9 = cut-at (fieldBytes fullWords) full 9
 
+  lies-10 : Lies full 10 639 8
+  unfolding fieldBytes sum
+  lies-10 = cut-at (fieldBytes fullWords) full 10
+
+  -- the seed's two fields
+  pub seeds-read : (p : SeedParts) → p .narrow ≡ number (take 4 (drop 0 full)) → p .wide ≡ number (take 8 (drop 639 full)) → p ≡ seedsRead (savedField full 0) (savedField full 10)
+  seeds-read p a b = let a′ = a ∙ ap number (sym lies-0) in let b′ = b ∙ ap number (sym lies-10) in λ i. record { narrow = a′ i; wide = b′ i }
+
   -- the byte of the flags
   flags-byte : length full ≡ sum (fieldBytes fullWords) → number (savedField full 5) ≡ getD full 340 0
   unfolding number
@@ -99,18 +108,17 @@ module _ (full : List ℕ) where
       ap number (lies-5 ∙ ap (take 1) (drop-cons full 340 0 (omega (arith, h, all-bytes)))) ∙ e
 
   -- what is read of each field, put together
-  pub fields-read : (f : CodeFields) (flags : ℕ) → f .seed ≡ number (take 4 (drop 0 full)) → f .share ≡ floatIn (take 8 (drop 4 full)) → f .limit ≡ number (take 4 (drop 12 full))
+  pub fields-read : (f : CodeFields) (flags : ℕ) → f .share ≡ floatIn (take 8 (drop 4 full)) → f .limit ≡ number (take 4 (drop 12 full))
       → f .tick ≡ number (take 4 (drop 16 full)) → f .credited ≡ eachFrom (λ (w : ℕ). w) fullWords (savedField full 4) → flags ≡ number (take 1 (drop 340 full))
       → f .lap ≡ eqb (flags % 2) 1 → f .ended ≡ eqb (flags / 2 % 2) 1 → f .fallback ≡ eqb (flags / 4 % 2) 1
       → f .car ≡ floatsFrom controlCount (savedField full 7) ++ (floatIn (savedField full 6) ∷ []) → f .poses ≡ floatsFrom 16 (savedField full 8)
-      → f .n ≡ number (take 2 (drop 637 full)) → fieldsAs f ≡ fieldsFrom fullWords (cut (fieldBytes fullWords) full)
-  unfolding fieldsFrom
-  fields-read f flags seed share limit tick credited byte lap ended fallback car poses n =
+      → f .n ≡ number (take 2 (drop 637 full)) → fieldsAs f ≡ fieldsWith (f .seed) fullWords (cut (fieldBytes fullWords) full)
+  unfolding fieldsWith
+  fields-read f flags share limit tick credited byte lap ended fallback car poses n =
       let flag : flags ≡ number (savedField full 5) = byte ∙ ap number (sym lies-5) in
       let controls = floatsFrom controlCount (savedField full 7) in
       let fuel = floatIn (savedField full 6) in
       let long : length controls ≡ controlCount = from-length (ofBits binary64) controlCount (savedField full 7) in
-      let seed′ = seed ∙ ap number (sym lies-0) in
       let share′ = share ∙ ap (λ (l : List ℕ). floatIn l) (sym lies-1) in
       let limit′ = limit ∙ ap number (sym lies-2) in
       let tick′ = tick ∙ ap number (sym lies-3) in
@@ -121,7 +129,7 @@ module _ (full : List ℕ) where
       let controls′ = ap (take controlCount) car ∙ take-at controls (fuel ∷ []) controlCount long in
       let n′ = n ∙ ap number (sym lies-9) in
       (λ i. record {
-        seed = seed′ i;
+        seed = f .seed;
         share = share′ i;
         limit = limit′ i;
         tick = tick′ i;
@@ -155,21 +163,25 @@ parsed-sized rs bs fs e = go (ltb (length bs) 2) e
     go false q = fits-sized rs (mapIn bs) fs (parse-only rs (mapIn bs) (drop 2 bs) fs q .fits)
 
 module _ (m most : ℕ) (bs : List ℕ) where
+  -- the tests of fields
+  abbrev passed : List (List ℕ) → Bool
+  passed fs = ltb (number (fieldAt fs 5)) 8 && (seedsOk (number (fieldAt fs 0)) (number (fieldAt fs 10)) && soundFields most (fieldsFrom m fs))
+
   -- what was read, with its tests, is what the bytes say
   abbrev Tested : Bool → List (List ℕ) → Loaded
-  Tested ok fs = cond (ok && (ltb (number (fieldAt fs 5)) 8 && soundFields most (fieldsFrom m fs))) (kept (fieldsFrom m fs)) notKept
+  Tested ok fs = cond (ok && passed fs) (kept (fieldsFrom m fs)) notKept
 
   read-loaded : (full to : List ℕ) (ok : Bool) (map : ℕ) → sum (fieldBytes m) ≤ length to → read ok map full ≡ unpackInto (fieldBytes m) [] bs to
       → Tested ok (cut (fieldBytes m) full) ≡ loaded m most bs
   unfolding unpackInto loaded loadedFrom
   read-loaded full to ok map room e =
-      go (parsed (firstForm m) bs) refl
-      (e ∙ ap (λ (b : Bool). cond b (readFields (parsed (firstForm m) bs) (mapIn bs) to) (read false 0 to)) (le-leb (sum (fieldBytes m)) (length to) room))
+      go (parsed (secondForm m) bs) refl
+      (e ∙ ap (λ (b : Bool). cond b (readFields (parsed (secondForm m) bs) (mapIn bs) to) (read false 0 to)) (le-leb (sum (fieldBytes m)) (length to) room))
     where
-      go : (p : Parsed) → parsed (firstForm m) bs ≡ p → read ok map full ≡ readFields p (mapIn bs) to → Tested ok (cut (fieldBytes m) full) ≡ loadedFrom m most p
+      go : (p : Parsed) → parsed (secondForm m) bs ≡ p → read ok map full ≡ readFields p (mapIn bs) to → Tested ok (cut (fieldBytes m) full) ≡ loadedFrom m most p
       go (fields fs) q r =
           ap₂ Tested (ap (λ (x : Read). x .ok) r)
-          (ap (λ (x : Read). cut (fieldBytes m) (x .full)) r ∙ cut-joined (fieldBytes m) [] fs (drop (length (joined fs)) to) (parsed-sized (firstForm m) bs fs q))
+          (ap (λ (x : Read). cut (fieldBytes m) (x .full)) r ∙ cut-joined (fieldBytes m) [] fs (drop (length (joined fs)) to) (parsed-sized (secondForm m) bs fs q))
       go broken q r = ap (λ (x : Read). Tested (x .ok) (cut (fieldBytes m) full)) r
 
   abbrev IsKept : Loaded → Type 0
@@ -183,26 +195,31 @@ module _ (m most : ℕ) (bs : List ℕ) where
   -- what is kept is sound
   pub kept-sound : (f : Fields) → loaded m most bs ≡ kept f → soundFields most f ≡ true
   unfolding loaded loadedFrom
-  kept-sound f e = go (parsed (firstForm m) bs) e
+  kept-sound f e = go (parsed (secondForm m) bs) e
     where
-      tested : (fs : List (List ℕ)) (b : Bool) → (ltb (number (fieldAt fs 5)) 8 && soundFields most (fieldsFrom m fs)) ≡ b → cond b (kept (fieldsFrom m fs)) notKept ≡ kept f
-          → soundFields most f ≡ true
+      tested : (fs : List (List ℕ)) (b : Bool) → passed fs ≡ b → cond b (kept (fieldsFrom m fs)) notKept ≡ kept f → soundFields most f ≡ true
       tested fs true q r =
-          ap (soundFields most) (sym (ap (fieldsIn f) r)) ∙ and-right (ltb (number (fieldAt fs 5)) 8) (soundFields most (fieldsFrom m fs)) q
+          ap (soundFields most) (sym (ap (fieldsIn f) r))
+          ∙ and-right (seedsOk (number (fieldAt fs 0)) (number (fieldAt fs 10))) (soundFields most (fieldsFrom m fs)) (and-right (ltb (number (fieldAt fs 5)) 8) _ q)
       tested fs false q r = absurd (subst IsKept (sym r) tt)
 
       go : (p : Parsed) → loadedFrom m most p ≡ kept f → soundFields most f ≡ true
-      go (fields fs) q = tested fs (ltb (number (fieldAt fs 5)) 8 && soundFields most (fieldsFrom m fs)) refl q
+      go (fields fs) q = tested fs (passed fs) refl q
       go broken q = absurd (subst IsKept (sym q) tt)
 
 -- the same of the code's values
-pub load-is : (most : ℕ) (bs full to ws : List ℕ) (ok sound : Bool) (map : ℕ) (f : CodeFields) → length full ≡ sum (fieldBytes fullWords) → sum (fieldBytes fullWords) ≤ length to → ws ≡ fieldBytes fullWords
-    → read ok map full ≡ unpackInto ws [] bs to → fieldsAs f ≡ fieldsFrom fullWords (cut (fieldBytes fullWords) full) → sound ≡ soundFields most (fieldsAs f)
-    → loadedAs (ok && (ltb (getD full 340 0) 8 && sound)) f ≡ loaded fullWords most bs
-load-is most bs full to ws ok sound map f long room table e fs q =
+pub load-is : (most : ℕ) (bs full to ws : List ℕ) (ok one sound : Bool) (map seed : ℕ) (p : SeedParts) (f : CodeFields) → length full ≡ sum (fieldBytes fullWords) → sum (fieldBytes fullWords) ≤ length to → ws ≡ fieldBytes fullWords
+    → read ok map full ≡ unpackInto ws [] bs to → p ≡ seedsRead (savedField full 0) (savedField full 10) → seed ≡ seedFrom (p .narrow) (p .wide)
+    → fieldsAs f ≡ fieldsWith seed fullWords (cut (fieldBytes fullWords) full) → one ≡ seedsOk (p .narrow) (p .wide) → sound ≡ soundFields most (fieldsAs f)
+    → loadedAs (ok && (ltb (getD full 340 0) 8 && (one && sound))) f ≡ loaded fullWords most bs
+unfolding fieldsFrom
+load-is most bs full to ws ok one sound map seed p f long room table e parts s fs o q =
+    let cuts = cut (fieldBytes fullWords) full in
     let flags = sym (flags-byte full long) in
-    let tested = q ∙ ap (soundFields most) fs in
-    (λ i. cond (ok && (ltb (flags i) 8 && tested i)) (kept (fs i)) notKept)
+    let all = fs ∙ ap (λ (k : ℕ). fieldsWith k fullWords cuts) (s ∙ ap (λ (x : SeedParts). seedFrom (x .narrow) (x .wide)) parts) in
+    let single = o ∙ ap (λ (x : SeedParts). seedsOk (x .narrow) (x .wide)) parts in
+    let tested = q ∙ ap (soundFields most) all in
+    (λ i. cond (ok && (ltb (flags i) 8 && (single i && tested i))) (kept (all i)) notKept)
     ∙ read-loaded fullWords most bs full to ok map room (e ∙ ap (λ (l : List ℕ). unpackInto l [] bs to) table)
 
 pub not-loaded : (ok : Bool) (f : CodeFields) {r : Loaded} → ok ≡ false → loadedAs ok f ≡ r → notKept ≡ r

@@ -1,5 +1,5 @@
 -- A save: its fields put one after the other, how long its form is, and what it answers. Assumes nothing.
-use mathlib.Core.Bool.{Bool, cond}
+use mathlib.Core.Bool.{Bool, true, false, cond}
 use mathlib.Core.List.{List, [], _∷_, _++_, append-assoc, append-nil}
 use mathlib.Core.Path.{_≡_, refl, sym, ap, ap₂, _∙_, subst}
 use Prim.Native.Nat.{ℕ, zero, suc, _+_, _*_, _-_, _/_, _≤_}
@@ -9,40 +9,46 @@ use lib.ListN.{length, take, drop, length-append}
 use lib.Ieee.{Float}
 use borrow.Author.Tests.{ltb-false}
 use Rattle.course.proofs.BoolLaws.{cleared}
-use Rattle.form.specs.Rules.Bytes.{wordBytes, leaves, store}
-use Rattle.form.specs.Rules.Form.{sum, cut, joined, odd, mostRows, mapOf, standing, packed, Wrote, wrote, packInto}
-use Rattle.form.proofs.ByteLaws.{stored-whole}
+use Rattle.form.specs.Rules.Bytes.{low, allZero, wordBytes, leaves, store}
+use Rattle.form.specs.Rules.Form.{cut, joined, mostRows, mapOf, standing, packed, Wrote, wrote, packInto}
+use Rattle.form.proofs.ByteLaws.{low-length, stored-whole}
 use Rattle.form.proofs.Filling.{Filling, begins, part-on, part-long, ends-whole}
-use Rattle.form.proofs.TableLaws.{packed-length, pack-room, shown-length, shown-small}
-use Rattle.form.proofs.MapLaws.{cut-joined}
+use Rattle.form.proofs.TableLaws.{packed-length, pack-room}
+use Rattle.form.proofs.MapLaws.{left-out, cut-joined}
+use Rattle.form.proofs.LaterRows.{zeros-low}
 use Rattle.run.specs.Rules.Arguments.{saveRoom}
 use Rattle.run.specs.Grader.Widths.{fullWords}
 use Rattle.run.specs.Grader.State.{State, unfit}
-use Rattle.run.specs.Grader.Saved.{Fields, fieldsOf, flagsOf, bytesOf, fieldBytes, savedForm}
+use Rattle.run.specs.Grader.Saved.{Fields, fieldsOf, flagsOf, wideSeed, narrowPart, widePart, tenFields, bytesOf, fieldBytes, savedForm}
 use Rattle.run.specs.Grader.Save.{saveAnswer, saveCause, afterSave, saveAt, saveOf}
-use Rattle.run.specs.Steps.Save.{lastFields, firstBytes, allBytes}
+use Rattle.run.specs.Steps.Save.{seedParts, firstFields, lastFields, firstBytes, allBytes}
+use Rattle.run.specs.declared.saved.SeedParts.{SeedParts}
 use Rattle.run.specs.declared.save.SaveAnswer.the-variants.{Saved, Refused}
-use Rattle.run.proofs.FieldSizes.{firstOf, lastOf, apart, words-long, Whole, bytes-sized, sized-length, first-length, last-length}
+use Rattle.run.proofs.FieldSizes.{firstOf, lastOf, apart, words-long, Whole, bytes-sized, sized-length, first-length, last-length, all-bytes}
 
 -- ---- how long
 
-standing-small : (m : ℕ) (fs : List (List ℕ)) → length (standing m fs) ≤ length (joined fs)
-unfolding standing joined
-standing-small m [] = omega arith
-standing-small m (f ∷ fs) =
-    omega (arith, length-append f (joined fs), length-append (cond (odd m) f []) (standing (m / 2) fs), shown-length (odd m) f, shown-small (odd m) (length f), standing-small (m / 2) fs)
+-- of the seed's two fields one is zeros, and left out
+seed-left-out : (f : Fields) → length (standing (mapOf (bytesOf f)) (bytesOf f)) + 4 ≤ length (joined (bytesOf f))
+unfolding bytesOf tenFields narrowPart widePart
+seed-left-out f = go (ltb (f .seed) wideSeed) refl
+  where
+    narrow : ℕ
+    narrow = narrowPart (f .seed)
 
--- the room of a save is that of the map and all fields
-save-room : saveRoom ≡ 2 + sum (fieldBytes fullWords)
-unfolding sum fieldBytes
-save-room = refl
+    wide : ℕ
+    wide = widePart (f .seed)
 
--- and no form is longer
+    go : (b : Bool) → ltb (f .seed) wideSeed ≡ b → length (standing (mapOf (bytesOf f)) (bytesOf f)) + 4 ≤ length (joined (bytesOf f))
+    go true e = omega (arith, left-out (low 8 wide) (tenFields narrow f) [] (ap (λ (b : Bool). allZero (low 8 (cond b 0 (f .seed)))) e ∙ zeros-low 8), low-length 8 wide)
+    go false e = omega (arith, left-out (low 4 narrow) [] (drop 1 (bytesOf f)) (ap (λ (b : Bool). allZero (low 4 (cond b (f .seed) 0))) e ∙ zeros-low 4), low-length 4 narrow)
+
+-- so the room of a save is that of the map and of all fields but four bytes: no form is longer
 form-small : (f : Fields) → Whole fullWords f → length (savedForm f) ≤ saveRoom
 unfolding savedForm
 form-small f h =
     let fs = bytesOf f in
-    omega (arith, packed-length (mapOf fs) fs, standing-small (mapOf fs) fs, sized-length (fieldBytes fullWords) [] fs (bytes-sized fullWords f h), save-room)
+    omega (arith, packed-length (mapOf fs) fs, seed-left-out f, sized-length (fieldBytes fullWords) [] fs (bytes-sized fullWords f h), all-bytes)
 
 -- ---- fields written one after the other
 
@@ -80,15 +86,21 @@ abbrev setEnd : ℕ
 setEnd = firstBytes + 8 * fullWords
 
 -- all fields of a run are there once those before the credited tiles, these, and those behind are put
-pub fields-put : (f : Fields) (full p q v : List ℕ) (r : Bool) (flags : ℕ) (controls : List Float) → Whole fullWords f → length full ≡ allBytes → p ≡ joined (firstOf f)
+pub fields-put : (f : Fields) (full p q v : List ℕ) (r : Bool) (seed : SeedParts) (flags : ℕ) (controls : List Float) → Whole fullWords f → length full ≡ allBytes
+    → seed ≡ seedParts (f .seed) → p ≡ joined (firstFields (seed .narrow) (f .share) (f .limit) (f .tick))
     → leaves r q ≡ store (wordBytes (f .credited)) (take (setEnd - firstBytes) (drop firstBytes (withPart full 0 firstBytes p)))
-    → flags ≡ flagsOf (f .lap) (f .ended) (f .fallback) → controls ≡ f .controls → v ≡ joined (lastFields flags (f .fuel) controls (f .poses) (f .n))
+    → flags ≡ flagsOf (f .lap) (f .ended) (f .fallback) → controls ≡ f .controls → v ≡ joined (lastFields flags (f .fuel) controls (f .poses) (f .n) (seed .wide))
     → withPart (withPart (withPart full 0 firstBytes p) firstBytes setEnd q) setEnd allBytes v ≡ joined (bytesOf f)
-fields-put f full p q v r flags controls h n a b x y z =
+unfolding seedParts
+fields-put f full p q v r seed flags controls h n s a b x y z =
     let words = wordBytes (f .credited) in
-    let last : v ≡ joined (lastOf f) = z ∙ ap₂ (λ (k : ℕ) (l : List Float). joined (lastFields k (f .fuel) l (f .poses) (f .n))) x y in
+    let first : p ≡ joined (firstOf f) = a ∙ ap (λ (t : SeedParts). joined (firstFields (t .narrow) (f .share) (f .limit) (f .tick))) s in
+    let last : v ≡ joined (lastOf f) =
+    z
+    ∙ ap₂ (λ (k : ℕ) (l : List Float). joined (lastFields k (f .fuel) l (f .poses) (f .n) (seed .wide))) x y
+    ∙ ap (λ (t : SeedParts). joined (lastFields (flagsOf (f .lap) (f .ended) (f .fallback)) (f .fuel) (f .controls) (f .poses) (f .n) (t .wide))) s in
     let k0 = begins full (joined (bytesOf f)) (joined (firstOf f ++ (words ∷ lastOf f))) (ap joined (sym (apart f))) in
-    let k1 = fields-on (firstOf f) (words ∷ lastOf f) p firstBytes k0 a (first-length f) (omega arith) (omega (arith, n)) in
+    let k1 = fields-on (firstOf f) (words ∷ lastOf f) p firstBytes k0 first (first-length f) (omega arith) (omega (arith, n)) in
     let k2 = field-on words (lastOf f) q setEnd r k1 b (words-long (f .credited) fullWords (h .credited)) (omega arith) (omega (arith, n)) in
     let e = ap joined (sym (append-nil (lastOf f))) in
     let k3 = subst (Filling (withPart (withPart full 0 firstBytes p) firstBytes setEnd q) full (joined (bytesOf f)) setEnd) e k2 in

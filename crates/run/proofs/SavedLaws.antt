@@ -1,6 +1,6 @@
--- Document 02, order 1: what a save keeps is read back from its bytes; and sets of tiles below n are carried, pass the test of a restore, and have as
+-- Document 02, orders 1 and 3: what a save keeps is read back from its bytes; and sets of tiles below n are carried, pass the test of a restore, and have as
 -- many bits as tiles. For sets of any number of words. Assumes nothing.
-use mathlib.Core.Bool.{Bool, true, false, cond, _&&_}
+use mathlib.Core.Bool.{Bool, true, false, cond, _&&_, _||_}
 use mathlib.Core.List.{List, [], _∷_}
 use mathlib.Core.Path.{_≡_, refl, sym, ap, ap₂, _∙_}
 use Prim.Native.Nat.{ℕ, zero, suc, _+_, _*_, _/_, _^_, _≤_, _<_}
@@ -8,7 +8,7 @@ use native.Mathlib.Omega.{arith}
 use lib.Dec.{T, ltb}
 use lib.ListN.{length}
 use lib.Ieee.{Float, binary64, fits}
-use borrow.Author.Tests.{lt-ltb}
+use borrow.Author.Tests.{lt-ltb, ltb-true, ltb-false, ne-eqb, le-leb}
 use Rattle.course.specs.Rules.Tiles.{numberAt}
 use Rattle.form.specs.Rules.Bytes.{low, number, wordBytes, floatBytes, wordsFrom, floatsFrom}
 use Rattle.form.specs.Rules.Form.{odd, rowsOf, mostRows, mapOf}
@@ -18,7 +18,7 @@ use Rattle.form.proofs.MapLaws.{map-fits, form-back}
 use Rattle.run.specs.Rules.Below.{howMany}
 use Rattle.run.specs.Grader.Words.{member, setOf}
 use Rattle.run.specs.Grader.Numbers.{poseCount, controlCount}
-use Rattle.run.specs.Grader.Saved.{Fields, flagsOf, bytesOf, fieldBytes, savedForm, firstForm, fieldsFrom, allBelow, soundFields, loadedFrom, loaded}
+use Rattle.run.specs.Grader.Saved.{Fields, flagsOf, wideSeed, narrowPart, widePart, tenFields, bytesOf, fieldBytes, savedForm, secondForm, fieldsWith, seedFrom, fieldsFrom, seedsOk, allBelow, soundFields, loadedFrom, loaded}
 use Rattle.run.specs.Grader.Saved.Loaded.{kept, notKept}
 use Rattle.run.specs.Grader.Restore.{bitCount}
 use Rattle.run.proofs.WordLaws.{word-lt, length-setOf, member-setOf, howMany-cong}
@@ -28,7 +28,7 @@ use Rattle.run.proofs.BelowLaws.{below, below-in, below-out, howMany-wi
 
 -- ---- values that bytes can carry
 pub record Carried (m : ℕ) (f : Fields) : Type 0 where
-  pub seed : f .seed < 256 ^ 4
+  pub seed : f .seed < 256 ^ 8
   pub limit : f .limit < 256 ^ 4
   pub tick : f .tick < 256 ^ 4
   pub n : f .n < 256 ^ 2
@@ -77,14 +77,38 @@ floats-of k xs e h = ap (λ (j : ℕ). floatsFrom j (floatBytes xs)) (sym e) ∙
 one-float : (x : Float) → T (fits binary64 x) → numberAt (floatsFrom 1 (floatBytes (x ∷ []))) 0 ≡ x
 one-float x h = ap (λ (l : List Float). numberAt l 0) (floats-of 1 (x ∷ []) refl (h, tt))
 
--- ---- all ten fields
+-- ---- the seed, in one of its two fields
+record SeedBack (seed narrow wide : ℕ) : Type 0 where
+  pub value : seedFrom narrow wide ≡ seed
+  pub alone : seedsOk narrow wide ≡ true
+
+seed-back : (seed : ℕ) → seed < 256 ^ 8 → SeedBack seed (number (low 4 (narrowPart seed))) (number (low 8 (widePart seed)))
+unfolding narrowPart widePart seedFrom seedsOk
+seed-back seed h = go (ltb seed wideSeed) refl
+  where
+    go : (b : Bool) → ltb seed wideSeed ≡ b → SeedBack seed (number (low 4 (cond b seed 0))) (number (low 8 (cond b 0 seed)))
+    go true e =
+        let small = ltb-true seed wideSeed e in
+        let wide = number-back 8 0 (omega arith) in
+        record { value = ap₂ seedFrom (number-back 4 seed (omega (arith, small))) wide; alone = ap (seedsOk (number (low 4 seed))) wide }
+    go false e =
+        let large = ltb-false seed wideSeed e in
+        let narrow = number-back 4 0 (omega arith) in
+        let wide = number-back 8 seed h in
+        let some = ne-eqb seed 0 (λ z. omega (arith, large, z)) in
+        record {
+          value = ap₂ seedFrom narrow wide ∙ ap (λ (b : Bool). cond b 0 seed) some;
+          alone = ap₂ seedsOk narrow wide ∙ ap₂ (λ (a b : Bool). a || (true && b)) some (le-leb wideSeed seed large);
+        }
+
+-- ---- all fields
 pub fields-back : (m : ℕ) (f : Fields) → Carried m f → fieldsFrom m (bytesOf f) ≡ f
-unfolding fieldsFrom bytesOf
+unfolding fieldsFrom fieldsWith bytesOf tenFields
 fields-back m f k =
     let g = flags-back (f .lap) (f .ended) (f .fallback) in
     let t = three (f .lap) (f .ended) (f .fallback) in
     λ i. record {
-      seed = number-back 4 (f .seed) (k .seed) i;
+      seed = seed-back (f .seed) (k .seed) .value i;
       share = one-float (f .share) (k .share) i;
       limit = number-back 4 (f .limit) (k .limit) i;
       tick = number-back 4 (f .tick) (k .tick) i;
@@ -101,7 +125,7 @@ fields-back m f k =
 carried-whole : (m : ℕ) (f : Fields) → Carried m f → Whole m f
 carried-whole m f k = record { credited = k .many; controls = k .wheels; poses = k .four }
 
-few-rows : (m : ℕ) → length (firstForm m) ≤ mostRows
+few-rows : (m : ℕ) → length (secondForm m) ≤ mostRows
 unfolding rowsOf fieldBytes
 few-rows m = omega arith
 
@@ -110,16 +134,19 @@ flags-known f = ap (λ (x : ℕ). ltb x 8) (flags-back (f .lap) (f .ended) (f .f
 
 -- ---- the whole form
 pub loaded-back : (m most : ℕ) (f : Fields) → Carried m f → soundFields most f ≡ true → loaded m most (savedForm f) ≡ kept f
-unfolding loaded loadedFrom savedForm bytesOf
+unfolding loaded loadedFrom savedForm bytesOf tenFields
 loaded-back m most f k e =
-    ap (loadedFrom m most) (form-back (firstForm m) (mapOf (bytesOf f)) (bytesOf f) (few-rows m) (map-fits (firstForm m) (bytesOf f) (bytes-sized m f (carried-whole m f k))))
-    ∙ ap (λ (r : Fields). cond (ltb (number (low 1 (flagsOf (f .lap) (f .ended) (f .fallback)))) 8 && soundFields most r) (kept r) notKept) (fields-back m f k)
-    ∙ ap₂ (λ (a b : Bool). cond (a && b) (kept f) notKept) (flags-known f) e
+    let flags = number (low 1 (flagsOf (f .lap) (f .ended) (f .fallback))) in
+    let one = seedsOk (number (low 4 (narrowPart (f .seed)))) (number (low 8 (widePart (f .seed)))) in
+    ap (loadedFrom m most) (form-back (secondForm m) (mapOf (bytesOf f)) (bytesOf f) (few-rows m) (map-fits (secondForm m) (bytesOf f) (bytes-sized m f (carried-whole m f k))))
+    ∙ ap (λ (r : Fields). cond (ltb flags 8 && (one && soundFields most r)) (kept r) notKept) (fields-back m f k)
+    ∙ ap₂ (λ (a b : Bool). cond (a && (b && soundFields most f)) (kept f) notKept) (flags-known f) (seed-back (f .seed) (k .seed) .alone)
+    ∙ ap (λ (b : Bool). cond b (kept f) notKept) e
 
 -- no bytes are no saved form
 pub none-loaded : (m most : ℕ) → loaded m most [] ≡ notKept
 unfolding loaded loadedFrom
-none-loaded m most = ap (loadedFrom m most) (parsed-short (firstForm m) [] (omega arith))
+none-loaded m most = ap (loadedFrom m most) (parsed-short (secondForm m) [] (omega arith))
 
 -- ---- sets of tiles below n
 pub small-set : (m : ℕ) (p : ℕ → Bool) → All Word (setOf m p)

@@ -1,4 +1,4 @@
-// What saved bytes say of a run, or that they are refused (document 02, order 1, cause 11).
+// What saved bytes say of a run, or that they are refused (document 02, orders 1 and 3, cause 11).
 ghost use mathlib.Core.Path.{_≡_};
 ghost use mathlib.Core.List.{[], _∷_, _++_};
 ghost use Prim.Native.Nat.{_+_, _≤_};
@@ -7,13 +7,14 @@ ghost use Rattle.form.specs.Rules.Bytes.{number, wordsFrom, floatsFrom};
 ghost use Rattle.form.specs.Rules.Form.{sum, cut};
 ghost use Rattle.run.specs.Grader.Widths.{fullWords, mostTiles};
 ghost use Rattle.run.specs.Grader.Numbers.{controlCount, poseCount};
-ghost use Rattle.run.specs.Grader.Saved.{fieldBytes, fieldAt, floatIn, fieldsFrom, soundFields, loaded};
-ghost use Rattle.run.specs.Steps.Load.{fieldsAs, loadedAs, savedField};
+ghost use Rattle.run.specs.Grader.Saved.{fieldBytes, fieldAt, floatIn, fieldsWith, soundFields, loaded};
+ghost use Rattle.run.specs.Steps.Load.{seedsRead, fieldsAs, loadedAs, savedField};
 use crate::numbers;
 use crate::numbers::CAR_NUMBERS;
 use crate::numbers::POSE_NUMBERS;
 use crate::saved;
 use crate::saved::ALL_BYTES;
+use crate::saved::SeedParts;
 use crate::start;
 use crate::state;
 use crate::widths::FULL_WORDS;
@@ -47,9 +48,11 @@ const POSES_AT: usize = CONTROLS_AT + 8 * CONTROL_NUMBERS;
 
 const COUNT_AT: usize = POSES_AT + 8 * POSE_NUMBERS;
 
+const WIDE_SEED_AT: usize = COUNT_AT + 2;
+
 // What a save keeps of a run: controls and fuel as a car's numbers.
 pub(crate) struct Fields {
-    pub seed: u32,
+    pub seed: u64,
     pub share: f64,
     pub limit: u32,
     pub tick: u32,
@@ -120,12 +123,20 @@ fn poses_in(full: &[u8]) -> [f64; POSE_NUMBERS]
     poses
 }
 
-// The fields as they lie end to end.
-fn fields_in(full: &[u8]) -> Fields
-    requires { ⌜ length (now full) ≡ sum (fieldBytes fullWords) ⌝ }
-    ensures { λ r. ⌜ fieldsAs r ≡ fieldsFrom fullWords (cut (fieldBytes fullWords) (now (full .entry))) ⌝ }
+// The seed's two fields, 0 and 10.
+fn seeds_in(full: &[u8]) -> SeedParts
+    ensures { λ r. ⌜ r ≡ seedsRead (savedField (now (full .entry)) 0) (savedField (now (full .entry)) 10) ⌝ }
 {
-    let seed = four_at(full, SEED_AT);
+    let narrow = number::number_at(full, SEED_AT, 4);
+    let wide = number::number_at(full, WIDE_SEED_AT, 8);
+    SeedParts { narrow, wide }
+}
+
+// The fields as they lie end to end, of a run with this seed.
+fn fields_in(seed: u64, full: &[u8]) -> Fields
+    requires { ⌜ length (now full) ≡ sum (fieldBytes fullWords) ⌝ }
+    ensures { λ r. ⌜ fieldsAs r ≡ fieldsWith seed fullWords (cut (fieldBytes fullWords) (now (full .entry))) ⌝ }
+{
     let share = float_at(full, SHARE_AT);
     let limit = four_at(full, LIMIT_AT);
     let tick = four_at(full, TICK_AT);
@@ -162,7 +173,7 @@ fn is_sound(f: Fields) -> bool
     settings & (count & (state::poses_ok(poses) & (tiles & (f.tick <= f.limit))))
 }
 
-// What the bytes say; no field of theirs may stand with zeros, and flags above 7 are unknown.
+// What the bytes say; no field of theirs may stand with zeros, flags above 7 are unknown, and one seed stands at most.
 pub(crate) fn load(bytes: &[u8]) -> Loaded
     ensures { λ r. ⌜ loadedAs (r .ok) (r .fields) ≡ loaded fullWords mostTiles (now (bytes .entry)) ⌝ }
 {
@@ -170,11 +181,13 @@ pub(crate) fn load(bytes: &[u8]) -> Loaded
     let zeros = [false; 0];
     let mut full = [0u8; ALL_BYTES];
     let u = unpack::unpack(&widths, &zeros, bytes, &mut full);
-    let fields = fields_in(&full);
+    let seeds = seeds_in(&full);
+    let fields = fields_in(saved::seed_from(seeds), &full);
     let known = full[FLAGS_AT] < 8;
+    let one = saved::seeds_ok(seeds);
     let sound = is_sound(fields);
     Loaded {
-        ok: u.ok & (known & sound),
+        ok: u.ok & (known & (one & sound)),
         fields,
     }
 }

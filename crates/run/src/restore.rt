@@ -38,7 +38,7 @@ pub struct Restoration {
 
 // A course's seed and its tile count.
 pub struct SavedFor {
-    pub seed: u32,
+    pub seed: u64,
     pub n: u32,
 }
 

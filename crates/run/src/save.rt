@@ -1,4 +1,4 @@
-// The call `save`: a run between ticks as bytes (document 02, order 1).
+// The call `save`: a run between ticks as bytes (document 02, orders 1 and 3).
 ghost use mathlib.Core.Path.{_≡_};
 ghost use Prim.Native.Nat.{_≤_};
 ghost use lib.ListN.{length};
@@ -31,8 +31,8 @@ pub enum SaveAnswer {
     Refused(u32),
 }
 
-// The room of the longest form: the map, and every field (cause 2).
-pub const SAVE_ROOM: usize = 2 + ALL_BYTES;
+// The room of the longest form: the map, and every field but the narrow seed's four bytes, where the wide one stands (cause 2).
+pub const SAVE_ROOM: usize = 2 + ALL_BYTES - 4;
 
 // The numbers of the four controls, before the fuel spent.
 const CONTROL_NUMBERS: usize = CAR_NUMBERS - 1;
@@ -79,25 +79,33 @@ fn flags_of(lap: bool, ended: bool, fallback: bool) -> u64
     a + 2 * b + 4 * c
 }
 
-// Seed, lap share, tick limit and tick, over an output of their length.
-fn put_first(seed: u32, share: f64, limit: u32, tick: u32, out: &mut [u8])
+// Narrow seed, lap share, tick limit and tick, over an output of their length.
+fn put_first(narrow: u64, share: f64, limit: u32, tick: u32, out: &mut [u8])
     requires { ⌜ length (now out) ≡ firstBytes ⌝ }
-    ensures { λ _. ⌜ now (out .exit) ≡ joined (firstFields seed share limit tick) ⌝ }
+    ensures { λ _. ⌜ now (out .exit) ≡ joined (firstFields narrow share limit tick) ⌝ }
 {
     let shares = [share];
-    number::put_number(seed as u64, 4, &mut out[0..4]);
+    number::put_number(narrow, 4, &mut out[0..4]);
     float::put_floats(&shares, &mut out[4..12]);
     number::put_number(limit as u64, 4, &mut out[12..16]);
     number::put_number(tick as u64, 4, &mut out[16..20]);
 }
 
-// Flags, fuel, controls, poses and tile count, over an output of their length.
-fn put_last(flags: u64, fuel: f64, controls: &[f64], poses: &[f64], n: u32, out: &mut [u8])
+// Flags, fuel, controls, poses, tile count and wide seed, over an output of their length.
+fn put_last(
+    flags: u64,
+    fuel: f64,
+    controls: &[f64],
+    poses: &[f64],
+    n: u32,
+    wide: u64,
+    out: &mut [u8],
+)
     requires { ⌜ length (now controls) ≡ controlCount ⌝ }
     requires { ⌜ length (now poses) ≡ poseCount ⌝ }
     requires { ⌜ length (now out) ≡ lastBytes ⌝ }
     ensures { λ _. ⌜
-        now (out .exit) ≡ joined (lastFields flags fuel (now (controls .entry)) (now (poses .entry)) n)
+        now (out .exit) ≡ joined (lastFields flags fuel (now (controls .entry)) (now (poses .entry)) n wide)
         ⌝ }
 {
     let fuels = [fuel];
@@ -106,6 +114,7 @@ fn put_last(flags: u64, fuel: f64, controls: &[f64], poses: &[f64], n: u32, out:
     float::put_floats(controls, &mut out[9..169]);
     float::put_floats(poses, &mut out[169..297]);
     number::put_number(n as u64, 2, &mut out[297..299]);
+    number::put_number(wide, 8, &mut out[299..307]);
 }
 
 // Every field of a run, end to end over an output of their length.
@@ -121,8 +130,9 @@ fn put_fields(run: Run, full: &mut [u8])
     let mut numbers = [0.0; CAR_NUMBERS];
     numbers::put_car(car, &mut numbers);
     let flags = flags_of(progress.lap, progress.ended, setup.fallback);
+    let seed = saved::seed_parts(run.seed);
     put_first(
-        run.seed,
+        seed.narrow,
         setup.lap_share,
         setup.tick_limit,
         progress.tick,
@@ -135,6 +145,7 @@ fn put_fields(run: Run, full: &mut [u8])
         &numbers[..CONTROL_NUMBERS],
         &poses,
         setup.n,
+        seed.wide,
         &mut full[SET_END..ALL_BYTES],
     );
 }

@@ -70,7 +70,7 @@ pub struct Run {
     // The wheels' poses at the last contact, each x, y, cos, sin.
     pub poses: [f64; POSE_NUMBERS],
     // The course's seed, as start was told it.
-    pub seed: u32,
+    pub seed: u64,
 }
 
 // Finite and within a million of 0 (cause 8).

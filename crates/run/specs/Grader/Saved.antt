@@ -1,9 +1,9 @@
--- Document 02, order 1: what a save keeps of a run, as fields of bytes, and which bytes a restore takes (cause 11). For sets of m words that hold
+-- Document 02, orders 1 and 3: what a save keeps of a run, as fields of bytes, and which bytes a restore takes (cause 11). For sets of m words that hold
 -- `most` tiles. Assumes nothing.
 use mathlib.Core.Bool.{Bool, not, cond, _&&_, _||_}
-use mathlib.Core.List.{List, [], _∷_}
-use Prim.Native.Nat.{ℕ, _+_, _*_, _/_}
-use lib.Dec.{ltb, leb}
+use mathlib.Core.List.{List, [], _∷_, _++_}
+use Prim.Native.Nat.{ℕ, _+_, _*_, _/_, _^_}
+use lib.Dec.{eqb, ltb, leb}
 use lib.ListN.{length, getD, take}
 use lib.Ieee.{Float}
 use Rattle.course.specs.Rules.Counting.{digit}
@@ -55,10 +55,20 @@ fieldsOf s =
 unfoldable pub flagsOf : Bool → Bool → Bool → ℕ
 flagsOf lap ended fallback = digit lap + 2 * digit ended + 4 * digit fallback
 
--- the ten fields in bit order
-unfoldable pub bytesOf : Fields → List (List ℕ)
-bytesOf f =
-    low 4 (f .seed)
+-- order 3: a seed stands in one of two fields. Bit 0 has four bytes; from this one on, it is bit 10
+abbrev pub wideSeed : ℕ
+wideSeed = 2 ^ 32
+
+unfoldable pub narrowPart : ℕ → ℕ
+narrowPart seed = cond (ltb seed wideSeed) seed 0
+
+unfoldable pub widePart : ℕ → ℕ
+widePart seed = cond (ltb seed wideSeed) 0 seed
+
+-- order 1's ten fields in bit order, with this number for the seed
+unfoldable pub tenFields : ℕ → Fields → List (List ℕ)
+tenFields seed f =
+    low 4 seed
     ∷ floatBytes (f .share ∷ [])
     ∷ low 4 (f .limit)
     ∷ low 4 (f .tick)
@@ -70,9 +80,16 @@ bytesOf f =
     ∷ low 2 (f .n)
     ∷ []
 
+-- all fields, the wide seed behind the ten
+unfoldable pub bytesOf : Fields → List (List ℕ)
+bytesOf f = tenFields (narrowPart (f .seed)) f ++ (low 8 (widePart (f .seed)) ∷ [])
+
 -- how many bytes each has
+abbrev pub tenBytes : ℕ → List ℕ
+tenBytes m = 4 ∷ 8 ∷ 4 ∷ 4 ∷ 8 * m ∷ 1 ∷ 8 ∷ 8 * controlCount ∷ 8 * poseCount ∷ 2 ∷ []
+
 unfoldable pub fieldBytes : ℕ → List ℕ
-fieldBytes m = 4 ∷ 8 ∷ 4 ∷ 4 ∷ 8 * m ∷ 1 ∷ 8 ∷ 8 * controlCount ∷ 8 * poseCount ∷ 2 ∷ []
+fieldBytes m = tenBytes m ++ (8 ∷ [])
 
 -- the saved form: a field of zeros is left out
 unfoldable pub savedForm : Fields → List ℕ
@@ -80,9 +97,9 @@ savedForm f = packed (mapOf (bytesOf f)) (bytesOf f)
 
 -- ---- and back
 
--- the table of the first form: no field stands with zeros
-abbrev pub firstForm : ℕ → List Row
-firstForm m = rowsOf (fieldBytes m) []
+-- the table of the second form, which has the wide seed: no field stands with zeros
+abbrev pub secondForm : ℕ → List Row
+secondForm m = rowsOf (fieldBytes m) []
 
 abbrev pub fieldAt : List (List ℕ) → ℕ → List ℕ
 fieldAt fs k = getD fs k []
@@ -91,10 +108,11 @@ fieldAt fs k = getD fs k []
 abbrev pub floatIn : List ℕ → Float
 floatIn bs = numberAt (floatsFrom 1 bs) 0
 
-unfoldable pub fieldsFrom : ℕ → List (List ℕ) → Fields
-fieldsFrom m fs =
+-- what fields say of a run with this seed
+unfoldable pub fieldsWith : ℕ → ℕ → List (List ℕ) → Fields
+fieldsWith seed m fs =
     record {
-      seed = number (fieldAt fs 0);
+      seed = seed;
       share = floatIn (fieldAt fs 1);
       limit = number (fieldAt fs 2);
       tick = number (fieldAt fs 3);
@@ -108,7 +126,18 @@ fieldsFrom m fs =
       n = number (fieldAt fs 9);
     }
 
+-- the seed that the two fields say: the wide one where it stands
+unfoldable pub seedFrom : ℕ → ℕ → ℕ
+seedFrom narrow wide = cond (eqb wide 0) narrow wide
+
+unfoldable pub fieldsFrom : ℕ → List (List ℕ) → Fields
+fieldsFrom m fs = fieldsWith (seedFrom (number (fieldAt fs 0)) (number (fieldAt fs 10))) m fs
+
 -- ---- cause 11
+
+-- not both seeds stand, and a wide one is 2^32 or more
+unfoldable pub seedsOk : ℕ → ℕ → Bool
+seedsOk narrow wide = eqb wide 0 || (eqb narrow 0 && leb wideSeed wide)
 
 -- no tile of the set is n or more
 unfoldable pub allBelow : ℕ → List ℕ → Bool
@@ -132,7 +161,10 @@ pub data Loaded : Type 0 where
 -- flags above 7 are unknown
 unfoldable pub loadedFrom : ℕ → ℕ → Parsed → Loaded
 loadedFrom m most broken = notKept
-loadedFrom m most (fields fs) = cond (ltb (number (fieldAt fs 5)) 8 && soundFields most (fieldsFrom m fs)) (kept (fieldsFrom m fs)) notKept
+loadedFrom m most (fields fs) =
+    cond (ltb (number (fieldAt fs 5)) 8
+    && (seedsOk (number (fieldAt fs 0)) (number (fieldAt fs 10)) && soundFields most (fieldsFrom m fs)))
+    (kept (fieldsFrom m fs)) notKept
 
 unfoldable pub loaded : ℕ → ℕ → List ℕ → Loaded
-loaded m most bs = loadedFrom m most (parsed (firstForm m) bs)
+loaded m most bs = loadedFrom m most (parsed (secondForm m) bs)

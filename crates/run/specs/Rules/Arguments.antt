@@ -1,4 +1,4 @@
--- Document 01, "Refusals by cause" (1, 2, 8), and document 02, order 1 (2): the tests of a call's arguments, by these alone. Assumes nothing.
+-- Document 01, "Refusals by cause" (1, 2, 8), and document 02, orders 1 and 3 (2): the tests of a call's arguments, by these alone. Assumes nothing.
 use mathlib.Core.Bool.{Bool, _&&_, _||_}
 use mathlib.Core.List.{List}
 use Prim.Native.Nat.{ℕ}
@@ -19,9 +19,9 @@ settingsOk share limit = (le (natural 0) share && le share (natural 1)) && (leb 
 unfoldable pub shortColumns : ℕ → ℕ → ℕ → Bool
 shortColumns n tiles offsets = ltb tiles (quadNumbers (columnLength n)) || ltb offsets offsetCount
 
--- 2: a save's output has this many bytes or more
+-- 2: a save's output has this many bytes or more (order 3)
 abbrev pub saveRoom : ℕ
-saveRoom = 641
+saveRoom = 645
 
 -- 8: finite and within ±1,000,000
 unfoldable pub inRange : Float → Bool

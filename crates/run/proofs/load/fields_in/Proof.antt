@@ -15,17 +15,14 @@ use Rattle.run.proofs.load.float_at.Reads as float-at-reads
 use Rattle.run.proofs.load.four_at.Reads as four-at-reads
 use Rattle.run.proofs.load.poses_in.Reads as poses-in-reads
 
+float-at-requires : tie.Need-float-at-requires
+float-at-requires c κs = omega (arith, c .before .pre, all-bytes)
+
 four-at-requires : tie.Need-four-at-requires
 four-at-requires c κs = search needs
 
-float-at-requires : tie.Need-float-at-requires
-float-at-requires c κs = omega (arith, c .before .before .pre, all-bytes)
-
 four-at-requires-2 : tie.Need-four-at-requires-2
 four-at-requires-2 c κs = search needs
-
-four-at-requires-3 : tie.Need-four-at-requires-3
-four-at-requires-3 c κs = search needs
 
 credited-in-requires : tie.Need-credited-in-requires
 credited-in-requires c κs = search needs
@@ -49,18 +46,17 @@ returns : tie.Need-returns
 returns c =
     let a = c .before .before .before in
     let d = a .before .before .before in
-    let s = d .before .before .before .before in
-    fields-read (s .args .full .now) _ _ (d .before .before .four-at .ensures) (d .before .float-at .ensures) (d .four-at2 .ensures) (a .before .before .four-at3 .ensures)
+    let s = d .before .before .before in
+    fields-read (s .args .full .now) _ _ (d .before .float-at .ensures) (d .four-at .ensures) (a .before .before .four-at2 .ensures)
     (a .before .credited-in .ensures) (a .number-at .ensures .0) refl refl refl (c .before .before .car-in .ensures) (c .before .poses-in .ensures) (c .number-at2 .ensures .0)
 
 pub fields-in-spec : {M : Type 1} → statement M
 fields-in-spec =
     tie.close
     (tie.spec
-    four-at-requires
     float-at-requires
+    four-at-requires
     four-at-requires-2
-    four-at-requires-3
     credited-in-requires
     number-at-requires
     car-in-requires

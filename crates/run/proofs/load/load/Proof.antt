@@ -16,7 +16,10 @@ use Rattle.run.proofs.load.load.Lts as lts
 use Rattle.form.proofs.unpack.unpack.Reads as unpack-reads
 use Rattle.run.proofs.load.fields_in.Reads as fields-in-reads
 use Rattle.run.proofs.load.is_sound.Reads as is-sound-reads
+use Rattle.run.proofs.load.seeds_in.Reads as seeds-in-reads
 use Rattle.run.proofs.saved.field_bytes.Reads as field-bytes-reads
+use Rattle.run.proofs.saved.seed_from.Reads as seed-from-reads
+use Rattle.run.proofs.saved.seeds_ok.Reads as seeds-ok-reads
 
 -- the bytes in which the fields lie end to end are as many as before
 full-long : (c : tie.After-full3) → length (c .before .before .unpack .last .1 .1 .1 .0) ≡ sum (fieldBytes fullWords)
@@ -37,14 +40,26 @@ slice-aggregate-unpack-3 c = search needs
 unpack-requires : tie.Need-unpack-requires
 unpack-requires c κs = search needs
 
+slice-aggregate-seeds-in : tie.Need-slice-aggregate-seeds-in
+slice-aggregate-seeds-in c = search needs
+
+seeds-in-requires : tie.Need-seeds-in-requires
+seeds-in-requires c κs = search needs
+
+seed-from-requires : tie.Need-seed-from-requires
+seed-from-requires c κs = search needs
+
 slice-aggregate-fields-in : tie.Need-slice-aggregate-fields-in
 slice-aggregate-fields-in c = search needs
 
 fields-in-requires : tie.Need-fields-in-requires
-fields-in-requires c κs = full-long c
+fields-in-requires c κs = full-long (c .before .before .before)
 
 array-read-known : tie.Need-array-read-known
 array-read-known c = search needs
+
+seeds-ok-requires : tie.Need-seeds-ok-requires
+seeds-ok-requires c κs = search needs
 
 is-sound-requires : tie.Need-is-sound-requires
 is-sound-requires c κs = search needs
@@ -52,13 +67,16 @@ is-sound-requires c κs = search needs
 returns : tie.Need-returns
 returns c =
     let k = c .before in
-    let f = k .before in
-    let u = f .before .before .before in
+    let o = k .before in
+    let f = o .before in
+    let d = f .before .before in
+    let p = d .before in
+    let u = p .before .before .before in
     let w = u .before .before .before .before in
     let s = w .before .before in
     let unpacked = u .unpack .result in
-    load-is mostTiles (s .args .bytes .now) _ _ _ (unpacked .ok) (k .is-sound .result) (unpacked .map) (f .fields-in .result)
-    (full-long (f .before)) (omega (arith, all-bytes)) (w .field-bytes .ensures) (u .unpack .ensures) (f .fields-in .ensures) (k .is-sound .ensures)
+    load-is mostTiles (s .args .bytes .now) _ _ _ (unpacked .ok) (o .seeds-ok .result) (k .is-sound .result) (unpacked .map) (d .seed-from .result) (p .seeds-in .result) (f .fields-in .result)
+    (full-long (p .before)) (omega (arith, all-bytes)) (w .field-bytes .ensures) (u .unpack .ensures) (p .seeds-in .ensures) (d .seed-from .ensures) (f .fields-in .ensures) (o .seeds-ok .ensures) (k .is-sound .ensures)
 
 pub load-spec : {M : Type 1} → statement M
 load-spec =
@@ -69,8 +87,12 @@ load-spec =
     slice-aggregate-unpack-2
     slice-aggregate-unpack-3
     unpack-requires
+    slice-aggregate-seeds-in
+    seeds-in-requires
+    seed-from-requires
     slice-aggregate-fields-in
     fields-in-requires
     array-read-known
+    seeds-ok-requires
     is-sound-requires
     returns)

@@ -19,13 +19,14 @@ use Rattle.run.proofs.numbers.put_car.Reads as put-car-reads
 use Rattle.run.proofs.save.flags_of.Reads as flags-of-reads
 use Rattle.run.proofs.save.put_first.Reads as put-first-reads
 use Rattle.run.proofs.save.put_last.Reads as put-last-reads
+use Rattle.run.proofs.saved.seed_parts.Reads as seed-parts-reads
 
 -- The places that the answers name, each from one further down: the call's own start, the car's numbers are put, the credited tiles are put.
 abbrev start-at : tie.After-put-car → tie.Start
 start-at c = c .before .before .before .before .before .before .before .before
 
 abbrev car-at : tie.After-put-words → tie.After-put-car
-car-at c = c .before .before .before .before .before .before .before .before
+car-at c = c .before .before .before .before .before .before .before .before .before
 
 abbrev words-at : tie.After-slice-known3 → tie.After-put-words
 words-at c = c .before .before
@@ -42,6 +43,9 @@ put-car-requires c κs = search needs
 flags-of-requires : tie.Need-flags-of-requires
 flags-of-requires c κs = search needs
 
+seed-parts-requires : tie.Need-seed-parts-requires
+seed-parts-requires c κs = search needs
+
 sub-put-first : tie.Need-sub-put-first
 sub-put-first c = search needs
 
@@ -55,7 +59,7 @@ put-first-requires : tie.Need-put-first-requires
 put-first-requires c κs = search needs
 
 slice-aggregate-put-words : tie.Need-slice-aggregate-put-words
-slice-aggregate-put-words c = search needs
+slice-aggregate-put-words c = sym (credited-length (start-at (c .before .before .before .before .before .before .before)))
 
 sub-put-words : tie.Need-sub-put-words
 sub-put-words c = search needs
@@ -101,11 +105,12 @@ returns c =
     let v = c .before .before in
     let q = words-at (v .before .before .before .before) in
     let p = q .before .before .before .before .before in
-    let k = p .before .before in
+    let d = p .before .before in
+    let k = d .before in
     let t = start-at (k .before) in
     let s = view (t .args .run) in
-    fields-put (fieldsOf s) (t .args .full .now) _ _ _ (q .put-words .result) (k .flags-of .result) _ (state-whole fullWords s (credited-length t) (poses-length t)) (t .pre) (p .put-first .ensures) (q .put-words .ensures)
-    (k .flags-of .ensures) (ap (take controlCount) (k .before .put-car .ensures)) (v .put-last .ensures)
+    fields-put (fieldsOf s) (t .args .full .now) _ _ _ (q .put-words .result) (d .seed-parts .result) (k .flags-of .result) _ (state-whole fullWords s (credited-length t) (poses-length t)) (t .pre)
+    (d .seed-parts .ensures) (p .put-first .ensures) (q .put-words .ensures) (k .flags-of .ensures) (ap (take controlCount) (k .before .put-car .ensures)) (v .put-last .ensures)
 
 pub put-fields-spec : {M : Type 1} → statement M
 put-fields-spec =
@@ -113,6 +118,7 @@ put-fields-spec =
     (tie.spec
     put-car-requires
     flags-of-requires
+    seed-parts-requires
     sub-put-first
     part-put-first-start
     part-put-first-end

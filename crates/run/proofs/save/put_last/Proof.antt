@@ -81,13 +81,26 @@ part-put-number-end-2 c = search needs
 put-number-requires-2 : tie.Need-put-number-requires-2
 put-number-requires-2 c κs = search needs
 
+sub-put-number-3 : tie.Need-sub-put-number-3
+sub-put-number-3 c = search needs
+
+part-put-number-start-3 : tie.Need-part-put-number-start-3
+part-put-number-start-3 c = search needs
+
+part-put-number-end-3 : tie.Need-part-put-number-end-3
+part-put-number-end-3 c = search needs
+
+put-number-requires-3 : tie.Need-put-number-requires-3
+put-number-requires-3 c κs = search needs
+
 same-length : tie.Need-same-length
 same-length c = search needs
 
 returns : tie.Need-returns
 unfolding lastFields
 returns c =
-    let w4 = c .before .before in
+    let w5 = c .before .before in
+    let w4 = w5 .before .before .before .before in
     let w3 = w4 .before .before .before .before in
     let w2 = w3 .before .before .before .before in
     let w1 = w2 .before .before .before .before in
@@ -95,7 +108,8 @@ returns c =
     let t = w0 .before .before .before .before .before in
     let s = t .args in
     let h = t .pre .1 .1 in
-    let g4 = low 2 (s .n) ∷ [] in
+    let g5 = low 8 (s .wide) ∷ [] in
+    let g4 = low 2 (s .n) ∷ g5 in
     let g3 = floatBytes (s .poses .now) ∷ g4 in
     let g2 = floatBytes (s .controls .now) ∷ g3 in
     let g1 = floatBytes (s .fuel ∷ []) ∷ g2 in
@@ -104,8 +118,9 @@ returns c =
     let k2 = field-on (floatBytes (s .fuel ∷ [])) g2 _ 9 _ k1 (w1 .put-floats .ensures) (floats-long (s .fuel ∷ []) 1 refl) (omega arith) (omega (arith, h)) in
     let k3 = field-on (floatBytes (s .controls .now)) g3 _ 169 _ k2 (w2 .put-floats2 .ensures) (floats-long (s .controls .now) controlCount (t .pre .0)) (omega arith) (omega (arith, h)) in
     let k4 = field-on (floatBytes (s .poses .now)) g4 _ 297 _ k3 (w3 .put-floats3 .ensures) (floats-long (s .poses .now) poseCount (t .pre .1 .0)) (omega arith) (omega (arith, h)) in
-    let k5 = field-on (low 2 (s .n)) [] _ 299 _ k4 (w4 .put-number2 .ensures) (low-length 2 (s .n)) (omega arith) (omega (arith, h)) in
-    fields-end k5 h
+    let k5 = field-on (low 2 (s .n)) g5 _ 299 _ k4 (w4 .put-number2 .ensures) (low-length 2 (s .n)) (omega arith) (omega (arith, h)) in
+    let k6 = field-on (low 8 (s .wide)) [] _ 307 _ k5 (w5 .put-number3 .ensures) (low-length 8 (s .wide)) (omega arith) (omega (arith, h)) in
+    fields-end k6 h
 
 pub put-last-spec : {M : Type 1} → statement M
 put-last-spec =
@@ -132,5 +147,9 @@ put-last-spec =
     part-put-number-start-2
     part-put-number-end-2
     put-number-requires-2
+    sub-put-number-3
+    part-put-number-start-3
+    part-put-number-end-3
+    put-number-requires-3
     same-length
     returns)
