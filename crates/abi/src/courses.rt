@@ -16,7 +16,7 @@ use course::points;
 // The course of a seed in the lent columns.
 #[no_mangle]
 pub extern "C" fn grader_lay(
-    seed: u32,
+    seed: u64,
     alpha: &mut [f64],
     beta: &mut [f64],
     x: &mut [f64],

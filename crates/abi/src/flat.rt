@@ -102,8 +102,8 @@ pub struct FlatRestored {
 #[repr(C)]
 pub struct FlatSavedFor {
     pub cause: u32,
-    pub seed: u32,
     pub n: u32,
+    pub seed: u64,
 }
 
 // What sine, cosine and atan2 answer.
@@ -304,13 +304,13 @@ pub(crate) fn saved_for(answer: SavedCourse) -> FlatSavedFor
     match answer {
         SavedCourse::Course(v) => FlatSavedFor {
             cause: 0,
-            seed: v.seed,
             n: v.n,
+            seed: v.seed,
         },
         SavedCourse::Refused(cause) => FlatSavedFor {
             cause,
-            seed: 0,
             n: 0,
+            seed: 0,
         },
     }
 }

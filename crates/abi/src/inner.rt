@@ -18,7 +18,7 @@ use run::quad;
 #[no_mangle]
 pub extern "C" fn grader_lay_attempts(
     attempts: u32,
-    seed: u32,
+    seed: u64,
     alpha: &mut [f64],
     beta: &mut [f64],
     x: &mut [f64],

@@ -60,7 +60,7 @@ pub extern "C" fn grader_start(
     list: &[u32],
     n: u32,
     fallback: bool,
-    seed: u32,
+    seed: u64,
     share: f64,
     limit: u32,
     poses: Poses,
@@ -180,7 +180,7 @@ pub extern "C" fn grader_settle_parts(
 // A seed's course, a start on it and a whole list of calls, every answer written to the lent words and numbers.
 #[no_mangle]
 pub extern "C" fn grader_replay(
-    seed: u32,
+    seed: u64,
     alpha: &mut [f64],
     beta: &mut [f64],
     x: &mut [f64],

@@ -2,7 +2,7 @@
 use mathlib.Core.Bool.{Bool, true, false, cond, not, _&&_, _||_, true≢false}
 use mathlib.Core.List.{List, [], _∷_, _++_, map}
 use mathlib.Core.Path.{_≡_, refl, sym, ap, _∙_, subst}
-use Prim.Native.Nat.{ℕ, zero, suc, _+_, _*_, _≤_, _<_}
+use Prim.Native.Nat.{ℕ, zero, suc, _+_, _*_, _^_, _≤_, _<_}
 use native.Mathlib.Nat.{le-trans}
 use native.Mathlib.Omega.{arith}
 use lib.Dec.{ltb}
@@ -288,13 +288,13 @@ module _ (m most : ℕ) (c : List TrackPoint) (room : most ≤ 64 * m) (some : 0
       (
         refl,
         λ r.
-            let p = or-rest (someRestore is) (ltb (label .seed) 4294967296 && (fits64 (b .share) && (allFit (poseNumbers (b .poses)) && typedItems is))) t r in
-            let q = and-right (ltb (label .seed) 4294967296) (fits64 (b .share) && (allFit (poseNumbers (b .poses)) && typedItems is)) p in
+            let p = or-rest (someRestore is) (ltb (label .seed) (2 ^ 64) && (fits64 (b .share) && (allFit (poseNumbers (b .poses)) && typedItems is))) t r in
+            let q = and-right (ltb (label .seed) (2 ^ 64)) (fits64 (b .share) && (allFit (poseNumbers (b .poses)) && typedItems is)) p in
             record {
               within = omega arith;
               settings = start-told e .0;
               placed = start-told e .1;
-              seed = ltb-true _ _ (and-left (ltb (label .seed) 4294967296) (fits64 (b .share) && (allFit (poseNumbers (b .poses)) && typedItems is)) p);
+              seed = ltb-true _ _ (and-left (ltb (label .seed) (2 ^ 64)) (fits64 (b .share) && (allFit (poseNumbers (b .poses)) && typedItems is)) p);
               share = and-left (fits64 (b .share)) (allFit (poseNumbers (b .poses)) && typedItems is) q;
               poses = and-left (allFit (poseNumbers (b .poses))) (typedItems is) (and-right (fits64 (b .share)) (allFit (poseNumbers (b .poses)) && typedItems is) q);
             },
@@ -304,8 +304,8 @@ module _ (m most : ℕ) (c : List TrackPoint) (room : most ≤ 64 * m) (some : 0
     items-typed : (is : List (CourseItem (length c))) → typed (label .seed) b is ≡ true → someRestore is ≡ true → typedItems is ≡ true
     unfolding typed
     items-typed is t r =
-        let p = or-rest (someRestore is) (ltb (label .seed) 4294967296 && (fits64 (b .share) && (allFit (poseNumbers (b .poses)) && typedItems is))) t r in
-        let q = and-right (ltb (label .seed) 4294967296) (fits64 (b .share) && (allFit (poseNumbers (b .poses)) && typedItems is)) p in
+        let p = or-rest (someRestore is) (ltb (label .seed) (2 ^ 64) && (fits64 (b .share) && (allFit (poseNumbers (b .poses)) && typedItems is))) t r in
+        let q = and-right (ltb (label .seed) (2 ^ 64)) (fits64 (b .share) && (allFit (poseNumbers (b .poses)) && typedItems is)) p in
         and-right (allFit (poseNumbers (b .poses))) (typedItems is) (and-right (fits64 (b .share)) (allFit (poseNumbers (b .poses)) && typedItems is) q)
 
     pub demand3-on : most < 65536 → (is : List (CourseItem (length c))) → Demand3 m most c o by label b is

@@ -76,7 +76,7 @@ module _ (m most : ℕ) (c : List TrackPoint) (room : most ≤ 64 * m) (some : 0
     pub within : settles h ≤ opening h .limit
     pub settings : settingsOk (opening h .share) (opening h .limit) ≡ true
     pub placed : posesOk (lastPoses h) ≡ true
-    pub seed : label .seed < 4294967296
+    pub seed : label .seed < 2 ^ 64
     pub share : fits binary64 (opening h .share) ≡ true
     pub poses : allFit (poseNumbers (lastPoses h)) ≡ true
 
@@ -94,7 +94,7 @@ module _ (m most : ℕ) (c : List TrackPoint) (room : most ≤ 64 * m) (some : 0
         let w : settles h ≤ opening h .limit = v .within in
         let l : opening h .limit ≤ 1000000 = limit-small (opening h .share) (opening h .limit) (v .settings) in
         let k : length c ≤ most = few in
-        let s : label .seed < 4294967296 = v .seed in
+        let s : label .seed < 2 ^ 64 = v .seed in
         record {
           seed = omega (arith, s);
           limit = omega (arith, l);

@@ -70,11 +70,11 @@ fn call(
     offsets: &mut [u32],
     list: &mut [u32],
 ) -> Laid {
-    let a = narrow(vectors::word(rest, 8));
-    let b = narrow(vectors::word(rest, 9));
+    let a = vectors::word(rest, 8);
+    let b = vectors::word(rest, 9);
     match vectors::word(rest, 0) {
         LAY => lay::lay(a, alpha, beta, x, y, tiles, offsets, list),
-        ATTEMPTS => lay::lay_attempts(a, b, alpha, beta, x, y, tiles, offsets, list),
+        ATTEMPTS => lay::lay_attempts(narrow(a), b, alpha, beta, x, y, tiles, offsets, list),
         _ => lay::lay_checkpoints(checkpoints(rest), alpha, beta, x, y, tiles, offsets, list),
     }
 }

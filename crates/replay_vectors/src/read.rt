@@ -20,8 +20,8 @@ fn narrow(w: u64) -> u32 {
     (w % 0x1_0000_0000) as u32
 }
 
-pub fn seed(rest: &[u8]) -> u32 {
-    narrow(vectors::word(rest, 1))
+pub fn seed(rest: &[u8]) -> u64 {
+    vectors::word(rest, 1)
 }
 
 pub fn share(rest: &[u8]) -> f64 {

@@ -1,6 +1,6 @@
-// Replays SplitMix64: the published draws of the seeds 1234567 and 0, and units of four courses' seeds and of
-// chosen draws as bit patterns. The expected lines stand in ../stdout; `host/compare/write rng` makes them from
-// the Rust.
+// Replays SplitMix64: the published draws of the seeds 1234567 and 0, units of four courses' seeds and of chosen
+// draws as bit patterns, and the first draws of courses' seeds below 2^32 and above. The expected lines stand in
+// ../stdout; `host/compare/write rng` makes them from the Rust.
 use rng::SplitMix64;
 
 fn line(n: u64) {
@@ -26,7 +26,7 @@ fn draws(g: SplitMix64) {
 }
 
 // The 48 units that two attempts at a course take.
-fn units(seed: u32) {
+fn units(seed: u64) {
     let mut r = SplitMix64::from_seed(seed);
     let mut i: u32 = 0;
     while i < 48 {
@@ -35,6 +35,12 @@ fn units(seed: u32) {
         r = d.rng;
         i += 1;
     }
+}
+
+// The first draw of a course's seed.
+fn first_draw(seed: u64) {
+    let d = SplitMix64::from_seed(seed).next_u64();
+    line(d.value);
 }
 
 // The unit of a draw.
@@ -71,4 +77,10 @@ fn main() {
     unit(0x8000_0000_0000_0000);
     unit(0xFFFF_FFFF_FFFF_F800);
     unit(0xFFFF_FFFF_FFFF_FFFF);
+    first_draw(0);
+    first_draw(7);
+    first_draw(0xFFFF_FFFF);
+    first_draw(0x1_0000_0000);
+    first_draw(0x1_0000_0007);
+    first_draw(0xFFFF_FFFF_FFFF_FFFF);
 }

@@ -97,5 +97,5 @@ pub fn last(run: Run) -> u64 {
 // Of a whole state.
 pub fn whole(run: Run) -> u64 {
     let h = mix(1, state(run));
-    mix(mix(h, last(run)), wide(run.seed))
+    mix(mix(h, last(run)), run.seed)
 }

@@ -191,7 +191,7 @@ fn replay_start(rest: &[u8], tiles: &[f64], offsets: &[u32], list: &[u32]) -> Ru
         vectors::front::ids(list, vectors::word(rest, 3)),
         read::narrow(vectors::word(rest, 4)),
         read::flag(vectors::word(rest, 5)),
-        read::narrow(vectors::word(rest, 6)),
+        vectors::word(rest, 6),
         vectors::float(rest, 7),
         read::narrow(vectors::word(rest, 8)),
         read::poses(rest, 9),

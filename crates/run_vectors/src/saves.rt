@@ -65,14 +65,14 @@ pub fn put_last(rest: &[u8], run: Run) -> Run {
         credited,
         wheels,
         poses,
-        seed: read::narrow(vectors::word(rest, 17)),
+        seed: vectors::word(rest, 17),
     }
 }
 
 // A hash of the last poses, and the seed.
 pub fn line_last(run: Run) {
     vectors::line_hex(hash::last(run));
-    vectors::line_u64(run.seed as u64);
+    vectors::line_u64(run.seed);
 }
 
 fn wide(b: u8) -> u64 {
@@ -125,7 +125,7 @@ pub fn replay_save(rest: &[u8], run: Run) {
 fn line_course(of: SavedCourse) {
     match of {
         SavedCourse::Course(c) => {
-            vectors::line_u64(c.seed as u64);
+            vectors::line_u64(c.seed);
             vectors::line_u64(c.n as u64);
         }
         SavedCourse::Refused(cause) => vectors::line_refused(cause),

@@ -168,7 +168,7 @@ unfoldable pub flatRestored : AfterRestore → FlatRestored
 flatRestored d = record { cause = restoreCauseOf (d .answer); run = runOf (d .state) }
 
 unfoldable pub flatSavedFor : SavedCourse → FlatSavedFor
-flatSavedFor a = record { cause = savedCauseOf a; seed = savedForOf a .seed; n = savedForOf a .n }
+flatSavedFor a = record { cause = savedCauseOf a; n = savedForOf a .n; seed = savedForOf a .seed }
 
 -- ---- a whole replay: its three answers, and the columns that it is lent
 

@@ -3,7 +3,7 @@
 use mathlib.Core.Path.{_≡_}
 use mathlib.Core.Bool.{Bool, true, false, cond, not, _&&_, _||_}
 use mathlib.Core.List.{List, [], _∷_, _++_, map}
-use Prim.Native.Nat.{ℕ, zero, suc, _+_}
+use Prim.Native.Nat.{ℕ, zero, suc, _+_, _^_}
 use lib.Dec.{eqb, ltb}
 use lib.ListN.{length, getD, take}
 use lib.Ieee.{Float, binary64, fits}
@@ -160,8 +160,8 @@ turnedDown (call c) = answered (refused 4)
 turnedDown (save out) = decided 4
 turnedDown (restore by i) = decided 11
 
--- ---- values that bytes can carry. Here a float is any number of the arithmetic and a seed any natural number, but a save has 8 bytes for the one and 4 for
--- the other. Of the code's own types, f64 and u32, every value passes. Asked only of a list with a restore: without one nothing is read back
+-- ---- values that bytes can carry. Here a float is any number of the arithmetic and a seed any natural number, but a save has 8 bytes for either (order 3).
+-- Of the code's own types, f64 and u64, every value passes. Asked only of a list with a restore: without one nothing is read back
 
 unfoldable pub allFit : List Float → Bool
 allFit [] = true
@@ -188,4 +188,4 @@ typedItems (i ∷ is) = typedItem i && typedItems is
 
 -- the seed, share and poses that start is told, and the poses of every settle
 unfoldable pub typed : {n : ℕ} → ℕ → Opening → List (CourseItem n) → Bool
-typed seed b is = not (someRestore is) || (ltb seed 4294967296 && (fits binary64 (b .share) && (allFit (poseNumbers (b .poses)) && typedItems is)))
+typed seed b is = not (someRestore is) || (ltb seed (2 ^ 64) && (fits binary64 (b .share) && (allFit (poseNumbers (b .poses)) && typedItems is)))
