@@ -29,7 +29,7 @@ enum { GRADER_POINTS = 2500, GRADER_TILES = 20000, GRADER_OFFSETS = 4490, GRADER
 enum { GRADER_CREDITED = 40, GRADER_WHEELS = 160, GRADER_CAR = 21, GRADER_POSES = 16, GRADER_MOTIONS = 20, GRADER_FORCES = 12 };
 
 /* Bytes that a save's output must have: the length of the longest saved form. */
-enum { GRADER_SAVE = 641 };
+enum { GRADER_SAVE = 645 };
 
 /* Why a call is refused. */
 enum {
@@ -67,7 +67,7 @@ typedef struct {
     uint64_t credited[GRADER_CREDITED]; /* tile t is bit t % 64 of word t / 64 */
     uint64_t wheels[GRADER_WHEELS];     /* the tiles that a wheel touched at the last contact, wheel by wheel */
     double poses[GRADER_POSES];         /* where the wheels were at the last contact, wheel by wheel x, y, cos, sin */
-    uint32_t seed;                      /* as start was told it */
+    uint64_t seed;                      /* as start was told it */
 } grader_run;
 
 typedef struct { uint32_t cause, n, entries; bool fallback; double beta, x, y; } grader_laid; /* beta, x, y: the first point */
@@ -79,7 +79,7 @@ typedef struct { uint32_t cause, tick, credited, n, share; bool lap, ended, fall
 typedef struct { grader_laid laid; uint32_t start_cause, start_count; bool start_lap; grader_figures sheet; } grader_replayed;
 typedef struct { uint32_t cause, length; } grader_saved;
 typedef struct { uint32_t cause; grader_run run; } grader_restored;
-typedef struct { uint32_t cause, seed, n; } grader_saved_for;
+typedef struct { uint32_t cause, n; uint64_t seed; } grader_saved_for;
 typedef struct { uint32_t cause; double value; } grader_angle;
 typedef struct { uint64_t value, state; } grader_drawn;
 
@@ -89,7 +89,7 @@ typedef struct { uint64_t value, state; } grader_drawn;
 #define COURSE_IN IN(double, tiles), IN(uint32_t, offsets), IN(uint32_t, list)
 
 /* The course of a seed, or of given points; causes 2, 3, and 9, 2, 8, 3. */
-grader_laid grader_lay(uint32_t seed, COURSE_OUT);
+grader_laid grader_lay(uint64_t seed, COURSE_OUT);
 grader_laid grader_points(IN(double, given_beta), IN(double, given_x), IN(double, given_y), uint32_t count, COURSE_OUT);
 /* Curb quads and white marks of given points; causes 9, 2, 8. */
 grader_curbs_found grader_curbs(IN(double, beta), IN(double, x), IN(double, y), uint32_t count, OUT(double, quads), OUT(uint8_t, white));
@@ -97,7 +97,7 @@ grader_curbs_found grader_curbs(IN(double, beta), IN(double, x), IN(double, y), 
 /* A run: start (causes 1, 2, 8, 10), then drive (4, 5, 6, 7, 8) and settle (4, 5, 6, 2, 8, 10) in turn, with the host's
  * physics between them; sheet (4) at any time. A host calls these three by `grader_drive`, `grader_settle` and `grader_sheet` below.
  * Start is told the course's seed, 0 for a course from points; it is kept for a save, and nothing is tested or graded by it. */
-grader_started grader_start(COURSE_IN, uint32_t n, bool fallback, uint32_t seed, double lap_share, uint32_t tick_limit, grader_poses poses);
+grader_started grader_start(COURSE_IN, uint32_t n, bool fallback, uint64_t seed, double lap_share, uint32_t tick_limit, grader_poses poses);
 double grader_reward(grader_weights weights, uint32_t new_tiles, uint32_t n, bool off);
 
 /* The three on a run's parts: setup and progress by value, the others lent. An accepted drive writes all numbers of car and forces, a
@@ -124,7 +124,7 @@ static inline grader_figures grader_sheet(const grader_run *run) {
 }
 
 /* Keeping a run over a restart of the host. Save (causes 4, 5, 2, in this order) writes the run's saved form to the first `length` bytes
- * of `out`, which has room for 641 whatever the length, and nothing past them; a refused save writes nothing. Lay the course again by the
+ * of `out`, which has room for 645 whatever the length, and nothing past them; a refused save writes nothing. Lay the course again by the
  * seed and the tile count that `grader_saved_course` (11) tells of the bytes, then restore (11, 12, 2, 10): the run as it was at the save,
  * its wheel sets made anew from the last poses on the lent course. Both take the bytes in their whole length and no more. */
 grader_saved grader_save(grader_run run, OUT(uint8_t, out));
@@ -134,7 +134,7 @@ grader_restored grader_restore(IN(uint8_t, bytes), COURSE_IN, uint32_t n);
 /* A whole run from a list: four words and twenty numbers to a call, four words and twelve numbers to an answer. A call: kind (0 is
  * a drive, any other a settle), action, lent lengths of tiles and offsets; a drive's motions, or a settle's hull x, y and poses. An
  * answer: 0 and the forces; 1, new tiles, n and the flags off, lap, ended as 1, 2, 4; or 2 and the cause. */
-grader_replayed grader_replay(uint32_t seed, COURSE_OUT, double lap_share, uint32_t tick_limit, grader_poses poses, uint32_t many, IN(uint32_t, calls), IN(double, given), OUT(uint32_t, words), OUT(double, numbers));
+grader_replayed grader_replay(uint64_t seed, COURSE_OUT, double lap_share, uint32_t tick_limit, grader_poses poses, uint32_t many, IN(uint32_t, calls), IN(double, given), OUT(uint32_t, words), OUT(double, numbers));
 
 /* The numbers that the course is made of; sine, cosine and atan2 refuse by 8. */
 grader_angle grader_sine(double a);

@@ -55,9 +55,9 @@ fn overlaps(rounds: Rounds) {
     versus("`quad_overlap`, overlap: near pairs", rounds, || timed(&rust), || timed(&here));
 }
 
-/// Lay, and the curbs of what is laid.
+/// Lay, and the curbs of what is laid; the seed is one that the Rust has too.
 fn laid(seed: u32, lent: &mut Lent, long: &[usize; 7], quads: &mut [f64], white: &mut [u8]) -> u32 {
-    let laid = port::lay(seed, lent, long);
+    let laid = port::lay(seed.into(), lent, long);
     let given = [&lent.floats[1][..], &lent.floats[2], &lent.floats[3]];
     laid.entries + port::curbs(given, laid.n, quads, white).count
 }

@@ -19,7 +19,7 @@ fn attempts(rounds: Rounds) {
     let mut lent = Lent::untouched(&long);
     for k in 1..=5 {
         let seeds: Vec<u32> = (0..200_000).filter(|&s| probe::attempts(s).0 == k).take(4).collect();
-        let t = alone(rounds, || each(seeds.len(), || seeds.iter().for_each(|&s| drop(black_box(port::lay(s, &mut lent, &long))))));
+        let t = alone(rounds, || each(seeds.len(), || seeds.iter().for_each(|&s| drop(black_box(port::lay(s.into(), &mut lent, &long))))));
         println!("| {k} | {} | {} | {} |", seeds.iter().map(u32::to_string).collect::<Vec<_>>().join(", "), shown(t), shown(t / f64::from(k)));
     }
 }

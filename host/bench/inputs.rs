@@ -7,7 +7,7 @@ use reinfors_core::SplitMix64;
 use std::sync::Arc;
 
 /// Any seed: a run keeps it, and nothing is tested or graded by it.
-const SEED: u32 = 7;
+const SEED: u64 = 7;
 
 const WHEELS: [[f64; 2]; 4] = [[-55.0, 80.0], [55.0, 80.0], [-55.0, -82.0], [55.0, -82.0]];
 
@@ -66,11 +66,11 @@ pub struct Ground {
 }
 
 impl Ground {
-    /// Of a seed.
+    /// Of a seed that the Rust has too: of 32 bits.
     pub fn laid(seed: u32) -> Ground {
         let long = stated(60_000);
         let mut lent = Lent::untouched(&long);
-        let laid = port::lay(seed, &mut lent, &long);
+        let laid = port::lay(seed.into(), &mut lent, &long);
         Ground::of(Track::generate(seed), lent, laid)
     }
     /// Of given points.

@@ -1,5 +1,5 @@
-/* Lays seed 7 and drives on it a car that stands where it is put, and looks at what each call leaves in the run, field by field: an
- * accepted one what it says, a refused one all as it was. A run that is saved and restored on the way goes on like the one that was not. */
+/* Lays a seed of 64 bits and drives on it a car that stands where it is put, and looks at what each call leaves in the run, field by field:
+ * an accepted one what it says, a refused one all as it was. A run that is saved and restored on the way goes on like the one that was not. */
 #include "../grader.h"
 #include <math.h>
 #include <stdio.h>
@@ -8,7 +8,8 @@
 
 #define CHECK(so) do { if (!(so)) { printf("lap.c, line %d: not so: %s\n", __LINE__, #so); exit(1); } } while (0)
 
-enum { SEED = 7, LIST = 4096 };
+static const uint64_t SEED = 0x0123456789abcdef; /* no two bytes alike */
+enum { LIST = 4096 };
 static double alpha[GRADER_POINTS], beta[GRADER_POINTS], x[GRADER_POINTS], y[GRADER_POINTS], tiles[GRADER_TILES];
 static uint32_t offsets[GRADER_OFFSETS], list[LIST];
 static grader_laid course;
@@ -146,7 +147,7 @@ static void not_saved(const grader_run *run, size_t room, uint32_t cause) {
     for (size_t i = 0; i < sizeof out; i++) CHECK(out[i] == 0xa5);
 }
 
-/* The run's bytes, at most 641; past their length the output is as it was. They tell their course. */
+/* The run's bytes, at most 645; past their length the output is as it was. They tell their course. */
 static uint32_t saved(const grader_run *run, uint8_t bytes[GRADER_SAVE]) {
     memset(bytes, 0xa5, GRADER_SAVE);
     grader_saved s = grader_save(*run, bytes, GRADER_SAVE);
@@ -184,9 +185,9 @@ static void restores_refused(const grader_run *run) {
     bytes[length] = 0;
     not_restored(bytes, length + 1, 0, 0, course.n + 1, GRADER_SAVED); /* a byte left over */
     for (size_t i = 0; i < length; i++) not_restored(bytes, i, 0, 0, course.n + 1, GRADER_SAVED);
-    bytes[1] ^= 4; /* a field that there is not */
+    bytes[1] ^= 8; /* a field that there is not */
     not_restored(bytes, length, GRADER_TILES, course.entries, course.n, GRADER_SAVED);
-    bytes[1] ^= 4;
+    bytes[1] ^= 8;
     not_restored(bytes, length, 0, 0, course.n + 1, GRADER_OTHER_COURSE);
     not_restored(bytes, length, GRADER_TILES - 1, 0, course.n, GRADER_SHORT);
     not_restored(bytes, length, GRADER_TILES, 0, course.n, GRADER_INDEX);

@@ -26,7 +26,7 @@ SIZE(grader_figures, 24);
 SIZE(grader_replayed, 80);
 SIZE(grader_saved, 8);
 SIZE(grader_restored, 1952);
-SIZE(grader_saved_for, 12);
+SIZE(grader_saved_for, 16);
 SIZE(grader_angle, 16);
 SIZE(grader_drawn, 16);
 
@@ -77,6 +77,6 @@ AT(grader_saved, length, 4);
 AT(grader_restored, cause, 0);
 AT(grader_restored, run, 8);
 AT(grader_saved_for, cause, 0);
-AT(grader_saved_for, seed, 4);
-AT(grader_saved_for, n, 8);
+AT(grader_saved_for, n, 4);
+AT(grader_saved_for, seed, 8);
 AT(grader_angle, value, 8);

@@ -33,7 +33,7 @@ pub struct Curb {
 #[derive(Clone, Debug)]
 pub struct Course {
     columns: Owned,
-    seed: u32,
+    seed: u64,
     n: u32,
     fallback: bool,
     first: Point,
@@ -46,7 +46,7 @@ impl Course {
     /// let course = grader::Course::lay(0);
     /// assert_eq!((course.n(), course.entries()), (292, 1173));
     /// ```
-    pub fn lay(seed: u32) -> Course {
+    pub fn lay(seed: u64) -> Course {
         let mut columns = Owned::new();
         // Refused by 2 and 3 alone: the columns have their full lengths, and 3 makes the list grow.
         let laid = columns.growing(|lent| ffi::lay(seed, lent)).expect("columns of full lengths are not refused");
@@ -63,14 +63,14 @@ impl Course {
         Ok(Course::of(columns, 0, laid))
     }
 
-    fn of(mut columns: Owned, seed: u32, laid: Laid) -> Course {
+    fn of(mut columns: Owned, seed: u64, laid: Laid) -> Course {
         columns.list.truncate(laid.entries as usize);
         let first = Point { beta: laid.beta, x: laid.x, y: laid.y };
         Course { columns, seed, n: laid.n, fallback: laid.fallback, first }
     }
 
     /// The seed that it was laid from; 0 for a course of given points.
-    pub fn seed(&self) -> u32 {
+    pub fn seed(&self) -> u64 {
         self.seed
     }
 

@@ -103,7 +103,7 @@ pub struct State {
     pub credited: [u64; 40],
     pub wheels: [u64; 160],
     pub poses: [Pose; 4],
-    pub seed: u32,
+    pub seed: u64,
 }
 
 #[repr(C)]
@@ -187,8 +187,8 @@ pub struct Restored {
 #[repr(C)]
 pub struct SavedFor {
     pub cause: u32,
-    pub seed: u32,
     pub n: u32,
+    pub seed: u64,
 }
 
 #[repr(C)]
@@ -219,10 +219,10 @@ type N = usize;
 
 #[rustfmt::skip]
 extern "C" {
-    fn grader_lay(seed: u32, a: Fm, al: N, b: Fm, bl: N, x: Fm, xl: N, y: Fm, yl: N, t: Fm, tl: N, o: Im, ol: N, l: Im, ll: N) -> Laid;
+    fn grader_lay(seed: u64, a: Fm, al: N, b: Fm, bl: N, x: Fm, xl: N, y: Fm, yl: N, t: Fm, tl: N, o: Im, ol: N, l: Im, ll: N) -> Laid;
     fn grader_points(gb: F, gbl: N, gx: F, gxl: N, gy: F, gyl: N, count: u32, a: Fm, al: N, b: Fm, bl: N, x: Fm, xl: N, y: Fm, yl: N, t: Fm, tl: N, o: Im, ol: N, l: Im, ll: N) -> Laid;
     fn grader_curbs(gb: F, gbl: N, gx: F, gxl: N, gy: F, gyl: N, count: u32, q: Fm, ql: N, w: Bm, wl: N) -> CurbsFound;
-    fn grader_start(t: F, tl: N, o: I, ol: N, l: I, ll: N, n: u32, fallback: bool, seed: u32, share: f64, limit: u32, poses: Poses) -> Started;
+    fn grader_start(t: F, tl: N, o: I, ol: N, l: I, ll: N, n: u32, fallback: bool, seed: u64, share: f64, limit: u32, poses: Poses) -> Started;
     fn grader_drive_parts(setup: Setup, progress: Progress, car: &mut Car, wheels: &[u64; 160], action: u32, motions: &[Motion; 4], forces: &mut [Force; 4]) -> Driven;
     fn grader_settle_parts(setup: Setup, progress: Progress, credited: &mut [u64; 40], wheels: &mut [u64; 160], last: &mut [Pose; 4], t: F, tl: N, o: I, ol: N, l: I, ll: N, x: f64, y: f64, poses: Poses) -> Settled;
     fn grader_sheet_parts(setup: Setup, progress: Progress) -> Figures;
@@ -230,7 +230,7 @@ extern "C" {
     fn grader_saved_course(b: B, bl: N) -> SavedFor;
     fn grader_restore(b: B, bl: N, t: F, tl: N, o: I, ol: N, l: I, ll: N, n: u32) -> Restored;
     fn grader_reward(weights: Weights, new_tiles: u32, n: u32, off: bool) -> f64;
-    fn grader_replay(seed: u32, a: Fm, al: N, b: Fm, bl: N, x: Fm, xl: N, y: Fm, yl: N, t: Fm, tl: N, o: Im, ol: N, l: Im, ll: N, share: f64, limit: u32, poses: Poses, many: u32, c: I, cl: N, g: F, gl: N, w: Im, wl: N, n: Fm, nl: N) -> Replayed;
+    fn grader_replay(seed: u64, a: Fm, al: N, b: Fm, bl: N, x: Fm, xl: N, y: Fm, yl: N, t: Fm, tl: N, o: Im, ol: N, l: Im, ll: N, share: f64, limit: u32, poses: Poses, many: u32, c: I, cl: N, g: F, gl: N, w: Im, wl: N, n: Fm, nl: N) -> Replayed;
     fn grader_sine(a: f64) -> Angle;
     fn grader_cosine(a: f64) -> Angle;
     fn grader_atan2(y: f64, x: f64) -> Angle;
@@ -267,7 +267,7 @@ pub struct Opening {
 }
 
 #[rustfmt::skip]
-pub fn lay(seed: u32, c: Lent) -> Laid {
+pub fn lay(seed: u64, c: Lent) -> Laid {
     unsafe {
         grader_lay(seed, c.alpha.as_mut_ptr(), c.alpha.len(), c.beta.as_mut_ptr(), c.beta.len(), c.x.as_mut_ptr(), c.x.len(),
             c.y.as_mut_ptr(), c.y.len(), c.tiles.as_mut_ptr(), c.tiles.len(), c.offsets.as_mut_ptr(), c.offsets.len(),
@@ -294,7 +294,7 @@ pub fn curbs(beta: &[f64], x: &[f64], y: &[f64], count: u32, quads: &mut [f64], 
 }
 
 #[rustfmt::skip]
-pub fn start(c: Columns, n: u32, fallback: bool, seed: u32, opening: Opening) -> Started {
+pub fn start(c: Columns, n: u32, fallback: bool, seed: u64, opening: Opening) -> Started {
     unsafe {
         grader_start(c.tiles.as_ptr(), c.tiles.len(), c.offsets.as_ptr(), c.offsets.len(), c.list.as_ptr(), c.list.len(), n, fallback, seed,
             opening.lap_share, opening.tick_limit, Poses { wheels: opening.poses })
@@ -356,7 +356,7 @@ pub struct Batch<'a> {
 }
 
 #[rustfmt::skip]
-pub fn replay(seed: u32, c: Lent, opening: Opening, b: Batch) -> Replayed {
+pub fn replay(seed: u64, c: Lent, opening: Opening, b: Batch) -> Replayed {
     unsafe {
         grader_replay(seed, c.alpha.as_mut_ptr(), c.alpha.len(), c.beta.as_mut_ptr(), c.beta.len(), c.x.as_mut_ptr(), c.x.len(),
             c.y.as_mut_ptr(), c.y.len(), c.tiles.as_mut_ptr(), c.tiles.len(), c.offsets.as_mut_ptr(), c.offsets.len(),
@@ -402,7 +402,7 @@ mod tests {
         assert_eq!([size_of::<Setup>(), size_of::<Progress>(), size_of::<Car>(), size_of::<State>()], [24, 12, 168, 1944]);
         assert_eq!([size_of::<Laid>(), size_of::<CurbsFound>(), size_of::<Figures>(), size_of::<Replayed>()], [40, 8, 24, 80]);
         assert_eq!([size_of::<Started>(), size_of::<Driven>(), size_of::<Settled>()], [1960, 16, 28]);
-        assert_eq!([size_of::<Saved>(), size_of::<Restored>(), size_of::<SavedFor>()], [8, 1952, 12]);
+        assert_eq!([size_of::<Saved>(), size_of::<Restored>(), size_of::<SavedFor>()], [8, 1952, 16]);
         assert_eq!([size_of::<Angle>(), size_of::<Drawn>()], [16, 16]);
     }
 
@@ -430,7 +430,7 @@ mod tests {
         places!(Replayed: laid 0, start_cause 40, start_count 44, start_lap 48, sheet 52);
         places!(Saved: cause 0, length 4);
         places!(Restored: cause 0, run 8);
-        places!(SavedFor: cause 0, seed 4, n 8);
+        places!(SavedFor: cause 0, n 4, seed 8);
         places!(Angle: cause 0, value 8);
         places!(Drawn: value 0, state 8);
     }

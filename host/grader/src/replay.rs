@@ -37,7 +37,7 @@ const LENT: [u32; 2] = [20_000, 4_490];
 
 /// Lays the seed's course, starts a run on it and answers the calls. Refused by [`Refusal::Short`] as a whole, with nothing
 /// answered, where there are more calls than a u32 counts.
-pub fn replay(seed: u32, lap_share: f64, tick_limit: u32, poses: [Pose; 4], calls: &[Call]) -> Result<Replayed, Refusal> {
+pub fn replay(seed: u64, lap_share: f64, tick_limit: u32, poses: [Pose; 4], calls: &[Call]) -> Result<Replayed, Refusal> {
     let many = u32::try_from(calls.len()).map_err(|_| Refusal::Short)?;
     let opening = Opening { lap_share, tick_limit, poses };
     let words: Vec<u32> = calls.iter().flat_map(|c| c.flat().0).collect();

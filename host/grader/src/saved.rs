@@ -1,14 +1,14 @@
-//! Keeping a run in bytes, over a restart of the host: document 02, order 1.
+//! Keeping a run in bytes, over a restart of the host: document 02, orders 1 and 3.
 use crate::ffi;
 use crate::{Course, Refusal, Run};
 
 /// Bytes that the grader asks of a save's output: the longest saved form.
-const ROOM: usize = 641;
+const ROOM: usize = 645;
 
 /// The course that saved bytes are of: the seed that it was laid from, 0 for a course of given points, and its tile count.
 #[derive(Clone, Copy, Debug, PartialEq, Eq)]
 pub struct SavedFor {
-    pub seed: u32,
+    pub seed: u64,
     pub n: u32,
 }
 
@@ -20,7 +20,7 @@ pub fn saved_course(bytes: &[u8]) -> Result<SavedFor, Refusal> {
 }
 
 impl Run {
-    /// The run in bytes, at most 641, good for [`Run::restore`]. Refused by [`Refusal::Turn`] while a settle is due; an ended
+    /// The run in bytes, at most 645, good for [`Run::restore`]. Refused by [`Refusal::Turn`] while a settle is due; an ended
     /// run is saved. Only a run made by [`Run::from_state`] may be refused by [`Refusal::NoRun`].
     pub fn save(&self) -> Result<Vec<u8>, Refusal> {
         let mut bytes = vec![0; ROOM];
@@ -55,5 +55,25 @@ impl Run {
         let r = ffi::restore(bytes, course.columns(), course.n());
         Refusal::check(r.cause, 0)?;
         Ok(Run::from_state(r.run))
+    }
+}
+
+#[cfg(test)]
+mod tests {
+    use super::*;
+    use crate::Pose;
+
+    #[test]
+    fn a_save_wants_its_room_whatever_it_writes() {
+        let run = Run::start(&Course::lay(7), 0.95, 1000, [Pose { cos: 1.0, ..Pose::default() }; 4]).unwrap().0;
+        let bytes = run.save().unwrap();
+        for room in [0, bytes.len(), ROOM - 1] {
+            let mut out = [0xa5; ROOM];
+            let saved = ffi::save(run.state(), &mut out[..room]);
+            assert_eq!((saved.cause, saved.length, out), (2, 0, [0xa5; ROOM]));
+        }
+        let mut out = [0xa5; ROOM];
+        assert_eq!(ffi::save(run.state(), &mut out).length as usize, bytes.len());
+        assert!(out.starts_with(&bytes) && out[bytes.len()..].iter().all(|&b| b == 0xa5));
     }
 }

@@ -16,11 +16,13 @@ fn begun(course: &Course, limit: u32) -> Run {
 }
 
 #[test]
-fn seed_0_has_292_tiles_and_1173_entries() {
-    let course = Course::lay(0);
-    assert_eq!((course.n(), course.entries(), course.fallback()), (292, 1173, false));
-    assert_eq!(course.points().len(), 292);
-    assert_eq!(course.first(), course.points()[0]);
+fn a_seed_has_its_course() {
+    for (seed, n, entries) in [(0, 292, 1173), (1 << 32, 281, 1156), ((1 << 32) + 7, 308, 1342), (u64::MAX, 323, 1336)] {
+        let course = Course::lay(seed);
+        assert_eq!((course.seed(), course.n(), course.entries(), course.fallback()), (seed, n, entries, false));
+        assert_eq!(course.points().len(), n as usize);
+        assert_eq!(course.first(), course.points()[0]);
+    }
 }
 
 #[test]
@@ -179,7 +181,7 @@ fn answer(run: &mut Run, course: &Course, call: &Call) -> Answer {
 
 #[test]
 fn a_replay_answers_like_the_calls_one_by_one() {
-    for (seed, limit) in [(0, 1000), (3, 20), (417, 1000)] {
+    for (seed, limit) in [(0, 1000), (3, 20), (417, 1000), ((1 << 32) + 7, 1000), (u64::MAX, 1000)] {
         let course = Course::lay(seed);
         let calls = calls(&course);
         let (mut run, started) = Run::start(&course, 0.95, limit, wheels(&course, 0)).unwrap();

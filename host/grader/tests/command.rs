@@ -11,6 +11,9 @@ fn said(out: &Output) -> (String, String) {
     (text(&out.stdout), text(&out.stderr))
 }
 
+/// The last seed there is.
+const LAST: &str = "18446744073709551615";
+
 /// A folder of this test's own.
 fn folder(name: &str) -> PathBuf {
     let folder = PathBuf::from(env!("CARGO_TARGET_TMPDIR")).join(name);
@@ -25,6 +28,29 @@ fn lay_prints_the_course() {
     assert!(said(&out).0.starts_with("seed      0\ntiles     292\nentries   1173\nfallback  no\nfirst     beta "));
     let out = grade(&["lay", "0", "--json"]);
     assert!(said(&out).0.starts_with("{\"seed\":0,\"n\":292,\"entries\":1173,\"fallback\":false,\"first\":{\"beta\":"));
+}
+
+#[test]
+fn a_seed_is_shown_with_all_its_digits() {
+    let (text, json) = (said(&grade(&["lay", LAST])).0, said(&grade(&["lay", LAST, "--json"])).0);
+    assert!(text.starts_with(&format!("seed      {LAST}\ntiles     323\nentries   1336\n")), "{text}");
+    assert!(json.starts_with(&format!("{{\"seed\":{LAST},\"n\":323,\"entries\":1336,")), "{json}");
+    for seed in ["18446744073709551616", "184467440737095516150", "-1", "0x7", "7.0"] {
+        for command in ["lay", "demo", "bench"] {
+            let out = grade(&[command, seed]);
+            assert_eq!((out.status.code(), said(&out).0), (Some(2), String::new()), "{command} {seed}");
+            assert_eq!(said(&out).1, format!("grade: a seed is a whole number from 0 to {LAST}, not {seed}\n"));
+        }
+    }
+}
+
+#[test]
+fn bench_times_every_call() {
+    let out = grade(&["bench", LAST, "--json"]);
+    assert!(out.status.success(), "{}", said(&out).1);
+    let times = said(&out).0;
+    let calls = ["lay", "start", "drive", "settle", "save", "restore", "replay"];
+    assert!(calls.iter().all(|call| times.contains(&format!("\"{call}\":"))), "{times}");
 }
 
 #[test]
@@ -43,16 +69,19 @@ fn lay_draws_every_tile() {
 
 #[test]
 fn a_demo_replays_to_its_sheet() {
-    let dir = folder("demo");
-    let out = grade(&["demo", "7", "--out", dir.to_str().unwrap()]);
-    assert!(out.status.success(), "{}", said(&out).1);
-    assert!(said(&out).1.contains("tick 250: "));
-    let (log, again) = (dir.join("log.txt"), dir.join("again.svg"));
-    let out = grade(&["replay", log.to_str().unwrap(), "--svg", again.to_str().unwrap()]);
-    let read = |name: &str| std::fs::read_to_string(dir.join(name)).unwrap();
-    assert!(said(&out).0.ends_with(&format!("\n\n{}", read("sheet.txt"))));
-    assert_eq!(read("again.svg"), read("lap.svg"));
-    assert!(read("lap.svg").contains("<polyline class=\"path\""));
+    for seed in ["7", LAST] {
+        let dir = folder(&format!("demo{seed}"));
+        let out = grade(&["demo", seed, "--out", dir.to_str().unwrap()]);
+        assert!(out.status.success(), "{}", said(&out).1);
+        assert!(said(&out).1.contains("tick 250: "));
+        let (log, again) = (dir.join("log.txt"), dir.join("again.svg"));
+        let out = grade(&["replay", log.to_str().unwrap(), "--svg", again.to_str().unwrap()]);
+        let read = |name: &str| std::fs::read_to_string(dir.join(name)).unwrap();
+        assert!(read("log.txt").contains(&format!("\nseed {seed}\n")));
+        assert!(said(&out).0.ends_with(&format!("\n\n{}", read("sheet.txt"))));
+        assert_eq!(read("again.svg"), read("lap.svg"));
+        assert!(read("lap.svg").contains("<polyline class=\"path\""));
+    }
 }
 
 #[test]
@@ -97,8 +126,8 @@ fn with(words: &[&str], files: &[&PathBuf]) -> Output {
 
 #[test]
 fn a_log_cut_in_two_is_answered_like_the_whole() {
-    for ticks in [1, 300] {
-        let [whole, before, after] = cut(&format!("cut{ticks}"), "7", ticks);
+    for (seed, tiles, ticks, most) in [("7", 272, 1, 641), ("7", 272, 300, 641), (LAST, 323, 300, 645)] {
+        let [whole, before, after] = cut(&format!("cut{ticks}of{seed}"), seed, ticks);
         let file = whole.with_file_name("run.saved");
         let saved = with(&["save"], &[&before, &file]);
         assert!(saved.status.success(), "{}", said(&saved).1);
@@ -108,9 +137,10 @@ fn a_log_cut_in_two_is_answered_like_the_whole() {
         let whole = said(&with(&["replay"], &[&whole])).0;
         let (saved, resumed) = (said(&saved).0, said(&resumed).0);
         let length = std::fs::read(&file).unwrap().len();
-        assert!(saved.ends_with(&format!("\n\nThe run is saved in {}, {length} bytes.\n", file.display())) && length <= 641);
+        assert!(saved.ends_with(&format!("\n\nThe run is saved in {}, {length} bytes.\n", file.display())) && length <= most);
         let (start, rest) = resumed.split_once('\n').unwrap();
-        assert!(start.starts_with(&format!("restored  seed 7, tick {ticks}, ")) && start.ends_with(" of 272 tiles credited"));
+        assert!(start.starts_with(&format!("restored  seed {seed}, tick {ticks}, ")));
+        assert!(start.ends_with(&format!(" of {tiles} tiles credited")), "{start}");
         let first = saved.split("\n\n").next().unwrap();
         assert_eq!(format!("{first}\n{rest}"), whole);
         assert!(said(&with(&["replay"], &[&before])).0.lines().eq(saved.lines().take(saved.lines().count() - 2)));
@@ -119,19 +149,22 @@ fn a_log_cut_in_two_is_answered_like_the_whole() {
 
 #[test]
 fn a_run_is_resumed_without_a_log() {
-    let [_, before, after] = cut("alone", "7", 20);
-    let file = before.with_file_name("run.saved");
-    let saved = said(&with(&["save", "--json"], &[&before, &file])).0;
-    let sheet = saved.split_once("\"sheet\":").unwrap().1.split_once('}').unwrap().0;
-    assert!(saved.starts_with("{\"seed\":7,\"started\":{\"count\":") && sheet.starts_with("{\"tick\":20,"));
-    let length = std::fs::read(&file).unwrap().len();
-    assert!(saved.ends_with(&format!("\"saved\":{{\"file\":\"{}\",\"length\":{length}}}}}\n", file.display())));
-    let resumed = said(&with(&["resume", "--json"], &[&file])).0;
-    assert_eq!(resumed, format!("{{\"seed\":7,\"restored\":{sheet}}},\"answers\":[],\"sheet\":{sheet}}}}}\n"));
-    let resumed = said(&with(&["resume"], &[&file])).0;
-    assert!(resumed.starts_with("restored  seed 7, tick 20, ") && resumed.contains(" tiles credited\n\ntick      20\n"));
-    let resumed = said(&with(&["resume", "--json"], &[&file, &after])).0;
-    assert!(resumed.contains("\"answers\":[{\"line\":44,\"call\":\"drive "));
+    for seed in ["7", LAST] {
+        let [_, before, after] = cut(&format!("alone{seed}"), seed, 20);
+        let file = before.with_file_name("run.saved");
+        let saved = said(&with(&["save", "--json"], &[&before, &file])).0;
+        let sheet = saved.split_once("\"sheet\":").unwrap().1.split_once('}').unwrap().0;
+        assert!(saved.starts_with(&format!("{{\"seed\":{seed},\"started\":{{\"count\":")) && sheet.starts_with("{\"tick\":20,"));
+        let length = std::fs::read(&file).unwrap().len();
+        assert!(saved.ends_with(&format!("\"saved\":{{\"file\":\"{}\",\"length\":{length}}}}}\n", file.display())));
+        let resumed = said(&with(&["resume", "--json"], &[&file])).0;
+        assert_eq!(resumed, format!("{{\"seed\":{seed},\"restored\":{sheet}}},\"answers\":[],\"sheet\":{sheet}}}}}\n"));
+        let resumed = said(&with(&["resume"], &[&file])).0;
+        assert!(resumed.starts_with(&format!("restored  seed {seed}, tick 20, ")));
+        assert!(resumed.contains(" tiles credited\n\ntick      20\n"));
+        let resumed = said(&with(&["resume", "--json"], &[&file, &after])).0;
+        assert!(resumed.contains("\"answers\":[{\"line\":44,\"call\":\"drive "));
+    }
 }
 
 #[test]
@@ -196,10 +229,18 @@ fn a_file_that_is_no_saved_run_is_told() {
 #[test]
 fn failures_have_a_status_and_say_where() {
     let log = folder("wrong").join("log.txt");
-    std::fs::write(&log, "seed 0\n# a comment\nstart 0.95 nine\n").unwrap();
-    let out = grade(&["replay", log.to_str().unwrap()]);
-    assert_eq!(out.status.code(), Some(1));
-    assert!(said(&out).1.contains("log.txt:3: expected the tick limit, a whole number of 32 bits, found `nine`"));
+    for (text, why) in [
+        ("seed 0\n# a comment\nstart 0.95 nine\n", "log.txt:3: expected the tick limit, a whole number of 32 bits, found `nine`"),
+        (
+            "\nseed 184467440737095516150",
+            "log.txt:2: expected the seed, a whole number of 64 bits, found `184467440737095516150`",
+        ),
+    ] {
+        std::fs::write(&log, text).unwrap();
+        let out = grade(&["replay", log.to_str().unwrap()]);
+        assert_eq!((out.status.code(), said(&out).0), (Some(1), String::new()));
+        assert!(said(&out).1.contains(why), "{}", said(&out).1);
+    }
     for words in [
         &["fly"][..],
         &[],

@@ -1,5 +1,8 @@
-//! Save, restore and saved_course beside what document 02's order 1 says of them.
+//! Save, restore and saved_course beside what document 02's orders 1 and 3 say of them.
 use grader::{saved_course, Answer, Call, Course, Motion, Point, Pose, Refusal, Run, SavedFor};
+
+/// The least seed of those that stand in field 10.
+const WIDE: u64 = 1 << 32;
 
 /// Four wheels at the course's point i.
 fn wheels(course: &Course, i: usize) -> [Pose; 4] {
@@ -53,9 +56,19 @@ fn six() -> (Course, Vec<u8>) {
     (course, bytes)
 }
 
+/// The bytes of the least run, one tile and one tick, with what stands in field 0 and in field 10, if they stand.
+fn least(low: Option<u32>, high: Option<u64>) -> Vec<u8> {
+    let map = 0x0204 | u16::from(low.is_some()) | u16::from(high.is_some()) << 10;
+    let mut bytes = map.to_le_bytes().to_vec();
+    bytes.extend(low.into_iter().flat_map(u32::to_le_bytes));
+    bytes.extend([1, 0, 0, 0, 1, 0]);
+    bytes.extend(high.into_iter().flat_map(u64::to_le_bytes));
+    bytes
+}
+
 #[test]
 fn a_run_kept_on_the_way_goes_on_like_the_one_that_was_not() {
-    for seed in [0, 7, 417] {
+    for seed in [0, 7, 417, WIDE + 7] {
         let course = Course::lay(seed);
         let mut run = begun(&course);
         let mut other = kept(&run);
@@ -85,6 +98,59 @@ fn a_save_has_the_bytes_of_the_order() {
     let one = Course::from_points(&[Point::default()]).unwrap();
     let least = [4, 2, 1, 0, 0, 0, 1, 0];
     assert_eq!(Run::restore(&one, &least).unwrap().save().unwrap(), least);
+}
+
+#[test]
+fn a_seed_stands_in_field_0_or_in_field_10() {
+    assert_eq!(least(Some(7), None), [5, 2, 7, 0, 0, 0, 1, 0, 0, 0, 1, 0]);
+    assert_eq!(least(None, Some(WIDE + 7)), [4, 6, 1, 0, 0, 0, 1, 0, 7, 0, 0, 0, 1, 0, 0, 0]);
+    let one = Course::from_points(&[Point::default()]).unwrap();
+    let low = [1, 7, u32::MAX].map(|seed| (seed.into(), least(Some(seed), None)));
+    let high = [WIDE, WIDE + 7, 7 * WIDE, u64::MAX].map(|seed| (seed, least(None, Some(seed))));
+    for (seed, bytes) in [(0, least(None, None))].into_iter().chain(low).chain(high) {
+        assert_eq!(saved_course(&bytes), Ok(SavedFor { seed, n: 1 }));
+        let run = Run::restore(&one, &bytes).unwrap();
+        assert_eq!((run.state().seed, run.save()), (seed, Ok(bytes)));
+    }
+}
+
+#[test]
+fn seeds_in_the_wrong_field_are_refused() {
+    let one = Course::from_points(&[Point::default()]).unwrap();
+    let both = [(1, WIDE + 1), (0, WIDE), (7, 0), (7, 7)].map(|(low, high)| least(Some(low), Some(high)));
+    let small = [0, 1, WIDE - 1].map(|seed| least(None, Some(seed)));
+    for bytes in both.into_iter().chain(small).chain([least(Some(0), None)]) {
+        assert_eq!(Run::restore(&one, &bytes).unwrap_err(), Refusal::Saved, "{bytes:?}");
+        assert_eq!(saved_course(&bytes), Err(Refusal::Saved));
+    }
+}
+
+#[test]
+fn a_wide_seed_is_kept_whole() {
+    for seed in [WIDE, WIDE + 7, u64::MAX] {
+        let course = Course::lay(seed);
+        assert!(course.seed() == seed && course.points() != Course::lay(seed % WIDE).points());
+        let mut run = begun(&course);
+        drive(&mut run);
+        run.settle(&course, 0.0, 0.0, wheels(&course, 9)).unwrap();
+        let bytes = run.save().unwrap();
+        assert_eq!(saved_course(&bytes), Ok(SavedFor { seed, n: course.n() }));
+        let again = Run::restore(&Course::lay(seed), &bytes).unwrap();
+        assert_eq!((again.state().seed, again.save()), (seed, Ok(bytes)));
+        assert_eq!(again, run);
+    }
+}
+
+/// A run that has used gas and left the playfield has all fields there are beside the seed's.
+#[test]
+fn the_longest_saves_differ_by_the_seeds_bytes() {
+    for (seed, length) in [(0, 637), (7, 641), (WIDE - 1, 641), (WIDE, 645), (u64::MAX, 645)] {
+        let course = Course::lay(seed);
+        let mut run = begun(&course);
+        drive(&mut run);
+        assert!(run.settle(&course, 334.0, 0.0, wheels(&course, 0)).unwrap().ended);
+        assert_eq!(run.save().unwrap().len(), length, "seed {seed}");
+    }
 }
 
 #[test]
@@ -144,7 +210,7 @@ fn other_bytes_are_refused() {
     let last = bytes.len() - 2;
     let wrong = (0..bytes.len()).map(|i| bytes[..i].to_vec()).chain([
         longer,
-        changed(1, 0x07),   // an unknown field
+        changed(1, 0x0b),   // an unknown field
         changed(2, 0),      // a standing field of zeros
         changed(13, 0x40),  // a share above 1
         changed(16, 0xff),  // a limit above 1,000,000

@@ -44,7 +44,7 @@ impl Args {
         while let Some(word) = given.next() {
             match word.as_str() {
                 "--help" | "-h" => args.help = true,
-                option if option.starts_with('-') && !known.contains(&option) => {
+                option if is_option(option) && !known.contains(&option) => {
                     return Err(Failure::Usage(format!("no option {option} here; see --help")))
                 }
                 "--json" => args.json = true,
@@ -60,13 +60,18 @@ impl Args {
     }
 }
 
+/// A number with a minus sign is none: a seed of -1 is to be answered by what a seed is.
+fn is_option(word: &str) -> bool {
+    word.strip_prefix('-').is_some_and(|rest| !rest.starts_with(|c: char| c.is_ascii_digit()))
+}
+
 fn value(option: &str, next: Option<String>) -> Result<PathBuf, Failure> {
     next.map(PathBuf::from).ok_or_else(|| Failure::Usage(format!("{option} needs a name after it")))
 }
 
-/// A seed: a whole number of 32 bits.
-pub fn seed(word: &str) -> Result<u32, Failure> {
-    word.parse().map_err(|_| Failure::Usage(format!("a seed is a whole number from 0 to {}, not {word}", u32::MAX)))
+/// A seed: a whole number of 64 bits.
+pub fn seed(word: &str) -> Result<u64, Failure> {
+    word.parse().map_err(|_| Failure::Usage(format!("a seed is a whole number from 0 to {}, not {word}", u64::MAX)))
 }
 
 /// What a file's text says by `reader`, whose errors have the line and what was expected there.

@@ -41,7 +41,7 @@ fn median(calls: usize, mut round: impl FnMut()) -> u128 {
     all[ROUNDS / 2]
 }
 
-fn times(seed: u32) -> Result<Vec<(&'static str, u128)>, grader::Refusal> {
+fn times(seed: u64) -> Result<Vec<(&'static str, u128)>, grader::Refusal> {
     let course = Course::lay(seed);
     let (log, _) = demo::driven(seed)?;
     let start = || Run::start(&course, log.start.lap_share, log.start.tick_limit, log.start.poses);

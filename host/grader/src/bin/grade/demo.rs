@@ -68,7 +68,7 @@ fn end(s: &Sheet) -> &'static str {
 }
 
 /// Drives until the run ends or the tick limit is reached: this loop is a host's.
-pub fn driven(seed: u32) -> Result<(Log, Sheet), Refusal> {
+pub fn driven(seed: u64) -> Result<(Log, Sheet), Refusal> {
     let course = Course::lay(seed);
     let mut car = Car::at(course.first());
     let mut pilot = Pilot::on(course.points());

@@ -9,7 +9,7 @@ const HELP: &str = "\
 grade lay SEED [--svg FILE] [--json]: the course of a seed
 
 Prints the tile count, the entries of the index, whether it is the fallback ring, and the first point (beta, x, y), on
-which a host puts its car. SEED is 0 to 4294967295.
+which a host puts its car. SEED is 0 to 18446744073709551615.
 
   --svg FILE   draws the course: tiles, curbs, every 20th tile's number, the start
   --json       one JSON object in place of the text
@@ -30,7 +30,7 @@ pub fn run(given: Vec<String>) -> Done {
     print(&if args.json { json(seed, &course) } else { text(seed, &course) })
 }
 
-fn text(seed: u32, c: &Course) -> String {
+fn text(seed: u64, c: &Course) -> String {
     let p = c.first();
     format!(
         "seed      {seed}\ntiles     {}\nentries   {}\nfallback  {}\nfirst     beta {} x {} y {}\n",
@@ -43,7 +43,7 @@ fn text(seed: u32, c: &Course) -> String {
     )
 }
 
-fn json(seed: u32, c: &Course) -> String {
+fn json(seed: u64, c: &Course) -> String {
     let p = c.first();
     let first = format!("{{\"beta\":{},\"x\":{},\"y\":{}}}", number(p.beta), number(p.x), number(p.y));
     format!("{{\"seed\":{seed},\"n\":{},\"entries\":{},\"fallback\":{},\"first\":{first}}}\n", c.n(), c.entries(), c.fallback())

@@ -5,7 +5,7 @@ use std::fmt::Write;
 /// What a log says, each call with the number of its line.
 #[derive(Clone, Debug, PartialEq)]
 pub struct Log {
-    pub seed: u32,
+    pub seed: u64,
     pub start: Start,
     pub calls: Vec<(usize, Call)>,
 }
@@ -31,7 +31,7 @@ grade replay --help says more of both.
 pub const FORM: &str = "\
 The log: one line a call, words parted by spaces; what follows # is a comment, and empty lines are passed over.
 
-  seed N                                first
+  seed N                                first: the course, 0 to 18446744073709551615
   start SHARE LIMIT  x y cos sin ..     second: lap share, tick limit, the poses of four wheels (16 numbers)
   drive ACTION  angle sin cos vx vy ..  the motions of four wheels (20 numbers): joint angle, sin, cos, velocity
   settle X Y  x y cos sin ..            the hull, and the poses of four wheels (16 numbers)
@@ -129,8 +129,9 @@ impl<'a> Words<'a> {
             Some(word) => word.parse().or_else(|_| self.wrong(format!("expected {what}, {kind}, found `{word}`"))),
         }
     }
-    fn whole(&mut self, what: &str) -> Found<u32> {
-        self.parsed(what, "a whole number of 32 bits")
+    /// Of as many bits as what it is read to has.
+    fn whole<T: std::str::FromStr + Into<u64>>(&mut self, what: &str) -> Found<T> {
+        self.parsed(what, &format!("a whole number of {} bits", 8 * std::mem::size_of::<T>()))
     }
     fn number(&mut self, what: &str) -> Found<f64> {
         self.parsed(what, "a number")
@@ -188,6 +189,18 @@ mod tests {
     }
 
     #[test]
+    fn a_seed_has_64_bits() {
+        let log = |seed: &str| Log::read(&format!("seed {seed}\nstart 0.95 1000 {POSES}\n"));
+        for seed in [0, u64::from(u32::MAX), 1 << 32, u64::MAX] {
+            let read = log(&seed.to_string()).unwrap();
+            assert_eq!((read.seed, Log::read(&read.text()).unwrap().seed), (seed, seed));
+        }
+        for seed in ["18446744073709551616", "184467440737095516150"] {
+            assert_eq!(log(seed), Err((1, format!("expected the seed, a whole number of 64 bits, found `{seed}`"))));
+        }
+    }
+
+    #[test]
     fn a_log_to_go_on_with_has_calls_alone() {
         let text = format!("# later\n\ndrive 3 0.5 0 0 0 {POSES}\nsettle 1 2 {POSES}\n");
         let lines = |text: &str| calls(text).map(|all| all.iter().map(|c| c.0).collect::<Vec<_>>());
@@ -207,9 +220,13 @@ mod tests {
     fn errors_say_line_and_what_was_expected() {
         assert_eq!(wrong(""), "1: expected seed N, and the log ends here");
         assert_eq!(wrong("\nsaid 3"), "2: expected a line `seed ..`, found `said`");
-        assert_eq!(wrong("seed -1"), "1: expected the seed, a whole number of 32 bits, found `-1`");
+        assert_eq!(wrong("seed -1"), "1: expected the seed, a whole number of 64 bits, found `-1`");
         assert_eq!(wrong("seed 1 2"), "1: expected the line to end, found `2`");
         assert_eq!(wrong("seed 1"), "2: expected start SHARE LIMIT and the poses of four wheels, and the log ends here");
+        assert_eq!(
+            wrong("seed 1\nstart 0.9 4294967296"),
+            "2: expected the tick limit, a whole number of 32 bits, found `4294967296`"
+        );
         assert_eq!(wrong("seed 1\nstart 0.9 9 1 2"), "2: expected cos of the front left wheel, a number, but the line ends");
         assert_eq!(wrong(&format!("seed 1\nstart 0.9 9 {POSES}\nturn 1")), "3: expected `drive ..` or `settle ..`, found `turn`");
         assert_eq!(

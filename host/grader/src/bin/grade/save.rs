@@ -9,7 +9,7 @@ const HELP: &str = "\
 grade save LOG FILE [--json]: the run after a log, kept in a file
 
 Replays the log as grade replay does, prints the same answers and the sheet, and writes the run after the log's last call to
-FILE: at most 641 bytes, for grade resume. A FILE that is there is replaced. An ended run is saved too; one whose last drive is not
+FILE: at most 645 bytes, for grade resume. A FILE that is there is replaced. An ended run is saved too; one whose last drive is not
 settled cannot be, so the log must not end between a drive and its settle.
 
   --json       one JSON object in place of the text
