@@ -1,6 +1,7 @@
 //! Checkpoints for an attempt, made up, drawn as a seed draws them, and found by search so that the third pass, a second turn of
 //! beta, a beta beyond 10, the last step or the gluing of the ends decides the course.
 use crate::lent::between;
+use crate::seeds::WIDE;
 use reinfors_core::SplitMix64;
 
 pub const TAU: f64 = 2.0 * std::f64::consts::PI;
@@ -46,8 +47,8 @@ pub fn made_up(family: u64, number: u64) -> Set {
 }
 
 /// The checkpoints that a seed's first attempt draws.
-pub fn drawn(seed: u32) -> Set {
-    let g = &mut SplitMix64::new(0xCA75_EED0 ^ u64::from(seed));
+pub fn drawn(seed: u64) -> Set {
+    let g = &mut SplitMix64::new(0xCA75_EED0 ^ seed);
     std::array::from_fn(|c| {
         let noise = between(g, 0.0, TAU / 12.0);
         let rad = between(g, 150.0 / 3.0, 150.0);
@@ -63,7 +64,7 @@ pub fn drawn(seed: u32) -> Set {
 
 /// The checkpoints that a seed draws, each a tau lower, so that the second pass finds them; the first of them is the
 /// last, at an angle of its own.
-pub fn lowered(seed: u32, last: f64) -> Set {
+pub fn lowered(seed: u64, last: f64) -> Set {
     let cs = drawn(seed);
     let lower = |(angle, x, y): (f64, f64, f64)| (angle - TAU, x, y);
     std::array::from_fn(|c| if c == 11 { (last, cs[0].1, cs[0].2) } else { lower(cs[c + 1]) })
@@ -88,7 +89,7 @@ pub const LAST_STEPS: [(u64, u64); 7] = [(0, 5_550), (1, 4_541), (2, 4_072), (2,
 
 /// Sets that a seed draws but for the x of one checkpoint: seed, checkpoint, x. The ends of the course lie just a step of the walk
 /// apart, the farthest at which they are still glued. Found by halving between an x with the ends nearer and one with them farther.
-pub const GLUED: [(u32, usize, f64); 6] = [
+pub const GLUED: [(u64, usize, f64); 6] = [
     (3, 10, 61.18287925674932),
     (24, 6, -77.19775215226899),
     (24, 7, -59.48622538806307),
@@ -98,7 +99,7 @@ pub const GLUED: [(u32, usize, f64); 6] = [
 ];
 
 /// A seed's checkpoints with another x for one of them.
-pub fn moved(seed: u32, c: usize, x: f64) -> Set {
+pub fn moved(seed: u64, c: usize, x: f64) -> Set {
     let mut cs = drawn(seed);
     cs[c].1 = x;
     cs
@@ -109,7 +110,7 @@ pub fn known() -> Vec<Set> {
     let found = FOUND.iter().zip(0..).flat_map(|(numbers, family)| numbers.iter().map(move |&k| made_up(family, k)));
     let more = FAR_TURNED.into_iter().chain(LAST_STEPS).map(|(family, k)| made_up(family, k));
     let glued = GLUED.map(|(seed, c, x)| moved(seed, c, x));
-    let seeds = [0, 1, 2, 4, 5, u32::MAX];
+    let seeds = [0, 1, 2, 4, 5, WIDE - 1];
     let deciding = seeds.into_iter().flat_map(|s| [0.0, -0.01, -0.05, -0.2].map(|last| lowered(s, last)));
     found.chain(more).chain(glued).chain(deciding).collect()
 }

@@ -1,6 +1,6 @@
 //! Compares the port with the Rust, bit for bit (all NaNs alike): courses, index, curbs, numbers, starts, drives, settles, sheets,
 //! rewards. What the Rust has no counterpart for, the refusals, is held to document 01 as written out in model.rs and courses.rs, and the
-//! saved form to document 02 as in saved.rs.
+//! saved form to document 02 as in saved.rs. The reference has seeds of 32 bits: how wide seeds are compared stands in seeds.rs.
 //! Run by host/compare/run, which builds the oracle and the port's static library first.
 //!
 //! It also writes the lists that the repository's own programs replay (lists.rs). For these host/compare/write builds it without the
@@ -20,7 +20,9 @@ mod port;
 mod runs;
 mod saved;
 mod sections;
+mod seeds;
 mod sets;
+mod spoilt;
 mod tally;
 
 use lists::List;
@@ -29,8 +31,8 @@ use std::path::PathBuf;
 const HELP: &str = "usage: host/compare/run [--seed S] [--courses N] [--ticks N] [--only SECTION:NUMBER]
        host/compare/run --write NAME,.. [--to DIR]
   --seed S        random inputs from this seed (default 1)
-  --courses N     courses of seeds; a fourth as many of given points, of few attempts and of given checkpoints, and the
-                  checkpoints that a search has found (default 4000)
+  --courses N     courses of seeds, every second one of 2^32 or more; a fourth as many of given points, of few attempts and of given
+                  checkpoints, and the checkpoints that a search has found (default 4000)
   --ticks N       ticks of runs (default 400000): a tick is one drive and one settle; more than nine in ten of each are accepted, and
                   further calls that are refused, starts and sheets stand among them
   --only S:N      unit N of section S alone: numbers, seeds, points, attempts, checkpoints, runs, beside

@@ -30,7 +30,7 @@ pub struct State {
     pub wheels: [u64; 160],
     /// The wheels' poses at the last contact, and the course's seed: what only a save reads.
     pub poses: [Pose; 4],
-    pub seed: u32,
+    pub seed: u64,
 }
 
 impl State {
@@ -131,7 +131,7 @@ pub struct Begin {
     pub lent: [usize; 3],
     pub n: u32,
     pub fallback: bool,
-    pub seed: u32,
+    pub seed: u64,
     pub share: f64,
     pub limit: u32,
 }

@@ -98,7 +98,7 @@ pub fn points(t: &mut Tally, g: &mut SplitMix64, unit: Unit) {
     let [b, x, y] = columns(&points);
     if given_cause(&points, count, true) == 0 {
         let track = probe::given(points.clone(), false);
-        laid(t, g, unit, "points", &track, format!("{} points", points.len()), |lent, long| {
+        laid(t, g, unit, &[("points", &track)], format!("{} points", points.len()), |lent, long| {
             port::points([&b, &x, &y], count, lent, long)
         });
     } else {

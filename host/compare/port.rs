@@ -32,7 +32,7 @@ struct CheckpointList {
 
 #[rustfmt::skip]
 extern "C" {
-    fn grader_lay_attempts(attempts: u32, seed: u32, a: Fm, al: N, b: Fm, bl: N, x: Fm, xl: N, y: Fm, yl: N, t: Fm, tl: N, o: Im, ol: N, l: Im, ll: N) -> Laid;
+    fn grader_lay_attempts(attempts: u32, seed: u64, a: Fm, al: N, b: Fm, bl: N, x: Fm, xl: N, y: Fm, yl: N, t: Fm, tl: N, o: Im, ol: N, l: Im, ll: N) -> Laid;
     fn grader_lay_checkpoints(cs: CheckpointList, a: Fm, al: N, b: Fm, bl: N, x: Fm, xl: N, y: Fm, yl: N, t: Fm, tl: N, o: Im, ol: N, l: Im, ll: N) -> Laid;
     fn grader_overlap(a: Quad, b: Quad) -> bool;
 }
@@ -65,11 +65,11 @@ macro_rules! on_columns {
     }};
 }
 
-pub fn lay(seed: u32, lent: &mut Lent, long: &[usize; 7]) -> Laid {
+pub fn lay(seed: u64, lent: &mut Lent, long: &[usize; 7]) -> Laid {
     ffi::lay(seed, front(lent, long))
 }
 
-pub fn lay_attempts(attempts: u32, seed: u32, lent: &mut Lent, long: &[usize; 7]) -> Laid {
+pub fn lay_attempts(attempts: u32, seed: u64, lent: &mut Lent, long: &[usize; 7]) -> Laid {
     on_columns!(grader_lay_attempts, front(lent, long), attempts, seed)
 }
 

@@ -11,6 +11,8 @@ use crate::model::{Begin, Model, State, STATED};
 use crate::points::made_up;
 use crate::port;
 use crate::saved;
+use crate::seeds;
+use crate::spoilt::spoilt;
 use crate::tally::{Tally, Unit};
 use oracle::oracle::{overlap, probe, reward, Track, TrackPoint};
 use oracle::{Motion, Pose};
@@ -38,7 +40,7 @@ fn made_state(b: &mut Both, g: &mut SplitMix64, n: u32) {
     }
     if half(g) {
         s.poses = s.poses.map(|p| if half(g) { edge_pose(g) } else { p });
-        s.seed = g.next_u64() as u32;
+        s.seed = seeds::some(g);
     }
     b.put(s);
 }
@@ -122,7 +124,8 @@ fn odd_call(b: &mut Both, g: &mut SplitMix64, poses: &[Pose; 4]) {
 fn begin(g: &mut SplitMix64, n: u32, lent: [usize; 3], bad: bool) -> Begin {
     let share = pick(g, &[0.95, 1.0, 0.5, 0.0, 0.25]);
     let limit = pick(g, &[1_000_000, 1_000, 40]);
-    let mut b = Begin { lent, n, fallback: n == 100, seed: pick(g, &[0, g.clone().next_u64() as u32]), share, limit };
+    let seed = if half(g) { seeds::wide(g) } else { pick(g, &[0, seeds::low(&mut g.clone())]) };
+    let mut b = Begin { lent, n, fallback: n == 100, seed, share, limit };
     for _ in 0..if bad { 1 + g.next_u64() % 2 } else { 0 } {
         match g.next_u64() % 5 {
             0 => b.share = pick(g, &[f64::NAN, -0.1, 1.0000000000000002, f64::INFINITY]),
@@ -135,12 +138,13 @@ fn begin(g: &mut SplitMix64, n: u32, lent: [usize; 3], bad: bool) -> Begin {
     b
 }
 
-/// The points of a unit's course: a seed's or given ones.
+/// The points of a unit's course: a seed's or given ones. Whatever the seed, the track that the Rust drives on is made of them by the
+/// reference's own `from_points`.
 fn points_of(g: &mut SplitMix64, unit: Unit) -> Vec<TrackPoint> {
     if unit.number % 3 == 0 {
         made_up(g, 8 + g.clone().next_u64() % 1_000)
     } else {
-        Track::generate(g.next_u64() as u32).points
+        seeds::course(seeds::some(g)).points
     }
 }
 
@@ -226,33 +230,11 @@ fn tick(b: &mut Both, g: &mut SplitMix64, ground: &Ground, place: usize, first: 
     b.settle(lent, x, y, &poses);
 }
 
-/// Saved bytes with one thing changed: the map, a field's bit and its first byte, or a byte of a field.
-fn spoilt(g: &mut SplitMix64, mut bytes: Vec<u8>) -> Vec<u8> {
-    let k = g.next_u64() as usize % 10;
-    let at = saved::place(&bytes, k);
-    let value = pick(g, &[0, 1, 8, 0x7f, 0x80, 0xff, g.clone().next_u64() as u8]);
-    let (first, end) = (at.min(bytes.len() - 1), saved::place(&bytes, k + 1).max(at + 1).min(bytes.len()));
-    match g.next_u64() % 8 {
-        0 => bytes.truncate(at),
-        1 => bytes.insert(at, value),
-        2 => bytes[k / 8] ^= 1 << (g.next_u64() % 8),
-        3 => drop(bytes.remove(first)),
-        4 => bytes[first] = value,
-        5 => bytes[end - 1] = value,
-        6 => {
-            bytes[0] |= 0x20;
-            bytes.insert(saved::place(&bytes, 5), value);
-        }
-        _ => bytes[g.next_u64() as usize % (end - first) + first] = value,
-    }
-    bytes
-}
-
 /// A save into an output about the length asked for, and restores of spoilt bytes, or for another course, or lent other lengths; the
 /// state before them stands again.
 fn odd_saves(b: &mut Both, g: &mut SplitMix64) {
     let before = b.model.state.clone();
-    b.save(pick(g, &[0, 1, 640, 642, 700]));
+    b.save(pick(g, &[0, 1, 641, saved::ROOM - 1, saved::ROOM + 1, 700]));
     let Some(bytes) = b.save(saved::ROOM) else { return };
     let mut lent = b.whole();
     if half(g) {

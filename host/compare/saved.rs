@@ -1,25 +1,30 @@
-//! A second writer and reader of the saved form, from the text of order 1 of document 02 alone. The form begins with a map of two
+//! A second writer and reader of the saved form, from the text of orders 1 and 3 of document 02 alone. The form begins with a map of two
 //! bytes. After it stand, in bit order, the fields whose bit is set: those whose bytes are not all zero. Every number goes low byte
-//! first, a float by its bits, every NaN by the same.
+//! first, a float by its bits, every NaN by the same. A seed has two fields, of which one stands at most.
 use crate::car::{bits, near, numbers, MOST};
 use crate::model::State;
+use crate::seeds::WIDE;
 use oracle::Pose;
 
-/// How long an output a save asks for: the map, and every field.
-pub const ROOM: usize = 641;
+/// How long an output a save asks for: the map, and every field but the first, in whose place a wide seed has the last.
+pub const ROOM: usize = 645;
 
 /// How many bytes each field has.
-const WIDTHS: [usize; 10] = [4, 8, 4, 4, 40 * 8, 1, 8, 4 * 5 * 8, 4 * 4 * 8, 2];
+const WIDTHS: [usize; 11] = [4, 8, 4, 4, 40 * 8, 1, 8, 4 * 5 * 8, 4 * 4 * 8, 2, 8];
+
+/// The number of the last one, the wide seed's.
+pub const LAST_FIELD: usize = WIDTHS.len() - 1;
 
 fn floats(xs: impl IntoIterator<Item = f64>) -> Vec<u8> {
     xs.into_iter().flat_map(|x| bits(x).to_le_bytes()).collect()
 }
 
 /// The fields, each in its whole length.
-fn fields(s: &State) -> [Vec<u8>; 10] {
+fn fields(s: &State) -> [Vec<u8>; 11] {
+    let (low, high) = parted(s.seed);
     let flags = u8::from(s.lap) | u8::from(s.ended) << 1 | u8::from(s.fallback) << 2;
     [
-        s.seed.to_le_bytes().to_vec(),
+        low.to_le_bytes().to_vec(),
         floats([s.share]),
         s.limit.to_le_bytes().to_vec(),
         s.tick.to_le_bytes().to_vec(),
@@ -29,7 +34,25 @@ fn fields(s: &State) -> [Vec<u8>; 10] {
         floats(s.ctl.into_iter().flatten()),
         floats(s.poses.iter().flat_map(numbers)),
         (s.n as u16).to_le_bytes().to_vec(),
+        high.to_le_bytes().to_vec(),
     ]
+}
+
+/// The numbers of a seed's two fields: one of 2^32 or more stands in the last, any other in the first.
+fn parted(seed: u64) -> (u32, u64) {
+    match u32::try_from(seed) {
+        Ok(low) => (low, 0),
+        Err(_) => (0, seed),
+    }
+}
+
+/// The seed of these two fields, none of which stands with zeros; None where both stand, or a smaller seed in the last.
+fn joined(low: u32, high: u64) -> Option<u64> {
+    match (low, high) {
+        (_, 0) => Some(low.into()),
+        (0, WIDE..) => Some(high),
+        _ => None,
+    }
 }
 
 /// The saved form of a state whose tile count fits two bytes.
@@ -100,12 +123,13 @@ fn float_at(field: &[u8], k: usize) -> f64 {
 pub fn read(bytes: &[u8]) -> Option<State> {
     let (map, rest) = bytes.split_first_chunk()?;
     let mut r = Reader { map: u16::from_le_bytes(*map), rest };
-    let (seed, share, limit, tick) = (r.whole()?, r.float()?, r.whole()?, r.whole()?);
+    let (low, share, limit, tick) = (r.whole()?, r.float()?, r.whole()?, r.whole()?);
     let credited: [u8; 320] = r.field()?;
     let [flags] = r.field()?;
     let fuel = r.float()?;
     let (controls, last): ([u8; 160], [u8; 128]) = (r.field()?, r.field()?);
     let n = r.field().map(u16::from_le_bytes)?.into();
+    let seed = joined(low, r.field().map(u64::from_le_bytes)?)?;
     let credited: [u64; 40] = std::array::from_fn(|k| u64::from_le_bytes(std::array::from_fn(|i| credited[8 * k + i])));
     let pose =
         |k| Pose { x: float_at(&last, k), y: float_at(&last, k + 1), cos: float_at(&last, k + 2), sin: float_at(&last, k + 3) };
@@ -130,7 +154,7 @@ pub fn read(bytes: &[u8]) -> Option<State> {
 }
 
 /// Settings, tile count and poses are in their ranges, no credited tile is at or past the tile count, and the tick is not above
-/// the limit. Seed, controls and fuel have no range.
+/// the limit. Controls and fuel have no range.
 fn in_range(s: &State) -> bool {
     let credited = |t: u32| s.credited[t as usize / 64] >> (t % 64) & 1 == 1;
     (0.0..=1.0).contains(&s.share)

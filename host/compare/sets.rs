@@ -12,7 +12,7 @@ pub static KNOWN: LazyLock<Vec<Set>> = LazyLock::new(known);
 /// that are not finite; a seed's, a tau lower or with one moved; of the families by which the known ones were found.
 pub fn random_set(g: &mut SplitMix64, kind: u64) -> Set {
     let low = between(g, -9.0, -3.0);
-    let (seed, moving, family) = (g.next_u64() as u32, 1 + g.next_u64() as usize % 10, g.next_u64() % 6);
+    let (seed, moving, family) = (g.next_u64(), 1 + g.next_u64() as usize % 10, g.next_u64() % 6);
     let anything = |g: &mut SplitMix64, _| (between(g, -8.0, 8.0), between(g, -300.0, 300.0), between(g, -300.0, 300.0));
     let middle = |g: &mut SplitMix64, _| (between(g, -6.3, 7.0), between(g, -30.0, 30.0), between(g, -30.0, 30.0));
     let lower = |g: &mut SplitMix64, _| (low, between(g, -200.0, 200.0), between(g, -200.0, 200.0));

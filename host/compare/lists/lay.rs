@@ -2,13 +2,15 @@
 //!
 //! The list is 64-bit words, the low byte first: for each record a code, the lengths of the lent columns and the
 //! call's own arguments, floats by their bits. Courses are the Rust's: `generate_with_attempts` of the reference's
-//! track.rs with document 01's limits, and the same with given checkpoints in the place of the drawn ones. The Rust
+//! track.rs with document 01's limits, and the same with given checkpoints in the place of the drawn ones; for seeds of
+//! 2^32 or more it is that of the widened oracle (../seeds.rs). The Rust
 //! refuses nothing and lends nothing; which call is refused by what number, and what stands in a lent column around
 //! the Rust's numbers, is written out in ../lent.rs from document 01 ("Lent", "Refusals by cause"). After each
 //! call the answer holds a hash of every whole column, so a number written where none belongs shows.
 use super::Stored;
 use crate::checkpoints::{drawn, lowered, made_up, Set, FOUND, TAU};
 use crate::lent::{between, roomy, stated, Lent, STATED};
+use crate::seeds::{self, course, within, WIDE};
 use oracle::limits::{HIT, TURNED};
 use oracle::oracle::{probe, Track};
 use reinfors_core::SplitMix64;
@@ -54,11 +56,11 @@ impl Replay {
         self.records[code as usize][outcome] += 1;
         self.lines += &columns.lines();
     }
-    fn lay(&mut self, seed: u32, lent: [usize; 7]) {
-        self.call(LAY, lent, [seed.into()], &Track::generate(seed));
+    fn lay(&mut self, seed: u64, lent: [usize; 7]) {
+        self.call(LAY, lent, [seed], &course(seed));
     }
-    fn attempts(&mut self, attempts: u32, seed: u32, lent: [usize; 7]) {
-        self.call(ATTEMPTS, lent, [attempts.into(), seed.into()], &probe::within(seed, attempts));
+    fn attempts(&mut self, attempts: u32, seed: u64, lent: [usize; 7]) {
+        self.call(ATTEMPTS, lent, [attempts.into(), seed], &within(seed, attempts));
     }
     fn checkpoints(&mut self, cs: Set, lent: [usize; 7]) {
         let words = cs.into_iter().flat_map(|(angle, x, y)| [angle, x, y]).map(f64::to_bits);
@@ -80,7 +82,7 @@ fn met() -> [u64; 5] {
 
 /// Seeds by the attempts that they need. Of the first 250,000 seeds 232,897 need one attempt, 15,973 two, 1,057
 /// three, 67 four, 5 five and one six; none of them needs more.
-const NEED: [(u32, &[u32]); 5] = [
+const NEED: [(u32, &[u64]); 5] = [
     (2, &[3, 24, 34, 43]),
     (3, &[581, 2_224, 2_266, 2_723]),
     (4, &[2_963, 5_011, 5_671, 5_710]),
@@ -88,10 +90,13 @@ const NEED: [(u32, &[u32]); 5] = [
     (6, &[11_628]),
 ];
 
+/// Seeds of 2^32 or more by the attempts that they need: the first of each. No seed of the first 200,000 of them needs six.
+const NEED_WIDE: [(u32, u64); 4] = [(2, WIDE + 34), (3, WIDE + 1), (4, WIDE + 89), (5, WIDE + 28_485)];
+
 /// The course of a seed: the index list one too short, all columns longer than stated, and each of just the length
 /// that it must have.
-fn seed_thrice(r: &mut Replay, seed: u32) {
-    let need = need(&Track::generate(seed));
+fn seed_thrice(r: &mut Replay, seed: u64) {
+    let need = need(&course(seed));
     r.lay(seed, stated(need - 1));
     r.lay(seed, LONG);
     r.lay(seed, stated(need));
@@ -100,17 +105,17 @@ fn seed_thrice(r: &mut Replay, seed: u32) {
 /// Courses of seeds: the ends of the seeds, the one whose generator starts at 0, the longest (401 points) and the
 /// shortest course (207) of the first 20,000, some in a row and some at random, and those that need more attempts.
 fn seeds(r: &mut Replay) {
-    for seed in [0, 1, u32::MAX, 0xCA75_EED0, 0x8000_0000, 15_969, 17_366] {
+    for seed in [0, 1, WIDE - 1, 0xCA75_EED0, 0x8000_0000, 15_969, 17_366] {
         seed_thrice(r, seed);
     }
     let g = &mut SplitMix64::new(5);
-    let random: Vec<u32> = (0..24).map(|_| between(g, 0.0, 4_294_967_296.0) as u32).collect();
+    let random: Vec<u64> = (0..24).map(|_| between(g, 0.0, 4_294_967_296.0) as u64).collect();
     for seed in (2..40).chain(random) {
         r.lay(seed, LONG);
     }
     for (attempts, seeds) in NEED {
         for &seed in seeds {
-            assert_eq!(probe::attempts(seed), (attempts, false));
+            assert_eq!(seeds::attempts(seed), (attempts, false));
             seed_thrice(r, seed);
         }
     }
@@ -119,7 +124,7 @@ fn seeds(r: &mut Replay) {
 /// Seeds with a given number of attempts: none, fewer than are needed (the ring, also where a refused walk stood in
 /// the columns before), just as many, and more.
 fn attempts(r: &mut Replay) {
-    for seed in [0, 1, 3, u32::MAX] {
+    for seed in [0, 1, 3, WIDE - 1] {
         r.attempts(0, seed, LONG);
         r.attempts(u32::MAX, seed, LONG);
     }
@@ -127,7 +132,7 @@ fn attempts(r: &mut Replay) {
     for (needed, seeds) in NEED {
         let seed = seeds[0];
         for attempts in (0..needed + 2).chain([63, 64, 65]) {
-            assert_eq!(probe::within(seed, attempts).fallback, attempts < needed);
+            assert_eq!(within(seed, attempts).fallback, attempts < needed);
             r.attempts(attempts, seed, LONG);
         }
     }
@@ -157,11 +162,11 @@ fn lengths(r: &mut Replay, need: usize, call: impl Fn(&mut Replay, [usize; 7])) 
 
 /// Too short columns for all three calls, with courses and with the ring.
 fn refusals(r: &mut Replay) {
-    for seed in [0, 3, u32::MAX] {
-        lengths(r, need(&Track::generate(seed)), |r, lent| r.lay(seed, lent));
+    for seed in [0, 3, WIDE - 1] {
+        lengths(r, need(&course(seed)), |r, lent| r.lay(seed, lent));
     }
     for (attempts, seed) in [(0, 0), (1, 3), (2, 3)] {
-        lengths(r, need(&probe::within(seed, attempts)), |r, lent| r.attempts(attempts, seed, lent));
+        lengths(r, need(&within(seed, attempts)), |r, lent| r.attempts(attempts, seed, lent));
     }
     for cs in [drawn(0), made_up(1, 1_081), [(f64::NAN, 0.0, 0.0); 12]] {
         lengths(r, need(&probe::on_checkpoints(cs)), |r, lent| r.checkpoints(cs, lent));
@@ -170,8 +175,8 @@ fn refusals(r: &mut Replay) {
 
 /// Given checkpoints that a seed draws: the seed's course where its first attempt is accepted.
 fn drawn_sets(r: &mut Replay) {
-    for seed in [0, 1, 2, 3, 24, u32::MAX] {
-        let (one, given) = (probe::within(seed, 1), probe::on_checkpoints(drawn(seed)));
+    for seed in [0, 1, 2, 3, 24, WIDE - 1] {
+        let (one, given) = (within(seed, 1), probe::on_checkpoints(drawn(seed)));
         assert_eq!((one.fallback, one.points.len(), need(&one)), (given.fallback, given.points.len(), need(&given)));
         r.checkpoints(drawn(seed), LONG);
     }
@@ -180,7 +185,7 @@ fn drawn_sets(r: &mut Replay) {
 /// Sets on which the third pass decides: with the last angle at 0 the attempt is accepted; with it a little lower, the
 /// walk passes it before its lap is done, and a third pass would go on from there to the same course or a similar one.
 fn deciding_passes(r: &mut Replay) {
-    for seed in [0, 1, 2, 4, 5, u32::MAX] {
+    for seed in [0, 1, 2, 4, 5, WIDE - 1] {
         assert!(!probe::on_checkpoints(lowered(seed, 0.0)).fallback, "{seed} is refused");
         r.checkpoints(lowered(seed, 0.0), LONG);
         for last in [-0.01, -0.05, -0.2] {
@@ -241,6 +246,40 @@ fn found_sets(r: &mut Replay) {
     assert!(third > 0 && twice[0] > 0 && twice[1] > 0);
 }
 
+/// A seed of 2^32 or more: it has not the course of its low half, but the one that the reference's own attempts come to from the
+/// generator of the whole seed.
+fn wide_seed(seed: u64) -> u64 {
+    let mut rng = SplitMix64::new(0xCA75_EED0 ^ seed);
+    let first = (0..64).find_map(|_| probe::attempt(&mut rng)).expect("an accepted attempt");
+    assert!(seeds::same_course(&course(seed), &probe::given(first, false)));
+    assert!(seed >= WIDE && !seeds::same_course(&course(seed), &course(seed % WIDE)));
+    seed
+}
+
+/// Courses of seeds of 2^32 or more: the ends, the seed 7 with a bit more, the highest bit alone, and some at random.
+fn wide_seeds(r: &mut Replay) {
+    for seed in [WIDE, WIDE + 7, 1 << 63, u64::MAX] {
+        seed_thrice(r, wide_seed(seed));
+    }
+    let g = &mut SplitMix64::new(64);
+    for _ in 0..20 {
+        r.lay(wide_seed(g.next_u64()), LONG);
+    }
+}
+
+/// Seeds of 2^32 or more with none, too few, just as many and more attempts than they need.
+fn wide_attempts(r: &mut Replay) {
+    for (needed, seed) in NEED_WIDE {
+        assert_eq!(seeds::attempts(seed), (needed, false));
+        for attempts in [0, needed - 1, needed, u32::MAX] {
+            assert_eq!(within(seed, attempts).fallback, attempts < needed);
+            r.attempts(attempts, seed, LONG);
+        }
+        r.lay(seed, LONG);
+    }
+    r.attempts(1, u64::MAX, LONG);
+}
+
 pub fn make() -> Stored {
     let before = met();
     let mut r = Replay { list: Vec::new(), lines: String::new(), records: [[0; 4]; 4], third: 0 };
@@ -261,6 +300,10 @@ pub fn make() -> Stored {
     let [_, fifth, beyond, two, three] = std::array::from_fn(|i| now[i] - before[i]);
     assert!(r.third > 0 && fifth == 0 && beyond == 0);
     eprintln!("{} records meet the third pass; steps of two turns {two}, of three {three}", r.third);
+    // Nor do these seeds meet a limit, or turn beta twice in a step.
+    wide_seeds(&mut r);
+    wide_attempts(&mut r);
+    assert_eq!(met(), now);
     // An unknown code ends the run: the record behind it has no answer.
     r.list.extend([0, LAY].into_iter().chain([0; 8]).flat_map(u64::to_le_bytes));
     let [_, lay, attempts, checkpoints] = r.records;

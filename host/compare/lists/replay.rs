@@ -1,7 +1,7 @@
 //! The list that crates/replay_vectors replays, and what it must answer.
 //!
 //! The list is 64-bit words, the low byte first: for each record a whole log, that is the arguments of one call of
-//! replay, floats by their bits. Courses are the Rust's `Track::generate`, and what an accepted call answers is the
+//! replay, floats by their bits. Courses are the Rust's `Track::generate` (../seeds.rs), and what an accepted call answers is the
 //! Rust's too: its `realize_from` for the start, and its `step` for a drive and the settle after it, over one run from
 //! the start to the end. The Rust refuses nothing, lends nothing, takes no turns and has no tick limit: which call is
 //! refused by what number, the sheet, how calls and answers stand in their columns and what is left untouched there, is
@@ -12,6 +12,7 @@ use super::blocks::{append, ROOM};
 use super::Stored;
 use crate::car::{beyond, bits, car, five, near, near_car, numbers, pick, road_motion, step, FAR, MOST};
 use crate::lent::{between, hash, hash_ids, roomy, stated, Lent, STATED, UNTOUCHED, UNTOUCHED_ID};
+use crate::seeds::{course, WIDE};
 use oracle::oracle::{probe, Run, Settled, Track, TrackPoint};
 use oracle::{Motion, Pose, Push};
 use reinfors_core::SplitMix64;
@@ -54,7 +55,7 @@ fn settle(lent: [u32; 2], x: f64, y: f64, poses: &[Pose; 4]) -> Call {
 /// for.
 #[derive(Clone)]
 struct Log {
-    seed: u32,
+    seed: u64,
     lent: [usize; 7],
     share: f64,
     limit: u32,
@@ -72,7 +73,7 @@ impl Log {
     }
     fn words(&self) -> impl Iterator<Item = u64> + '_ {
         let lengths = |l: &'_ [usize]| l.iter().map(|&n| n as u64).collect::<Vec<u64>>();
-        [REPLAY, self.seed.into()]
+        [REPLAY, self.seed]
             .into_iter()
             .chain(lengths(&self.lent))
             .chain([self.share.to_bits(), self.limit.into()])
@@ -232,7 +233,7 @@ impl Replay {
             self.line("refused 2");
             return None;
         }
-        let track = Track::generate(log.seed);
+        let track = course(log.seed);
         let answer = columns.write(&track, log.lent[6]);
         self.lay[if answer.is_ok() { 0 } else { 3 }] += 1;
         self.lines += answer.as_ref().unwrap_or_else(|refused| refused);
@@ -318,8 +319,8 @@ fn wheels(place: &TrackPoint, angle: f64) -> [Pose; 4] {
 
 impl Driver {
     /// At a point of the seed's course.
-    fn start(seed: u32, lent: [usize; 7], share: f64, limit: u32, at: usize) -> Driver {
-        let track = Track::generate(seed);
+    fn start(seed: u64, lent: [usize; 7], share: f64, limit: u32, at: usize) -> Driver {
+        let track = course(seed);
         let poses = wheels(&track.points[at], 0.0);
         let log = Log { seed, lent, share, limit, poses, many: 0, lent_calls: [0; 4], calls: Vec::new() };
         let run = Graded::start(Arc::new(track), &log);
@@ -429,7 +430,7 @@ fn turn(from: &TrackPoint, to: &TrackPoint) -> f64 {
 /// From the start once round its course, `pace` points to a tick, until the run ends and a few calls beyond. Every
 /// `every`th tick has refused calls. Between the points `beside` the car is off the road.
 fn round(g: &mut SplitMix64, d: &mut Driver, pace: f64, every: usize, beside: [f64; 2]) {
-    let points = Track::generate(d.log.seed).points;
+    let points = course(d.log.seed).points;
     let mut place = points[0];
     let (mut far, mut k) = (0.0, 0);
     while !d.run.ended {
@@ -447,8 +448,8 @@ fn round(g: &mut SplitMix64, d: &mut Driver, pace: f64, every: usize, beside: [f
     d.beyond_the_end();
 }
 
-fn need(seed: u32) -> usize {
-    probe::raw_ref(&Track::generate(seed)).1.len()
+fn need(seed: u64) -> usize {
+    probe::raw_ref(&course(seed)).1.len()
 }
 
 /// Whole laps: seed 0, with some tiles left out, to the lap; and the shortest course of the first 20,000 seeds, to its
@@ -466,7 +467,7 @@ fn laps(r: &mut Replay, g: &mut SplitMix64) {
 
 /// A car that pulls away, so slowly at first that its tyres hold, and brakes again.
 fn pulling_away(r: &mut Replay) {
-    let points = Track::generate(0).points;
+    let points = course(0).points;
     let mut d = Driver::start(0, stated(need(0)), 0.95, 1_000_000, 20);
     let (mut far, mut pace) = (20.0, 0.0);
     for k in 0..60 {
@@ -480,28 +481,26 @@ fn pulling_away(r: &mut Replay) {
 }
 
 /// A car that leaves the field, outwards from a point of the course.
-fn leaving(r: &mut Replay, g: &mut SplitMix64) {
-    for (seed, at, pace) in [(2, 60, 7.0), (u32::MAX, 150, 11.0)] {
-        let p = Track::generate(seed).points[at];
-        let mut d = Driver::start(seed, stated(need(seed)), 0.5, 1_000, at);
-        let size = (p.x * p.x + p.y * p.y).sqrt();
-        let mut k = 0;
-        while !d.run.ended {
-            k += 1;
-            let out = 1.0 + f64::from(k) * pace / size;
-            let place = TrackPoint { beta: p.beta, x: p.x * out, y: p.y * out };
-            let s = d.tick(pick(g, &[0, 1, 2, 3, 4]), &place, 0.1);
-            assert_eq!(s.off, s.ended);
-        }
-        d.beyond_the_end();
-        r.record(&d.log.exact());
+fn leaving(r: &mut Replay, g: &mut SplitMix64, seed: u64, at: usize, pace: f64) {
+    let p = course(seed).points[at];
+    let mut d = Driver::start(seed, stated(need(seed)), 0.5, 1_000, at);
+    let size = (p.x * p.x + p.y * p.y).sqrt();
+    let mut k = 0;
+    while !d.run.ended {
+        k += 1;
+        let out = 1.0 + f64::from(k) * pace / size;
+        let place = TrackPoint { beta: p.beta, x: p.x * out, y: p.y * out };
+        let s = d.tick(pick(g, &[0, 1, 2, 3, 4]), &place, 0.1);
+        assert_eq!(s.off, s.ended);
     }
+    d.beyond_the_end();
+    r.record(&d.log.exact());
 }
 
 /// Runs that reach their tick limit: drives are refused by 6 from there on, before 7 and 8, and settles by 5.
 fn limits(r: &mut Replay, g: &mut SplitMix64) {
     for (seed, limit) in [(5, 1), (6, 3), (581, 20)] {
-        let points = Track::generate(seed).points;
+        let points = course(seed).points;
         let mut d = Driver::start(seed, LONG, 0.95, limit, 40);
         for k in 1..=limit as usize {
             assert!(!d.tick(pick(g, &[0, 1, 2, 3, 4]), &points[40 + k], 0.0).ended);
@@ -531,7 +530,7 @@ fn tile_zero(r: &mut Replay) {
     ] {
         let mut d = begin(seed, share);
         assert_eq!(d.run.rust.lap(), flagged);
-        let far = Track::generate(seed).points[100];
+        let far = course(seed).points[100];
         assert_eq!(d.mixed_tick(3, &far, 0.0, seed as usize).ended, flagged);
         if flagged {
             d.beyond_the_end();
@@ -542,7 +541,7 @@ fn tile_zero(r: &mut Replay) {
 
 /// A start elsewhere with lap share 0: the run ends where a wheel comes to tile 0, from wherever it comes.
 fn to_tile_zero(r: &mut Replay) {
-    let points = Track::generate(11).points;
+    let points = course(11).points;
     let mut d = Driver::start(11, LONG, 0.0, 9, 100);
     for (k, at) in [101, 50, 250, 0].into_iter().enumerate() {
         let s = d.mixed_tick(3, &points[at], 0.0, k);
@@ -553,8 +552,8 @@ fn to_tile_zero(r: &mut Replay) {
 }
 
 /// A short log of three ticks, with room for just its calls and with columns of just the stated lengths.
-fn short_log(seed: u32) -> Log {
-    let points = Track::generate(seed).points;
+fn short_log(seed: u64) -> Log {
+    let points = course(seed).points;
     let mut d = Driver::start(seed, stated(need(seed)), 0.9, 100, 0);
     for k in 1..4 {
         d.tick(3, &points[k], 0.0);
@@ -668,7 +667,7 @@ fn any_call(g: &mut SplitMix64, run: &Graded, p: &TrackPoint) -> Call {
 /// Logs of any calls at all, on courses of seeds that need one attempt or more, some of them started anywhere.
 fn any_logs(r: &mut Replay, g: &mut SplitMix64) {
     for (k, seed) in [1, 24, 581, 2_963, 4_492, 11_628, 0x8000_0000, 0xCA75_EED0].into_iter().enumerate() {
-        let points = Track::generate(seed).points;
+        let points = course(seed).points;
         let place = |g: &mut SplitMix64| points[g.next_u64() as usize % points.len()];
         let (share, limit) = ([0.95, 0.1, 0.3, 1.0][k % 4], [30, 1_000_000][k % 2]);
         let mut d = Driver::start(seed, LONG, share, limit, g.next_u64() as usize % points.len());
@@ -681,12 +680,22 @@ fn any_logs(r: &mut Replay, g: &mut SplitMix64) {
     }
 }
 
+/// Whole runs on courses of seeds of 2^32 or more: once round, with some tiles left out, to the lap; and off the field.
+fn wide_seeds(r: &mut Replay, g: &mut SplitMix64) {
+    let mut d = Driver::start(WIDE + 7, LONG, 0.9, 1_000_000, 0);
+    round(g, &mut d, 0.97, 9, [150.0, 158.0]);
+    assert!(d.run.rust.lap());
+    r.record(&d.log.exact());
+    leaving(r, g, u64::MAX, 90, 9.0);
+}
+
 pub fn make() -> Stored {
     let mut r = Replay::default();
     let mut g = SplitMix64::new(17);
     laps(&mut r, &mut g);
     pulling_away(&mut r);
-    leaving(&mut r, &mut g);
+    leaving(&mut r, &mut g, 2, 60, 7.0);
+    leaving(&mut r, &mut g, u32::MAX.into(), 150, 11.0);
     limits(&mut r, &mut g);
     tile_zero(&mut r);
     to_tile_zero(&mut r);
@@ -695,6 +704,7 @@ pub fn make() -> Stored {
     refused_wholes(&mut r);
     counts(&mut r);
     any_logs(&mut r, &mut g);
+    wide_seeds(&mut r, &mut g);
     // An unknown code ends a block: the record behind it has no answer.
     append(&mut r.list, [0].into_iter().chain(short_log(1).words()));
     eprintln!("{} records, {} refused as a whole; the longest log has {} calls", r.records, r.whole, r.longest);

@@ -7,12 +7,13 @@
 //! refused by what number, what state it leaves, and the sheet, is written out in ../model.rs and here from document 01
 //! ("Refusals by cause", "Beside the run"). The braking rule alone is the Rust's lines too, and held to what the Rust's
 //! phase shows of it. In whole runs the Rust also goes its own way, from the start on, and must come to the same state at
-//! every tick. Saves and restores are ../saved.rs's, with the Rust's contacts; run/saves.rs and run/kept.rs make their
-//! records.
+//! every tick. Saves and restores are ../saved.rs's, with the Rust's contacts; run/saves.rs, run/kept.rs and, for seeds of
+//! 2^32 or more, run/wide.rs make their records.
 //!
 //! Random values come from the reference's SplitMix64 at a fixed seed, so the files come out the same each time.
 mod kept;
 mod saves;
+mod wide;
 
 use super::blocks::{append, ROOM};
 use super::Stored;
@@ -20,7 +21,8 @@ use crate::car::{beyond, bits, car, five, near_car, numbers, pick, road_motion, 
 use crate::edges::{edge, edge_motion, edge_pose, wild};
 use crate::lent::{between, hash};
 use crate::model::{box_cells, Begin, Model, State, STATED};
-use oracle::oracle::{braked, default_weights, overlap, probe, reward, Run, Track, TrackPoint};
+use crate::seeds::course;
+use oracle::oracle::{braked, default_weights, overlap, probe, reward, Run, TrackPoint};
 use oracle::{Motion, Pose, Push};
 use reinfors_core::SplitMix64;
 use std::fmt::Write;
@@ -173,7 +175,7 @@ impl Replay {
     /// A start; the number of the cause, or 0.
     fn start(&mut self, b: &Begin, poses: &[Pose; 4]) -> usize {
         let lent = b.lent.map(|l| l as u64);
-        let rest = [b.n.into(), b.fallback.into(), b.seed.into(), b.share.to_bits(), b.limit.into()];
+        let rest = [b.n.into(), b.fallback.into(), b.seed, b.share.to_bits(), b.limit.into()];
         self.ask(START, lent.into_iter().chain(rest).chain(poses.iter().flat_map(numbers).map(f64::to_bits)));
         let cause = self.model.start(b, poses);
         if cause > 0 {
@@ -296,8 +298,8 @@ fn walk(g: &mut SplitMix64, n: usize, far: f64) -> Vec<TrackPoint> {
     (0..n).map(next).collect()
 }
 
-fn seed(s: u32) -> Vec<TrackPoint> {
-    Track::generate(s).points
+fn seed(s: u64) -> Vec<TrackPoint> {
+    course(s).points
 }
 
 /// The state that the Rust has which went from the start on its own.
@@ -357,7 +359,7 @@ fn laid_runs(r: &mut Replay, g: &mut SplitMix64) {
         (11, 0.0, 1.0, 2),
         (417, 0.95, 6.0, 2),
         (12345, 0.5, 0.2, 1),
-        (u32::MAX, 0.25, 3.0, 2),
+        (u32::MAX.into(), 0.25, 3.0, 2),
     ] {
         let points = seed(s);
         let n = r.course(&points);
@@ -967,6 +969,7 @@ fn records(r: &mut Replay, g: &mut SplitMix64) {
     quads(r, g);
     saves::records(r, g);
     kept::records(r, g);
+    wide::records(r, g);
     // An unknown code ends a block: the record behind it has no answer.
     r.ask(0, []);
     r.list.extend([SHEET, SHEET].iter().flat_map(|w| w.to_le_bytes()));

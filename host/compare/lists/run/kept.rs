@@ -30,9 +30,9 @@ fn ticked(r: &mut Replay, t: &Tick) {
     r.last();
 }
 
-/// Saves among drives and settles, and restores of an earlier one and of a later one.
-fn there_and_back(r: &mut Replay, g: &mut SplitMix64) {
-    for s in [7, 12_345, u32::MAX] {
+/// On each of these seeds' courses saves among drives and settles, and restores of an earlier one and of a later one.
+pub fn there_and_back(r: &mut Replay, g: &mut SplitMix64, seeds: &[u64]) {
+    for &s in seeds {
         let points = seed(s);
         let n = r.course(&points);
         let b = Begin { seed: s, fallback: s == 7, ..begin(n, 0.5, 1_000) };
@@ -44,7 +44,7 @@ fn there_and_back(r: &mut Replay, g: &mut SplitMix64) {
         let t = some_tick(g, &points[2]);
         r.drive(t.action, &t.motions);
         assert_eq!(r.save(ROOM), Err(5));
-        assert_eq!(r.save(640), Err(5));
+        assert_eq!(r.save(ROOM - 1), Err(5));
         r.settle(LONG, t.hull[0], t.hull[1], &t.poses);
         let second = r.save(ROOM).unwrap();
         let after = r.state.clone();
@@ -145,7 +145,7 @@ fn kept_runs(r: &mut Replay, g: &mut SplitMix64) {
 }
 
 pub fn records(r: &mut Replay, g: &mut SplitMix64) {
-    there_and_back(r, g);
+    there_and_back(r, g, &[7, 12_345, u32::MAX.into()]);
     at_the_end(r, g);
     kept_runs(r, g);
 }

@@ -14,11 +14,11 @@ impl Replay {
     /// The last poses and the seed become those of s.
     fn put_last(&mut self, s: &State) {
         let poses = s.poses.iter().flat_map(numbers).map(f64::to_bits);
-        self.ask(PUT_LAST, poses.chain([s.seed.into()]));
+        self.ask(PUT_LAST, poses.chain([s.seed]));
         (self.state.poses, self.state.seed) = (s.poses, s.seed);
     }
     /// The whole state becomes s.
-    fn put_state(&mut self, s: &State) {
+    pub fn put_state(&mut self, s: &State) {
         self.core(s);
         self.credited(0, 40, 0);
         self.wheels(0, 160, 0);
@@ -38,7 +38,7 @@ impl Replay {
     }
     /// A save into so many bytes of the output: what it writes, or by Err the number of the cause. A line has the first bytes, all of
     /// them where `all`, another a hash of the whole output.
-    fn save_shown(&mut self, room: usize, all: bool) -> Result<Vec<u8>, usize> {
+    pub fn save_shown(&mut self, room: usize, all: bool) -> Result<Vec<u8>, usize> {
         let said = self.model.save(room);
         let shown = said.as_ref().map_or(0, |form| if all { form.len() } else { form.len().min(SHOWN) });
         self.ask(SAVE, [room, shown].map(|w| w as u64));
@@ -82,11 +82,11 @@ impl Replay {
                 State::zero()
             }
         };
-        self.hex(hash([shown.hash(), shown.hash_last(), shown.seed.into()]));
+        self.hex(hash([shown.hash(), shown.hash_last(), shown.seed]));
         cause
     }
     /// Of bytes by their digits.
-    fn restore_digits(&mut self, text: &str, n: u32) -> usize {
+    pub fn restore_digits(&mut self, text: &str, n: u32) -> usize {
         self.restore(&bytes_of(text), LONG, n)
     }
 }
@@ -105,15 +105,18 @@ fn zeros(many: usize) -> String {
     "00".repeat(many)
 }
 
-const ORIGIN: TrackPoint = TrackPoint { beta: 0.0, x: 0.0, y: 0.0 };
+pub const ORIGIN: TrackPoint = TrackPoint { beta: 0.0, x: 0.0, y: 0.0 };
 
 /// The state of zeros with n = 1 and a tick limit of 1.
-fn least() -> State {
+pub fn least() -> State {
     State { n: 1, limit: 1, ..State::zero() }
 }
 
-/// A run whose every field is kept.
-fn full(n: u32) -> State {
+/// How long the form of `full` is, with a seed below 2^32.
+pub const FULL: usize = 641;
+
+/// A run whose every field is kept, but for the wide seed's.
+pub fn full(n: u32) -> State {
     let mut s = State {
         n,
         tick: 7,
@@ -136,7 +139,7 @@ fn full(n: u32) -> State {
 }
 
 /// A state is saved as these bytes, and restored from them.
-fn example(r: &mut Replay, s: &State, text: &str) {
+pub fn example(r: &mut Replay, s: &State, text: &str) {
     r.put_state(s);
     let bytes = r.save_shown(ROOM, true).unwrap();
     assert_eq!(digits(&bytes), digits(&bytes_of(text)));
@@ -158,7 +161,7 @@ fn short_forms(r: &mut Replay) {
         let [lap, ended, fallback] = [k == 0, k == 1, k == 2];
         example(r, &State { lap, ended, fallback, ..least() }, &format!("2402 01000000 {flag} 0100"));
     }
-    example(r, &State { seed: u32::MAX, ..least() }, "0502 ffffffff 01000000 0100");
+    example(r, &State { seed: u32::MAX.into(), ..least() }, "0502 ffffffff 01000000 0100");
     example(r, &State { seed: 0x0100_0000, ..least() }, "0502 00000001 01000000 0100");
     // One −0.0 keeps the whole field.
     let mut s = least();
@@ -295,8 +298,8 @@ fn prefixes(r: &mut Replay) {
     let n = r.course(&seed(7));
     r.put_state(&full(n));
     let bytes = r.save_shown(ROOM, true).unwrap();
-    assert_eq!(bytes.len(), ROOM);
-    for k in 0..ROOM {
+    assert_eq!(bytes.len(), FULL);
+    for k in 0..FULL {
         assert_eq!(r.restore(&bytes[..k], LONG, n), 11);
     }
     assert_eq!(r.restore(&bytes, LONG, n), 0);
@@ -397,7 +400,7 @@ fn odd_states(r: &mut Replay) {
 /// Every set of causes of a save, and outputs about the length asked for.
 fn save_refusals(r: &mut Replay, g: &mut SplitMix64) {
     let n = r.course(&seed(3));
-    for room in [0, 1, 8, 640, 641, 642, OUTPUT] {
+    for room in [0, 1, 8, ROOM - 1, ROOM, ROOM + 1, OUTPUT] {
         r.put_state(&full(n));
         assert_eq!(r.save(room).is_err(), room < ROOM);
         r.put_state(&least());
@@ -414,7 +417,7 @@ fn save_refusals(r: &mut Replay, g: &mut SplitMix64) {
             }
         }
         r.put_state(&s);
-        let room = if causes.contains(&2) { pick(g, &[640, 0, 468]) } else { ROOM };
+        let room = if causes.contains(&2) { pick(g, &[ROOM - 1, 0, 468]) } else { ROOM };
         assert_eq!(r.save(room).err(), causes.first().copied());
         r.last();
     }
@@ -435,7 +438,7 @@ fn restore_refusals(r: &mut Replay, g: &mut SplitMix64) {
         let (mut given, mut size) = (bytes.clone(), n);
         if causes.contains(&11) {
             match set / 16 {
-                0 => given.truncate(g.next_u64() as usize % ROOM),
+                0 => given.truncate(g.next_u64() as usize % FULL),
                 1 => given[1] |= 1 << (2 + g.next_u64() % 6),
                 2 => given[342] |= 1 << (3 + g.next_u64() % 5),
                 _ => given[21] = 0xff,
