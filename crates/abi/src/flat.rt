@@ -22,7 +22,7 @@ use run::state::{Pose, Progress, Run};
 
 // What lay and points answer: n, the list's length (at cause 3 the length needed), and the first point.
 #[repr(C)]
-#[derive(Drop)]
+#[derive(Clone, Copy)]
 pub struct FlatLaid {
     pub cause: u32,
     pub n: u32,
@@ -35,7 +35,7 @@ pub struct FlatLaid {
 
 // What curbs answers.
 #[repr(C)]
-#[derive(Drop)]
+#[derive(Clone, Copy)]
 pub struct FlatCurbs {
     pub cause: u32,
     pub count: u32,
@@ -43,7 +43,7 @@ pub struct FlatCurbs {
 
 // What start answers, and the state.
 #[repr(C)]
-#[derive(Drop)]
+#[derive(Clone, Copy)]
 pub struct FlatStarted {
     pub cause: u32,
     pub count: u32,
@@ -53,7 +53,7 @@ pub struct FlatStarted {
 
 // What drive answers: the number of the cause, 0 where it wrote forces, and the progress after.
 #[repr(C)]
-#[derive(Drop)]
+#[derive(Clone, Copy)]
 pub struct FlatDriven {
     pub cause: u32,
     pub progress: Progress,
@@ -61,7 +61,7 @@ pub struct FlatDriven {
 
 // What settle answers, and the progress after.
 #[repr(C)]
-#[derive(Drop)]
+#[derive(Clone, Copy)]
 pub struct FlatSettled {
     pub cause: u32,
     pub new_tiles: u32,
@@ -74,7 +74,7 @@ pub struct FlatSettled {
 
 // The run sheet.
 #[repr(C)]
-#[derive(Drop)]
+#[derive(Clone, Copy)]
 pub struct FlatSheet {
     pub cause: u32,
     pub tick: u32,
@@ -88,7 +88,7 @@ pub struct FlatSheet {
 
 // What save answers: how many bytes it wrote.
 #[repr(C)]
-#[derive(Drop)]
+#[derive(Clone, Copy)]
 pub struct FlatSaved {
     pub cause: u32,
     pub length: u32,
@@ -96,7 +96,7 @@ pub struct FlatSaved {
 
 // What restore answers, and the state.
 #[repr(C)]
-#[derive(Drop)]
+#[derive(Clone, Copy)]
 pub struct FlatRestored {
     pub cause: u32,
     pub run: Run,
@@ -104,7 +104,7 @@ pub struct FlatRestored {
 
 // The course that saved bytes are of.
 #[repr(C)]
-#[derive(Drop)]
+#[derive(Clone, Copy)]
 pub struct FlatSavedFor {
     pub cause: u32,
     pub n: u32,
@@ -113,7 +113,7 @@ pub struct FlatSavedFor {
 
 // What sine, cosine and atan2 answer.
 #[repr(C)]
-#[derive(Drop)]
+#[derive(Clone, Copy)]
 pub struct FlatAngle {
     pub cause: u32,
     pub value: f64,
@@ -121,7 +121,7 @@ pub struct FlatAngle {
 
 // The answers of lay and start in a replay, and the sheet after its last call.
 #[repr(C)]
-#[derive(Drop)]
+#[derive(Clone, Copy)]
 pub struct FlatReplayed {
     pub laid: FlatLaid,
     pub start_cause: u32,
@@ -132,14 +132,14 @@ pub struct FlatReplayed {
 
 // The poses of the four wheels.
 #[repr(C)]
-#[derive(Drop)]
+#[derive(Clone, Copy)]
 pub struct Poses {
     pub wheels: [Pose; 4],
 }
 
 // A corner of a quad.
 #[repr(C)]
-#[derive(Drop)]
+#[derive(Clone, Copy)]
 pub struct Corner {
     pub x: f64,
     pub y: f64,
@@ -147,14 +147,14 @@ pub struct Corner {
 
 // Four corners, in order round the quad.
 #[repr(C)]
-#[derive(Drop)]
+#[derive(Clone, Copy)]
 pub struct Quad {
     pub corners: [Corner; 4],
 }
 
 // A checkpoint of an attempt. The course's own struct leaves its layout open; this one has C's.
 #[repr(C)]
-#[derive(Drop)]
+#[derive(Clone, Copy)]
 pub struct FlatCheckpoint {
     pub angle: f64,
     pub x: f64,
@@ -163,14 +163,14 @@ pub struct FlatCheckpoint {
 
 // The twelve checkpoints of an attempt.
 #[repr(C)]
-#[derive(Drop)]
+#[derive(Clone, Copy)]
 pub struct CheckpointList {
     pub checkpoints: [FlatCheckpoint; 12],
 }
 
 // A draw, and the state to go on with.
 #[repr(C)]
-#[derive(Drop)]
+#[derive(Clone, Copy)]
 pub struct Draw {
     pub value: u64,
     pub state: u64,

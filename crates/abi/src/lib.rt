@@ -3,6 +3,8 @@
 //
 // Every function here is proved, and the crate assumes nothing of its own. No public function has a `requires`. The
 // definitions that the contracts cite stand in specs/.
+#![tactic(auto)]
+
 pub mod courses;
 pub mod flat;
 pub mod inner;

@@ -29,7 +29,7 @@ pub const ANSWER_WORDS: usize = 4;
 pub const ANSWER_NUMBERS: usize = 12;
 
 // The answers of lay and start, and the sheet after the last call.
-#[derive(Drop)]
+#[derive(Clone, Copy)]
 pub struct Replayed {
     pub laid: Laid,
     pub start: StartAnswer,

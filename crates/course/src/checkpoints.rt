@@ -12,7 +12,7 @@ const LEAST_RAD: f64 = TRACK_RAD / 3.0;
 const TWELFTH: f64 = TAU / 12.0;
 
 // A place that the track makes for, and its angle as seen from the middle.
-#[derive(Drop)]
+#[derive(Clone, Copy)]
 pub struct Checkpoint {
     pub angle: f64,
     pub x: f64,
@@ -20,7 +20,7 @@ pub struct Checkpoint {
 }
 
 // An attempt's checkpoints, and the generator for the next attempt.
-#[derive(Drop)]
+#[derive(Clone, Copy)]
 pub(crate) struct Drawn {
     pub checkpoints: [Checkpoint; 12],
     pub rng: SplitMix64,

@@ -18,7 +18,7 @@ const OUTER: f64 = TRACK_WIDTH + BORDER;
 const STEEP: f64 = TRACK_TURN_RATE * 0.2;
 
 // How many curbs there are, or the number of the cause.
-#[derive(Drop)]
+#[derive(Clone, Copy)]
 pub enum CurbAnswer {
     Count(u32),
     Refused(u32),

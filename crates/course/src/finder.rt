@@ -8,14 +8,14 @@ use crate::checkpoints::Checkpoint;
 use crate::constants::TAU;
 
 // The place that was found, and alpha less the turns that the search took; or a third pass was wanted.
-#[derive(Drop)]
+#[derive(Clone, Copy)]
 pub(crate) enum Found {
     At(usize, f64),
     Refused,
 }
 
 // The same, with the checkpoint at that place.
-#[derive(Drop)]
+#[derive(Clone, Copy)]
 pub(crate) enum Dest {
     To(usize, f64, Checkpoint),
     Refused,

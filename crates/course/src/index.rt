@@ -15,7 +15,7 @@ use crate::constants::{GRID_DIM, OFFSET_COUNT};
 use crate::numeric::{greatest, least};
 
 // A tile's rectangle of cells, its first and last column and row.
-#[derive(Drop)]
+#[derive(Clone, Copy)]
 pub(crate) struct Rect {
     pub x0: usize,
     pub x1: usize,
@@ -255,7 +255,7 @@ fn lay_index(rects: &[f64], n: usize, o: &mut [u32], l: &mut [u32])
 }
 
 // Whether the list is too short, and the length needed.
-#[derive(Drop)]
+#[derive(Clone, Copy)]
 pub(crate) struct IndexRoom {
     pub short: bool,
     pub need: usize,

@@ -18,14 +18,14 @@ use crate::{checkpoints, columns, points, track, trig, walk};
 use rng::SplitMix64;
 
 // The size of an attempt's track, 0 where it is refused, and the generator for the next attempt.
-#[derive(Drop)]
+#[derive(Clone, Copy)]
 pub(crate) struct Tried {
     pub n: usize,
     pub rng: SplitMix64,
 }
 
 // How many points were generated, and whether they are the ring's.
-#[derive(Drop)]
+#[derive(Clone, Copy)]
 pub(crate) struct Generated {
     pub n: usize,
     pub fallback: bool,

@@ -2,6 +2,8 @@
 //
 // Every function here is proved, and the crate assumes nothing of its own. No public function has a
 // `requires`. The definitions that the contracts cite stand in specs/, a file for each heading of document 01.
+#![tactic(auto)]
+
 pub mod cell;
 pub mod checkpoints;
 mod columns;

@@ -11,7 +11,7 @@ use crate::tiles::TrackPoint;
 use crate::{columns, constants, index, numeric, tiles};
 
 // The values of a course's answer.
-#[derive(Drop)]
+#[derive(Clone, Copy)]
 pub struct LaidCourse {
     // how many points and tiles the course has
     pub n: u32,
@@ -24,7 +24,7 @@ pub struct LaidCourse {
 }
 
 // What lay and points answer.
-#[derive(Drop)]
+#[derive(Clone, Copy)]
 pub enum Laid {
     // the course stands in the lent columns
     Course(LaidCourse),

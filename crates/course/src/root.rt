@@ -20,7 +20,7 @@ const WORD: u64 = 0x1_0000_0000;
 const START: u64 = 4 * LEAD - 0x400_0000_0000;
 
 // `whole` is the whole part of the root of a number n, and `left` is n less its square.
-#[derive(Drop)]
+#[derive(Clone, Copy)]
 struct Root {
     whole: u64,
     left: u64,
@@ -106,7 +106,7 @@ fn less(a: u64, b: u64) -> u64
 }
 
 // A root and its inverse, in units of 2^-31.
-#[derive(Drop)]
+#[derive(Clone, Copy)]
 struct Estimate {
     root: u64,
     inverse: u64,
@@ -133,7 +133,7 @@ fn guess(a: u64, y: u64) -> Estimate
 }
 
 // Whether a number is the whole root, and what it leaves where it is.
-#[derive(Drop)]
+#[derive(Clone, Copy)]
 struct Verdict {
     ok: bool,
     left: u64,
@@ -206,7 +206,7 @@ fn whole_root(n: u64, l: u64) -> Root
 }
 
 // The bits of a normal number, and how many times it was multiplied by four.
-#[derive(Drop)]
+#[derive(Clone, Copy)]
 struct Normal {
     bits: u64,
     fours: u64,

@@ -17,7 +17,7 @@ const UP: f64 = -1.5 * PI;
 
 // Where the walk stands: its place, its heading, the checkpoint it makes for, the laps done, and whether it has been on the
 // side of negative angles since the last of them (the Rust's `visited_other_side`).
-#[derive(Drop)]
+#[derive(Clone, Copy)]
 pub(crate) struct Walk {
     pub x: f64,
     pub y: f64,
@@ -28,7 +28,7 @@ pub(crate) struct Walk {
 }
 
 // What a step stores.
-#[derive(Drop)]
+#[derive(Clone, Copy)]
 pub(crate) struct TrackStep {
     pub alpha: f64,
     pub beta: f64,
@@ -37,14 +37,14 @@ pub(crate) struct TrackStep {
 }
 
 // A step's record and the walk after it, or a limit was met.
-#[derive(Drop)]
+#[derive(Clone, Copy)]
 pub(crate) enum Stepped {
     On(TrackStep, Walk),
     Refused,
 }
 
 // The walk's angle, from 0 to tau, with laps and side brought up to date.
-#[derive(Drop)]
+#[derive(Clone, Copy)]
 pub(crate) struct Sight {
     pub alpha: f64,
     pub laps: u32,
@@ -52,7 +52,7 @@ pub(crate) struct Sight {
 }
 
 // A heading, and how many turns by tau are still allowed; or a turn too many was wanted.
-#[derive(Drop)]
+#[derive(Clone, Copy)]
 pub(crate) enum Turned {
     To(f64, u32),
     Refused,

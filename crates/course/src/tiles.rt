@@ -8,7 +8,7 @@ use crate::constants::TRACK_WIDTH;
 use crate::trig;
 
 // A point of the track, and the direction there.
-#[derive(Drop)]
+#[derive(Clone, Copy)]
 pub struct TrackPoint {
     pub beta: f64,
     pub x: f64,
@@ -16,7 +16,7 @@ pub struct TrackPoint {
 }
 
 // The two edges of the track at a point.
-#[derive(Drop)]
+#[derive(Clone, Copy)]
 struct Edges {
     left: [f64; 2],
     right: [f64; 2],

@@ -11,7 +11,7 @@ use crate::{root, trig};
 const START_ALPHA: f64 = TAU * -0.5 / 12.0;
 
 // A part of the columns; none where n is 0.
-#[derive(Drop)]
+#[derive(Clone, Copy)]
 pub(crate) struct Part {
     pub from: usize,
     pub n: usize,

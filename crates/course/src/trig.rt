@@ -41,27 +41,27 @@ const C14: f64 = -1.0 / 87178291200.0;
 const C16: f64 = 1.0 / 20922789888000.0;
 
 // What a public call answers: the value, or the number of the cause.
-#[derive(Drop)]
+#[derive(Clone, Copy)]
 pub enum Angle {
     Value(f64),
     Refused(u32),
 }
 
 // A whole number as a float, and modulo 4.
-#[derive(Drop)]
+#[derive(Clone, Copy)]
 pub(crate) struct Turns {
     k: f64,
     quarter: u64,
 }
 
 // A whole number, and the same as a float.
-#[derive(Drop)]
+#[derive(Clone, Copy)]
 struct Whole {
     n: u64,
     f: f64,
 }
 
-#[derive(Drop)]
+#[derive(Clone, Copy)]
 pub(crate) struct SinCos {
     pub cos: f64,
     pub sin: f64,

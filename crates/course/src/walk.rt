@@ -10,7 +10,7 @@ use crate::step::{Stepped, Walk};
 use crate::{step, trig};
 
 // How many steps were stored, and whether none was refused.
-#[derive(Drop)]
+#[derive(Clone, Copy)]
 pub(crate) struct Walked {
     pub n: usize,
     pub ok: bool,

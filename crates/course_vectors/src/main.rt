@@ -5,6 +5,8 @@
 // host/compare/lists/course.rs takes the answers from the Rust and, where the Rust has none, from document 01. A record
 // of the list is a code and its arguments, a word each. An unknown code ends the run. The given columns and the
 // last index stand from record to record.
+#![tactic(auto)]
+
 ghost use Rattle.std.specs.Prelude.{◌≤◌};
 
 use course::curbs::CurbAnswer;

@@ -4,6 +4,8 @@
 // Every function here is proved, and the crate assumes nothing of its own. No public function has a
 // `requires`. A call that has no room for all that it writes says so and writes nothing. The
 // definitions that the contracts cite stand in specs/.
+#![tactic(auto)]
+
 pub mod float;
 pub mod number;
 pub mod pack;

@@ -6,14 +6,14 @@ ghost use Rattle.form.specs.Steps.Form.{row_of, field_step, whole, standing_sum,
 use crate::{number, pack, table};
 
 // Whether a saved form was read, and its map.
-#[derive(Drop)]
+#[derive(Clone, Copy)]
 pub struct Unpacked {
     pub ok: bool,
     pub map: u16,
 }
 
 // Whether a field is as it must be, and the place after it.
-#[derive(Drop)]
+#[derive(Clone, Copy)]
 struct Step {
     ok: bool,
     at: usize,

@@ -5,6 +5,8 @@
 // host/compare/lists/lay.rs takes the courses from the Rust and, where the Rust has none, the answers from document 01. A
 // record of the list is a code, the lengths of the seven lent columns, and the call's own arguments, a word each. An
 // unknown code ends the run.
+#![tactic(auto)]
+
 ghost use Rattle.std.specs.Prelude.{◌≤◌};
 
 use course::checkpoints::Checkpoint;

@@ -5,6 +5,8 @@
 // `host/compare/write number`, whose module host/compare/lists/number.rs takes the answers from the Rust: the
 // oracle's stand-ins and `cell_of`, and Rust's own f64. A record of the list is its operation's code and
 // the bits of its arguments, a word each. An unknown code ends the run.
+#![tactic(auto)]
+
 ghost use Rattle.std.specs.Prelude.{◌≤◌};
 
 use course::trig::Angle;

@@ -8,6 +8,8 @@
 //
 // For each record come the answers of lay and start, a line for each call that stands in it, answered or not, and the
 // sheet; then a hash of every lent column, whole, so that a number written where none belongs shows.
+#![tactic(auto)]
+
 mod line;
 mod read;
 

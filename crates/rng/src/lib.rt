@@ -2,25 +2,27 @@
 //
 // Every function here is proved, and the crate assumes nothing of its own. No public function has a
 // `requires`. The definitions that the contracts cite stand in specs/.
+#![tactic(auto)]
+
 ghost use Rattle.std.specs.Prelude.{◌≡◌};
 ghost use Rattle.rng.specs.Rules.SplitMix.{product64, at_state, seeded, draw_of};
 ghost use Rattle.rng.specs.Rules.Unit.{unit_of, between, unit_draw_of, uniform_draw_of};
 
 // The generator. Its state is private: only this crate makes one.
-#[derive(Drop)]
+#[derive(Clone, Copy)]
 pub struct SplitMix64 {
     state: u64,
 }
 
 // A draw: the value, and the generator to go on with.
-#[derive(Drop)]
+#[derive(Clone, Copy)]
 pub struct Draw {
     pub value: u64,
     pub rng: SplitMix64,
 }
 
 // A draw as a float.
-#[derive(Drop)]
+#[derive(Clone, Copy)]
 pub struct UnitDraw {
     pub value: f64,
     pub rng: SplitMix64,

@@ -1,6 +1,8 @@
 // Replays SplitMix64: the published draws of the seeds 1234567 and 0, units of four courses' seeds and of chosen
 // draws as bit patterns, and the first draws of courses' seeds below 2^32 and above. The expected lines stand in
 // ../stdout; `host/compare/write rng` makes them from the Rust.
+#![tactic(auto)]
+
 use rng::SplitMix64;
 
 fn line(n: u64) {

@@ -13,7 +13,7 @@ use crate::widths::{FULL_WORDS, WHEEL_WORDS};
 use crate::{quad, touch, words};
 
 // How many tiles are new, and whether a wheel entered tile 0.
-#[derive(Drop)]
+#[derive(Clone, Copy)]
 pub(crate) struct Contact {
     pub fresh: u32,
     pub zero: bool,

@@ -15,14 +15,14 @@ use crate::{dynamics, state};
 use course::numeric;
 
 // How a drive is answered: with forces, or refused by a cause's number.
-#[derive(Drop)]
+#[derive(Clone, Copy)]
 pub enum DriveAnswer {
     Forces,
     Refused(u32),
 }
 
 // The answer, the forces beside it (0 where it is refused), and the state after.
-#[derive(Drop)]
+#[derive(Clone, Copy)]
 pub struct Drove {
     pub answer: DriveAnswer,
     pub forces: [Force; 4],
@@ -30,7 +30,7 @@ pub struct Drove {
 }
 
 // The same of the parts that a drive changes.
-#[derive(Drop)]
+#[derive(Clone, Copy)]
 pub struct DroveParts {
     pub answer: DriveAnswer,
     pub forces: [Force; 4],
@@ -39,7 +39,7 @@ pub struct DroveParts {
 }
 
 // What the tyre pass leaves.
-#[derive(Drop)]
+#[derive(Clone, Copy)]
 pub(crate) struct Passed {
     pub car: Car,
     pub forces: [Force; 4],

@@ -29,7 +29,7 @@ const DT: f64 = 1.0 / FPS;
 
 // What the host says of a wheel: the joint's angle, sine and cosine of the wheel's direction, its speed.
 #[repr(C)]
-#[derive(Drop)]
+#[derive(Clone, Copy)]
 pub struct Motion {
     pub joint_angle: f64,
     pub sin: f64,
@@ -40,7 +40,7 @@ pub struct Motion {
 
 // What the host is told for a wheel: the joint motor's speed, and the force.
 #[repr(C)]
-#[derive(Drop)]
+#[derive(Clone, Copy)]
 pub struct Force {
     pub motor: f64,
     pub fx: f64,
@@ -48,14 +48,14 @@ pub struct Force {
 }
 
 // The forces at a tyre, along its direction and across it.
-#[derive(Drop)]
+#[derive(Clone, Copy)]
 pub(crate) struct TyreForce {
     pub f_force: f64,
     pub p_force: f64,
 }
 
 // What one wheel's pass leaves.
-#[derive(Drop)]
+#[derive(Clone, Copy)]
 pub(crate) struct Turned {
     pub ctl: WheelCtl,
     pub force: Force,

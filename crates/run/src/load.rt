@@ -40,7 +40,7 @@ const COUNT_AT: usize = POSES_AT + 8 * POSE_NUMBERS;
 const WIDE_SEED_AT: usize = COUNT_AT + 2;
 
 // What a save keeps of a run: controls and fuel as a car's numbers.
-#[derive(Drop)]
+#[derive(Clone, Copy)]
 pub(crate) struct Fields {
     pub seed: u64,
     pub share: f64,
@@ -56,7 +56,7 @@ pub(crate) struct Fields {
 }
 
 // Whether bytes are taken, and what they say.
-#[derive(Drop)]
+#[derive(Clone, Copy)]
 pub(crate) struct Loaded {
     pub ok: bool,
     pub fields: Fields,

@@ -67,7 +67,7 @@ fn apart_by_edges(q: [[f64; 2]; 4], a: [[f64; 2]; 4], b: [[f64; 2]; 4]) -> bool
 }
 
 // The normal (nx, ny) of a quad's first edge, and the quad's least and greatest projection on it.
-#[derive(Drop)]
+#[derive(Clone, Copy)]
 pub(crate) struct Side {
     pub nx: f64,
     pub ny: f64,

@@ -16,28 +16,28 @@ use crate::widths::{FULL_WORDS, WHEEL_WORDS};
 use crate::{contact, load, numbers, quad, start, state, touch, words};
 
 // How a restore is answered, or the number of the cause that refuses it.
-#[derive(Drop)]
+#[derive(Clone, Copy)]
 pub enum RestoreAnswer {
     Restored,
     Refused(u32),
 }
 
 // The answer, and the state beside it: the state of zeros where it is refused.
-#[derive(Drop)]
+#[derive(Clone, Copy)]
 pub struct Restoration {
     pub answer: RestoreAnswer,
     pub run: Run,
 }
 
 // A course's seed and its tile count.
-#[derive(Drop)]
+#[derive(Clone, Copy)]
 pub struct SavedFor {
     pub seed: u64,
     pub n: u32,
 }
 
 // The course that saved bytes are of, or the number of the cause that refuses them.
-#[derive(Drop)]
+#[derive(Clone, Copy)]
 pub enum SavedCourse {
     Course(SavedFor),
     Refused(u32),

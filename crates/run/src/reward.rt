@@ -4,7 +4,7 @@ ghost use Rattle.run.specs.Rules.Reward.{reward_of, at_least_one, default_weight
 
 // The Rust's `CarRacingReward`.
 #[repr(C)]
-#[derive(Drop)]
+#[derive(Clone, Copy)]
 pub struct Weights {
     pub tile: f64,
     pub step: f64,

@@ -17,7 +17,7 @@ use crate::{numbers, saved, state};
 use form::{float, number, pack, table};
 
 // How a save is answered: with the length of what is written, or refused by a cause's number.
-#[derive(Drop)]
+#[derive(Clone, Copy)]
 pub enum SaveAnswer {
     Saved(u32),
     Refused(u32),

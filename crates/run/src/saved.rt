@@ -10,7 +10,7 @@ pub(crate) const FIELDS: usize = 11;
 pub(crate) const ALL_BYTES: usize = 647;
 
 // The numbers of the two fields of a seed: four bytes in bit 0, or eight in bit 10.
-#[derive(Drop)]
+#[derive(Clone, Copy)]
 pub(crate) struct SeedParts {
     pub narrow: u64,
     pub wide: u64,

@@ -11,7 +11,7 @@ use crate::widths::{FULL_WORDS, MOST_TILES, WHEEL_WORDS};
 use crate::{contact, lap, numbers, quad, state, touch};
 
 // New tiles, the course's tile count, whether the hull is off the playfield, a lap is complete, and the run has ended.
-#[derive(Drop)]
+#[derive(Clone, Copy)]
 pub struct SettleValues {
     pub new_tiles: u32,
     pub n: u32,
@@ -21,21 +21,21 @@ pub struct SettleValues {
 }
 
 // How a settle is answered: with its values, or refused by a cause's number.
-#[derive(Drop)]
+#[derive(Clone, Copy)]
 pub enum SettleAnswer {
     Settled(SettleValues),
     Refused(u32),
 }
 
 // The answer, and the state beside it: as it was where the call is refused.
-#[derive(Drop)]
+#[derive(Clone, Copy)]
 pub struct Settlement {
     pub answer: SettleAnswer,
     pub run: Run,
 }
 
 // The same but for the sets, which are changed where they stand.
-#[derive(Drop)]
+#[derive(Clone, Copy)]
 pub struct Settling {
     pub answer: SettleAnswer,
     pub progress: Progress,

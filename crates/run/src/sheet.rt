@@ -8,7 +8,7 @@ use crate::state::{Progress, Setup};
 use crate::widths::MOST_TILES;
 
 #[repr(C)]
-#[derive(Drop)]
+#[derive(Clone, Copy)]
 pub struct RunSheet {
     pub tick: u32,
     pub credited: u32,
@@ -21,7 +21,7 @@ pub struct RunSheet {
 }
 
 // How a sheet is answered: with its figures, or refused by a cause's number.
-#[derive(Drop)]
+#[derive(Clone, Copy)]
 pub enum SheetAnswer {
     Sheet(RunSheet),
     Refused(u32),

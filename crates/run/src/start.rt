@@ -13,21 +13,21 @@ use crate::widths::{FULL_WORDS, MOST_TILES, WHEEL_WORDS};
 use crate::{contact, lap, numbers, quad, state, touch};
 
 // How many tiles are credited at the start, and the lap.
-#[derive(Drop)]
+#[derive(Clone, Copy)]
 pub struct StartValues {
     pub count: u32,
     pub lap: bool,
 }
 
 // How a start is answered: with its values, or refused by a cause's number.
-#[derive(Drop)]
+#[derive(Clone, Copy)]
 pub enum StartAnswer {
     Started(StartValues),
     Refused(u32),
 }
 
 // The answer, and the state beside it: the state of zeros where it is refused.
-#[derive(Drop)]
+#[derive(Clone, Copy)]
 pub struct Started {
     pub answer: StartAnswer,
     pub run: Run,

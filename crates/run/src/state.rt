@@ -11,7 +11,7 @@ use course::{constants, numeric};
 
 // A wheel's control record: what it keeps from drive to drive.
 #[repr(C)]
-#[derive(Drop)]
+#[derive(Clone, Copy)]
 pub struct WheelCtl {
     pub gas: f64,
     pub brake: f64,
@@ -22,7 +22,7 @@ pub struct WheelCtl {
 
 // A wheel's pose: its place, and cosine and sine of its direction.
 #[repr(C)]
-#[derive(Drop)]
+#[derive(Clone, Copy)]
 pub struct Pose {
     pub x: f64,
     pub y: f64,
@@ -32,7 +32,7 @@ pub struct Pose {
 
 // What start fixes: no later call changes it.
 #[repr(C)]
-#[derive(Drop)]
+#[derive(Clone, Copy)]
 pub struct Setup {
     // The course's tile count.
     pub n: u32,
@@ -43,7 +43,7 @@ pub struct Setup {
 
 // What settle changes.
 #[repr(C)]
-#[derive(Drop)]
+#[derive(Clone, Copy)]
 pub struct Progress {
     // How many tiles are credited.
     pub visited_count: u32,
@@ -56,7 +56,7 @@ pub struct Progress {
 
 // What drive changes.
 #[repr(C)]
-#[derive(Drop)]
+#[derive(Clone, Copy)]
 pub struct Car {
     pub ctl: [WheelCtl; 4],
     pub fuel_spent: f64,
@@ -65,7 +65,7 @@ pub struct Car {
 // The state of a run, by who writes it; then a set of the credited tiles, and for each wheel one of the tiles that it touched last; then what
 // only a save reads.
 #[repr(C)]
-#[derive(Drop)]
+#[derive(Clone, Copy)]
 pub struct Run {
     pub setup: Setup,
     pub progress: Progress,

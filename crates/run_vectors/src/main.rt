@@ -9,6 +9,8 @@
 //
 // After each call that answers with a state, refused or not, comes a hash of the state but for its last poses and seed;
 // after a restore one of the whole state.
+#![tactic(auto)]
+
 ghost use Rattle.std.specs.Prelude.{◌≤◌};
 
 mod change;

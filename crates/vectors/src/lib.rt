@@ -8,6 +8,8 @@
 // afterwards, of the whole, shows what was written, and that nothing else was.
 //
 // Every function here is proved safe and ending. No public function has a `requires`.
+#![tactic(auto)]
+
 ghost use Rattle.io.specs.Counts.{IsPrefixLen};
 
 pub mod front;
