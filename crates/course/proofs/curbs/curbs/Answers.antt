@@ -1,0 +1,35 @@
+-- `course::curbs::curbs` meets its contract. Assumes nothing.
+use Rattle.course.proofs.LaidColumns.{no-cause}
+use Rattle.course.proofs.CurbLaws.{fits, turned-down, all-edged}
+use Rattle.std.proofs.Common.{◌-◌, arith}
+use Rattle.course.proofs.curbs.curbs.Goals as goal
+
+pub returns-then-k-gt0 : goal.returns-then-k-gt0
+returns-then-k-gt0 c = turned-down _ _ _ _ _ _ _ _ _ c.column_length-m.ensures.value c.given_cause-k.ensures c.curb_room-room.ensures c.if-k-gt0.true
+
+pub write_curbs-found-requires : goal.write_curbs-found-requires
+write_curbs-found-requires c =
+    let z = no-cause _ _ _ _ _ _ _ c.given_cause-k.ensures c.curb_room-room.ensures c.if-k-gt0.false in
+    let f = fits _ _ _ _ _ _ _ c.column_length-m.ensures.value z in
+    record { n_in_bounds = (f.given.beta, f.given.x, f.given.y); n_le_most_points = (omega (arith, f.few, f.small), omega (arith, f.few, f.quads), omega (arith, f.few, f.white)) }
+
+pub overflow_mul-m : goal.overflow_mul-m
+overflow_mul-m c = omega (arith, c.column_length-m.ensures.upper_bound)
+
+pub clear_from-requires : goal.clear_from-requires
+clear_from-requires c =
+    let z = no-cause _ _ _ _ _ _ _ c.given_cause-k.ensures c.curb_room-room.ensures c.if-k-gt0.false in
+    let f = fits _ _ _ _ _ _ _ c.column_length-m.ensures.value z in
+    (omega (arith, c.write_curbs-found.ensures.few, f.few), omega (arith, c.write_curbs-found.ensures.same-quads, f.quads))
+
+pub clear_marks-requires : goal.clear_marks-requires
+clear_marks-requires c =
+    let z = no-cause _ _ _ _ _ _ _ c.given_cause-k.ensures c.curb_room-room.ensures c.if-k-gt0.false in
+    let f = fits _ _ _ _ _ _ _ c.column_length-m.ensures.value z in
+    (omega (arith, c.write_curbs-found.ensures.few, f.few), omega (arith, c.write_curbs-found.ensures.same-white, f.white))
+
+pub returns : goal.returns
+returns c =
+    let z = no-cause _ _ _ _ _ _ _ c.given_cause-k.ensures c.curb_room-room.ensures c.if-k-gt0.false in
+    let f = fits _ _ _ _ _ _ _ c.column_length-m.ensures.value z in
+    all-edged _ _ _ _ _ _ _ _ _ _ _ _ c.column_length-m.ensures.value z c.write_curbs-found.ensures c.clear_from.ensures c.clear_marks.ensures

@@ -1,0 +1,10 @@
+-- `course::index::packed` meets its contract. Assumes nothing.
+use Rattle.course.specs.Steps.Index.{rect_as}
+use Rattle.course.proofs.PackedRects.{packs, packs-bits}
+use Rattle.course.proofs.index.packed.Goals as goal
+
+pub float_from_bits-result : goal.float_from_bits-result
+float_from_bits-result c = packs-bits (rect_as c.args.r) c.requires
+
+pub returns : goal.returns
+returns c = packs (rect_as c.args.r) c.requires

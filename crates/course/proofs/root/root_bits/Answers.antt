@@ -1,0 +1,40 @@
+-- `course::root::root_bits` meets its contract: m * 2 ^ h is X * 4 ^ K, with X of 105 or 106 digits, by h's parity; the whole root of 4 * X, halved, is rounded. Assumes nothing.
+use Rattle.std.proofs.Common.{◌≡◌, ℕ, ◌+◌, ◌-◌, ◌*◌, ◌/◌, ◌%◌, ◌≤◌, arith}
+use Rattle.course.specs.Steps.Root.{significand, power}
+use Rattle.course.proofs.RootScale.{reaches, shifted, root-small, rounded, bits_at}
+use Rattle.course.proofs.root.root_bits.Goals as goal
+
+-- the parity of the power, and half of the rest
+abbrev odd : ℕ → ℕ
+odd b = (b + 4503599627370496) % 9007199254740992 / 4503599627370496
+
+abbrev half : ℕ → ℕ → ℕ
+half b k = (b / 4503599627370496 + 1021) / 2 - k
+
+halved : (b k : ℕ) → 2 * k ≤ 51 + b / 4503599627370496 → odd b + 52 + (half b k + half b k) ≡ power b k
+halved b k h = omega arith
+
+pub whole_root-r-requires : goal.whole_root-r-requires
+whole_root-r-requires c =
+    let b = c.args.b in
+    (reaches (significand b) (odd b) (omega arith) (omega arith) (omega arith), shifted (significand b) (odd b) (omega arith) (omega arith), omega arith)
+
+pub overflow_add-result-2 : goal.overflow_add-result-2
+overflow_add-result-2 c =
+    let b = c.args.b in
+    let r = c.whole_root-r.result in
+    omega (arith, root-small (significand b) (odd b) r.whole r.left (omega arith) (omega arith) c.whole_root-r.ensures)
+
+pub overflow_add-result-3 : goal.overflow_add-result-3
+overflow_add-result-3 c =
+    let b = c.args.b in
+    let r = c.whole_root-r.result in
+    omega (arith, root-small (significand b) (odd b) r.whole r.left (omega arith) (omega arith) c.whole_root-r.ensures)
+
+pub returns : goal.returns
+returns c =
+    let b = c.args.b in
+    let k = c.args.k in
+    let r = c.whole_root-r.result in
+    bits_at (significand b) (odd b) (half b k) (power b k) _ (omega arith) (omega arith) (omega arith) (halved b k (omega arith)) (omega arith)
+    (rounded (significand b) (odd b) r.whole r.left _ (omega arith) (omega arith) (omega arith) c.whole_root-r.ensures (omega arith) (omega arith))

@@ -1,0 +1,15 @@
+-- `course::trig::cosine` meets its contract. Assumes nothing.
+use Rattle.std.proofs.Common.{sym, ◌∙◌}
+use lib.Ieee.{of_bits, of_int}
+use Rattle.course.specs.Rules.Arithmetic.{natural}
+use Rattle.course.specs.Grader.Angle.{answer, angle_cause, cosine_call}
+use Rattle.course.proofs.Turned.{cos-is}
+use Rattle.course.proofs.trig.cosine.Goals as goal
+
+pub returns-then-inside : goal.returns-then-inside
+unfolding of_bits of_int natural answer angle_cause cosine_call
+returns-then-inside c = rw (sym c.inside.ensures ∙ c.if-inside.true, cos-is _ _ c.sin_cos-t.ensures)
+
+pub returns : goal.returns
+unfolding of_bits of_int natural answer angle_cause cosine_call
+returns c = rw (sym c.inside.ensures ∙ c.if-inside.false)
