@@ -10,7 +10,7 @@ count_all-requires c =
     let o : List ℕ = c.args.o.now in
     record {
       rects_in = c.requires.rects_in;
-      counts = counts-none (held_in c.args.rects.now) 0 c.clear.new.0
+      counts = counts-none (held_in c.args.rects.now) 0 c.clear.new.o
           (ap length c.clear.ensures ∙ length-replicate (length o) 0 ∙ c.requires.o_len)
           (λ d l. ap (λ (z : List ℕ). get_or z d 0) c.clear.ensures ∙ get_or-replicate (length o) d 0 0 (omega (arith, c.requires.o_len)));
     }
