@@ -10,7 +10,7 @@ use Rattle.course.proofs.finder.find.Given as goal
 abbrev pub invariant-loop-i : goal.invariant-loop-i
 invariant-loop-i l = record {
   none : l.found ≡ Refused;
-  left : dest_of l.cs l.from l.alpha ≡ scan (drop l.i l.cs) l.i l.a (searched (1 - l.pass) l.cs 0 (l.a ⊖ tau))
+  left : dest_of l.cs l.from l.alpha ≡ scan (drop l.i l.cs) l.i l.a (searched (1 - l.pass) l.cs 0 (l.a ⊖ tau));
 }
 
 abbrev pub decreases-loop-i : goal.decreases-loop-i
@@ -20,7 +20,7 @@ abbrev pub invariant-search : goal.invariant-search
 invariant-search l = record {
   none : l.found ≡ Refused;
   passes : l.pass ≤ 2;
-  left : dest_of l.cs l.from l.alpha ≡ searched (2 - l.pass) l.cs l.i l.a
+  left : dest_of l.cs l.from l.alpha ≡ searched (2 - l.pass) l.cs l.i l.a;
 }
 
 abbrev pub decreases-search : goal.decreases-search
