@@ -3,31 +3,53 @@ use Rattle.std.proofs.Common.{sym, arith}
 use Rattle.course.proofs.Attempts.{Wide, some, front, attempt-good, attempt-refused}
 use Rattle.course.proofs.lay.attempt.Goals as goal
 
--- the walk keeps the columns' lengths
-wide : (c : tie.After-walk-round) →
-    let w = c.walk-round.new in
-    Wide w.1.0 w.1.1.0 w.1.1.1.0 w.1.1.1.1.0
-wide c =
-    let s = (entry c).requires in
-    let k = c.walk-round.auto in
-    record {
-      alpha = omega (arith, k.1.0, s.0);
-      beta = omega (arith, k.1.1.0, s.1.0);
-      x = omega (arith, k.1.1.1.0, s.1.1.0);
-      y = omega (arith, k.1.1.1.1.0, s.1.1.1);
-    }
-
 pub cut-p-requires : goal.cut-p-requires
-cut-p-requires c = record { len_nonzero = (some c.walk_round-w.ensures c.if-w.true, c.walk_round-w.ensures.few); step_limit_in_bounds = ((wide c).alpha, (wide c).beta); step_limit_in_bounds_2 = ((wide c).x, (wide c).y) }
+cut-p-requires c =
+    let wide : Wide c.walk_round-w.new.alpha c.walk_round-w.new.beta c.walk_round-w.new.x c.walk_round-w.new.y =
+    record {
+      alpha = omega (arith, c.walk_round-w.auto.alpha, c.requires.laid_length_in_bounds);
+      beta = omega (arith, c.walk_round-w.auto.beta, c.requires.laid_length_in_bounds_2);
+      x = omega (arith, c.walk_round-w.auto.x, c.requires.laid_length_in_bounds_3);
+      y = omega (arith, c.walk_round-w.auto.y, c.requires.laid_length_in_bounds_4);
+    }
+    in
+    record { len_nonzero = (some c.walk_round-w.ensures c.if-w.true, c.walk_round-w.ensures.few); step_limit_in_bounds = (wide.alpha, wide.beta); step_limit_in_bounds_2 = (wide.x, wide.y) }
 
 pub shift-requires : goal.shift-requires
-shift-requires c = omega (arith, c.cut-p.ensures.n_bound, c.walk_round-w.ensures.few, (wide c).beta)
+shift-requires c =
+    let wide : Wide c.walk_round-w.new.alpha c.walk_round-w.new.beta c.walk_round-w.new.x c.walk_round-w.new.y =
+    record {
+      alpha = omega (arith, c.walk_round-w.auto.alpha, c.requires.laid_length_in_bounds);
+      beta = omega (arith, c.walk_round-w.auto.beta, c.requires.laid_length_in_bounds_2);
+      x = omega (arith, c.walk_round-w.auto.x, c.requires.laid_length_in_bounds_3);
+      y = omega (arith, c.walk_round-w.auto.y, c.requires.laid_length_in_bounds_4);
+    }
+    in
+    omega (arith, c.cut-p.ensures.n_bound, c.walk_round-w.ensures.few, wide.beta)
 
 pub shift-requires-then-w : goal.shift-requires-then-w
-shift-requires-then-w c = omega (arith, c.cut-p.ensures.n_bound, c.walk_round-w.ensures.few, (wide c).x)
+shift-requires-then-w c =
+    let wide : Wide c.walk_round-w.new.alpha c.walk_round-w.new.beta c.walk_round-w.new.x c.walk_round-w.new.y =
+    record {
+      alpha = omega (arith, c.walk_round-w.auto.alpha, c.requires.laid_length_in_bounds);
+      beta = omega (arith, c.walk_round-w.auto.beta, c.requires.laid_length_in_bounds_2);
+      x = omega (arith, c.walk_round-w.auto.x, c.requires.laid_length_in_bounds_3);
+      y = omega (arith, c.walk_round-w.auto.y, c.requires.laid_length_in_bounds_4);
+    }
+    in
+    omega (arith, c.cut-p.ensures.n_bound, c.walk_round-w.ensures.few, wide.x)
 
 pub shift-requires-then-w-2 : goal.shift-requires-then-w-2
-shift-requires-then-w-2 c = omega (arith, c.cut-p.ensures.n_bound, c.walk_round-w.ensures.few, (wide c).y)
+shift-requires-then-w-2 c =
+    let wide : Wide c.walk_round-w.new.alpha c.walk_round-w.new.beta c.walk_round-w.new.x c.walk_round-w.new.y =
+    record {
+      alpha = omega (arith, c.walk_round-w.auto.alpha, c.requires.laid_length_in_bounds);
+      beta = omega (arith, c.walk_round-w.auto.beta, c.requires.laid_length_in_bounds_2);
+      x = omega (arith, c.walk_round-w.auto.x, c.requires.laid_length_in_bounds_3);
+      y = omega (arith, c.walk_round-w.auto.y, c.requires.laid_length_in_bounds_4);
+    }
+    in
+    omega (arith, c.cut-p.ensures.n_bound, c.walk_round-w.ensures.few, wide.y)
 
 pub returns-then-w : goal.returns-then-w
 returns-then-w c =

@@ -22,7 +22,7 @@ returns-then-n-gt0 c =
 pub loop-k-preserved : goal.loop-k-preserved
 loop-k-preserved c =
     trying-more c.loop-k.invariant c.loop-k-test.true c.try_generate-t.ensures.in_front c.try_generate-t.ensures.rng_value c.if-n-gt0.false
-    c.try_generate-t.kept.alpha c.try_generate-t.kept.beta c.try_generate-t.kept.x c.try_generate-t.kept.y
+    c.try_generate-t.auto.alpha c.try_generate-t.auto.beta c.try_generate-t.auto.x c.try_generate-t.auto.y
 
 pub ring_points-requires : goal.ring_points-requires
 ring_points-requires c =
