@@ -1,55 +1,10 @@
--- `course::lay::attempt` meets its contract. Assumes nothing.
-use Rattle.std.proofs.Common.{sym, arith}
-use Rattle.course.proofs.Attempts.{Wide, some, front, attempt-good, attempt-refused}
+-- `course::lay::attempt` meets its contract: what the walk and the moves leave in the columns is what `Attempts` says. Assumes nothing.
+use Rattle.std.proofs.Common.{sym}
+use Rattle.course.proofs.Attempts.{some, front, attempt-good, attempt-refused}
 use Rattle.course.proofs.lay.attempt.Goals as goal
 
-pub cut-p-requires : goal.cut-p-requires
-cut-p-requires c =
-    let wide : Wide c.walk_round-w.new.alpha c.walk_round-w.new.beta c.walk_round-w.new.x c.walk_round-w.new.y =
-    record {
-      alpha = omega (arith, c.walk_round-w.auto.alpha, c.requires.laid_length_in_bounds);
-      beta = omega (arith, c.walk_round-w.auto.beta, c.requires.laid_length_in_bounds_2);
-      x = omega (arith, c.walk_round-w.auto.x, c.requires.laid_length_in_bounds_3);
-      y = omega (arith, c.walk_round-w.auto.y, c.requires.laid_length_in_bounds_4);
-    }
-    in
-    record { len_nonzero = (some c.walk_round-w.ensures c.if-w.true, c.walk_round-w.ensures.few); step_limit_in_bounds = (wide.alpha, wide.beta); step_limit_in_bounds_2 = (wide.x, wide.y) }
-
-pub shift-requires : goal.shift-requires
-shift-requires c =
-    let wide : Wide c.walk_round-w.new.alpha c.walk_round-w.new.beta c.walk_round-w.new.x c.walk_round-w.new.y =
-    record {
-      alpha = omega (arith, c.walk_round-w.auto.alpha, c.requires.laid_length_in_bounds);
-      beta = omega (arith, c.walk_round-w.auto.beta, c.requires.laid_length_in_bounds_2);
-      x = omega (arith, c.walk_round-w.auto.x, c.requires.laid_length_in_bounds_3);
-      y = omega (arith, c.walk_round-w.auto.y, c.requires.laid_length_in_bounds_4);
-    }
-    in
-    omega (arith, c.cut-p.ensures.n_bound, c.walk_round-w.ensures.few, wide.beta)
-
-pub shift-requires-then-w : goal.shift-requires-then-w
-shift-requires-then-w c =
-    let wide : Wide c.walk_round-w.new.alpha c.walk_round-w.new.beta c.walk_round-w.new.x c.walk_round-w.new.y =
-    record {
-      alpha = omega (arith, c.walk_round-w.auto.alpha, c.requires.laid_length_in_bounds);
-      beta = omega (arith, c.walk_round-w.auto.beta, c.requires.laid_length_in_bounds_2);
-      x = omega (arith, c.walk_round-w.auto.x, c.requires.laid_length_in_bounds_3);
-      y = omega (arith, c.walk_round-w.auto.y, c.requires.laid_length_in_bounds_4);
-    }
-    in
-    omega (arith, c.cut-p.ensures.n_bound, c.walk_round-w.ensures.few, wide.x)
-
-pub shift-requires-then-w-2 : goal.shift-requires-then-w-2
-shift-requires-then-w-2 c =
-    let wide : Wide c.walk_round-w.new.alpha c.walk_round-w.new.beta c.walk_round-w.new.x c.walk_round-w.new.y =
-    record {
-      alpha = omega (arith, c.walk_round-w.auto.alpha, c.requires.laid_length_in_bounds);
-      beta = omega (arith, c.walk_round-w.auto.beta, c.requires.laid_length_in_bounds_2);
-      x = omega (arith, c.walk_round-w.auto.x, c.requires.laid_length_in_bounds_3);
-      y = omega (arith, c.walk_round-w.auto.y, c.requires.laid_length_in_bounds_4);
-    }
-    in
-    omega (arith, c.cut-p.ensures.n_bound, c.walk_round-w.ensures.few, wide.y)
+pub cut-p-requires-clause-len_nonzero : goal.cut-p-requires-clause-len_nonzero
+cut-p-requires-clause-len_nonzero c = (some c.walk_round-w.ensures c.if-w.true, c.walk_round-w.ensures.few)
 
 pub returns-then-w : goal.returns-then-w
 returns-then-w c =

@@ -1,5 +1,5 @@
 -- `course::trig::turned` meets its contract: the two results are those of `pick`, by the quarter. Assumes nothing.
-use Rattle.std.proofs.Common.{◌≡◌, ℕ, ap}
+use Rattle.std.proofs.Common.{◌≡◌, ap}
 use lib.Ieee.{Float, of_bits, round, sub, mul, neg, binary64}
 use Rattle.course.specs.Rules.Constants.{half_pi}
 use Rattle.course.specs.Rules.Arithmetic.{decimal}
