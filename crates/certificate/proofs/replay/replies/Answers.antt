@@ -1,6 +1,5 @@
 -- `certificate::replay::replies` meets its contract. Assumes nothing.
 use native.Mathlib.Omega.{arith}
-use Prim.Native.Nat.{◌-◌}
 use Rattle.certificate.proofs.CallColumnLaws.{no-reply, own-parts, one-reply, all-replies}
 use Rattle.certificate.proofs.replay.replies.Goals as goal
 

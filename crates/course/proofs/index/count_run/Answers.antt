@@ -1,6 +1,5 @@
 -- `course::index::count_run` meets its contract. Assumes nothing.
-use Rattle.std.proofs.Common.{◌-◌, ◌<◌, get_or, refl, arith}
-use Rattle.course.specs.Rules.Lengths.{most_points}
+use Rattle.std.proofs.Common.{refl, arith}
 use Rattle.course.specs.Steps.Index.{Inside}
 use Rattle.course.proofs.CellRuns.{counted_none, counted-more, counted-all}
 use Rattle.course.proofs.index.count_run.Goals as goal

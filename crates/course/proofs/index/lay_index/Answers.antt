@@ -1,5 +1,5 @@
 -- `course::index::lay_index` meets its contract. Assumes nothing.
-use Rattle.std.proofs.Common.{ℕ, ◌-◌, List, length, get_or, ap, ◌∙◌, arith}
+use Rattle.std.proofs.Common.{ℕ, List, length, get_or, ap, ◌∙◌, arith}
 use lib.ListN.{length-replicate, get_or-replicate}
 use Rattle.course.specs.Steps.Index.{held_in}
 use Rattle.course.proofs.TileSteps.{counts-none, counts-small, placed-none, placed-offsets, placed-index}

@@ -1,5 +1,5 @@
 -- `course::index::place_run` meets its contract. Assumes nothing.
-use Rattle.std.proofs.Common.{◌-◌, ◌*◌, ◌<◌, ◌≤◌, length, get_or, refl, arith}
+use Rattle.std.proofs.Common.{◌*◌, ◌<◌, ◌≤◌, length, get_or, refl, arith}
 use Rattle.course.specs.Rules.Lengths.{most_points, cell_count}
 use Rattle.course.specs.Steps.Index.{Inside}
 use Rattle.course.proofs.CellRuns.{placed-none, placed-more, placed-all}

@@ -1,6 +1,6 @@
 -- `course::index::sum_up` meets its contract. Assumes nothing.
-use Rattle.std.proofs.Common.{◌≡◌, ℕ, ◌+◌, ◌-◌, ◌*◌, ◌≤◌, get_or, set, sym, refl, subst, arith}
-use Rattle.course.specs.Rules.Lengths.{most_points, offset_count}
+use Rattle.std.proofs.Common.{◌≡◌, ℕ, ◌+◌, get_or, set, sym, refl, subst, arith}
+use Rattle.course.specs.Rules.Lengths.{most_points}
 use Rattle.course.specs.Steps.Index.{sum_below}
 use Rattle.course.proofs.CellRuns.{SummedTo, sum-none, sum_more, sum-small, summed-more}
 use Rattle.course.proofs.index.sum_up.Goals as goal

@@ -1,6 +1,6 @@
 -- `course::index::total` meets its contract. Assumes nothing.
 use Rattle.course.specs.Steps.Index.{Small, Packs, RectsPacked}
-use Rattle.std.proofs.Common.{◌≡◌, ℕ, ◌+◌, ◌-◌, sym, ap, ◌∙◌, subst, arith}
+use Rattle.std.proofs.Common.{◌≡◌, ℕ, ◌+◌, sym, ap, ◌∙◌, subst, arith}
 use Rattle.course.specs.Rules.Rect.{Rect, needed, area_of}
 use Rattle.course.proofs.CourseRects.{rect-small, needed-none, needed-more, needed-small}
 use Rattle.course.proofs.PackedRects.{packed_none, packed_more}

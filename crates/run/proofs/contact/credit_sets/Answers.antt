@@ -1,7 +1,6 @@
 -- `run::contact::credit_sets` meets its contract. Assumes nothing.
 use Rattle.run.proofs.ContactLaws.{parts-end, no-credit, own-credit, one-credit, few-new, credited-long, four-credits}
 use native.Mathlib.Omega.{arith}
-use Prim.Native.Nat.{◌-◌}
 use Rattle.run.proofs.contact.credit_sets.Goals as goal
 
 pub loop-w-init : goal.loop-w-init

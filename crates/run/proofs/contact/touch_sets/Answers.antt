@@ -2,7 +2,6 @@
 use Rattle.run.proofs.ContactLaws.{wheel-ends, no-set, own_room, one_set, four-sets, wheel-is}
 use native.Mathlib.Omega.{arith}
 use mathlib.Core.Path.{◌≡◌, refl, sym, ap, ◌∙◌}
-use Prim.Native.Nat.{◌-◌}
 use lib.ListN.{length}
 use Rattle.run.specs.Grader.Touch.{touched_by}
 use Rattle.run.proofs.CellLaws.{cells-long, own-cells}

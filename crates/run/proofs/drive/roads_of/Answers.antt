@@ -5,7 +5,6 @@ use Rattle.run.proofs.ContactLaws.{end-within}
 use Rattle.run.specs.Steps.Drive.{roads_to}
 use native.Mathlib.Omega.{arith}
 use mathlib.Core.Path.{refl}
-use Prim.Native.Nat.{◌-◌}
 use Rattle.run.proofs.drive.roads_of.Goals as goal
 
 pub loop-w-init : goal.loop-w-init

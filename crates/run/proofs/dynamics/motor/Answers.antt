@@ -1,6 +1,5 @@
 -- `run::dynamics::motor` meets its contract. Assumes nothing.
 use mathlib.Core.Path.{◌≡◌, sym, ap, ◌∙◌}
-use mathlib.Core.Logic.{⊎_elim}
 use mathlib.Core.Bool.{Bool, true, false, cond}
 use lib.Ieee.{Float, of_bits, lt}
 use Rattle.course.specs.Rules.Arithmetic.{◌⊖◌, ◌⊗◌}

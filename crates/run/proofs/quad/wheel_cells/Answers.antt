@@ -1,7 +1,6 @@
 -- `run::quad::wheel_cells` meets its contract. Assumes nothing.
 use native.Mathlib.Omega.{arith}
 use mathlib.Core.Path.{refl, ap, ◌∙◌}
-use Prim.Native.Nat.{◌-◌}
 use Rattle.run.specs.Rules.Wheel.{quad_of, box_cells}
 use Rattle.run.proofs.CellLaws.{filled, fill_more, all-filled}
 use Rattle.run.proofs.quad.wheel_cells.Goals as goal

@@ -6,7 +6,6 @@ use Rattle.run.specs.Rules.Below.{every_of}
 use Rattle.run.specs.Grader.Touch.{sound_cell}
 use Rattle.run.specs.Steps.Touch.{again}
 use lib.Seq.{take_all}
-use Prim.Native.Nat.{◌-◌}
 use native.Mathlib.Omega.{arith}
 use mathlib.Core.Path.{sym, ap, ◌∙◌}
 use Rattle.run.proofs.touch.cells_sound.Goals as goal

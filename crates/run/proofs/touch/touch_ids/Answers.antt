@@ -5,7 +5,7 @@ use lib.Seq.{take_all}
 use borrow.Author.Tests.{ltb-true}
 use lib.Dec.{eqb, ltb}
 use lib.ListN.{length, get_or, take}
-use Prim.Native.Nat.{ℕ, ◌+◌, ◌-◌, ◌≤◌, ◌<◌}
+use Prim.Native.Nat.{ℕ, ◌+◌, ◌≤◌, ◌<◌}
 use mathlib.Core.List.{List}
 use mathlib.Core.Bool.{Bool, ◌||◌, or-false}
 use mathlib.Core.Path.{refl, sym, ap, ◌∙◌}

@@ -1,9 +1,6 @@
 -- `run::touch::touch_quad` meets its contract. Assumes nothing.
 use Rattle.run.proofs.TouchLaws.{sound-ids, room_for}
 use Rattle.run.proofs.CellLaws.{no_cell, cells_are, one_cell, same-cell, all-touched}
-use borrow.Author.Tests.{not-false}
-use mathlib.Core.Logic.{⊎_elim}
-use Prim.Native.Nat.{◌-◌}
 use mathlib.Core.Path.{sym, ◌∙◌}
 use native.Mathlib.Omega.{arith}
 use Rattle.run.proofs.touch.touch_quad.Goals as goal

@@ -2,7 +2,6 @@
 use Rattle.run.proofs.WordBounds.{first-passed, next-passed, all-passed, not-passed}
 use native.Mathlib.Omega.{arith}
 use mathlib.Core.Path.{sym}
-use Prim.Native.Nat.{◌-◌}
 use Rattle.run.proofs.words.all_below.Goals as goal
 
 pub loop-i-init : goal.loop-i-init

@@ -3,7 +3,6 @@ use Rattle.run.proofs.CreditLaws.{empty-words}
 use lib.Seq.{get_or-set_same, get_or-set_other}
 use borrow.Author.Count.{below_more}
 use lib.ListN.{get_or, set, length-set}
-use Prim.Native.Nat.{◌-◌}
 use mathlib.Core.Path.{◌≡◌, refl, ◌∙◌}
 use native.Mathlib.Omega.{arith}
 use Rattle.run.proofs.words.clear.Goals as goal

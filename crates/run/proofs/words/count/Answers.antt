@@ -7,7 +7,7 @@ use Rattle.run.specs.Grader.Words.{member}
 use native.Mathlib.Omega.{arith}
 use mathlib.Core.Path.{◌≡◌, sym, ap, ◌∙◌}
 use lib.ListN.{length}
-use Prim.Native.Nat.{ℕ, ◌-◌, ◌*◌}
+use Prim.Native.Nat.{ℕ, ◌*◌}
 use Rattle.run.proofs.words.count.Goals as goal
 
 pub loop-i-init : goal.loop-i-init
