@@ -80,14 +80,20 @@ pub fn float(list: &[u8], at: usize) -> f64 {
     number(word(list, at))
 }
 
+fn end_line<W: Write>(out: &mut W) -> io::Result<()> {
+    out.write_all(b"\n")
+}
+
 // A line with n in decimal.
 pub fn line_u64<W: Write>(out: &mut W, n: u64) -> io::Result<()> {
-    writeln!(out, "{n}")
+    write!(out, "{n}")?;
+    end_line(out)
 }
 
 // A line with n in 16 hexadecimal digits.
 pub fn line_hex<W: Write>(out: &mut W, n: u64) -> io::Result<()> {
-    writeln!(out, "{n:016x}")
+    write!(out, "{n:016x}")?;
+    end_line(out)
 }
 
 // A line with the bits of x.
@@ -106,7 +112,8 @@ pub fn line_bool<W: Write>(out: &mut W, b: bool) -> io::Result<()> {
 
 // A line that says by which cause a call was refused.
 pub fn line_refused<W: Write>(out: &mut W, cause: u32) -> io::Result<()> {
-    writeln!(out, "refused {cause}")
+    out.write_all(b"refused ")?;
+    line_u64(out, cause as u64)
 }
 
 // The id in every place of the column.
