@@ -12,6 +12,8 @@ ghost use Rattle.std.specs.Prelude.{◌≤◌};
 use course::curbs::CurbAnswer;
 use course::points::Laid;
 use course::{curbs, index, points};
+use std::io;
+use std::io::{BufWriter, Write};
 use vectors::{front, hash};
 
 // First place, number of points, and each point's beta, x and y: into the given columns.
@@ -145,10 +147,11 @@ fn call_points(
     )
 }
 
-fn line_laid(answer: Laid) {
+fn line_laid<W: Write>(out: &mut W, answer: Laid) -> io::Result<()> {
     match answer {
         Laid::Course(c) => {
             vectors::lines_course(
+                out,
                 c.n,
                 c.fallback,
                 c.entries,
@@ -157,20 +160,21 @@ fn line_laid(answer: Laid) {
                 c.first.y,
             )
         }
-        Laid::Short(need) => vectors::lines_short(need),
-        Laid::Refused(cause) => vectors::line_refused(cause),
+        Laid::Short(need) => vectors::lines_short(out, need),
+        Laid::Refused(cause) => vectors::line_refused(out, cause),
     }
 }
 
 // The answer, and what the lent columns hold then.
-fn replay_points(
+fn replay_points<W: Write>(
+    out: &mut W,
     rest: &[u8],
     pbeta: &[f64],
     px: &[f64],
     py: &[f64],
     offsets: &mut [u32],
     list: &mut [u32],
-) {
+) -> io::Result<()> {
     let mut alpha = [UNTOUCHED; 2600];
     let mut beta = [UNTOUCHED; 2600];
     let mut x = [UNTOUCHED; 2600];
@@ -178,10 +182,11 @@ fn replay_points(
     let mut tiles = [UNTOUCHED; 20100];
     vectors::fill(offsets, UNTOUCHED_ID);
     vectors::fill(list, UNTOUCHED_ID);
-    line_laid(call_points(
+    let laid = call_points(
         rest, pbeta, px, py, &mut alpha, &mut beta, &mut x, &mut y, &mut tiles, offsets, list,
-    ));
-    vectors::lines_lent(&alpha, &beta, &x, &y, &tiles, offsets, list);
+    );
+    line_laid(out, laid)?;
+    vectors::lines_lent(out, &alpha, &beta, &x, &y, &tiles, offsets, list)
 }
 
 // Curbs on parts of the columns, of the record's lengths.
@@ -203,20 +208,26 @@ fn call_curbs(
     )
 }
 
-fn line_curbs(answer: CurbAnswer) {
+fn line_curbs<W: Write>(out: &mut W, answer: CurbAnswer) -> io::Result<()> {
     match answer {
-        CurbAnswer::Count(n) => vectors::line_u64(n as u64),
-        CurbAnswer::Refused(cause) => vectors::line_refused(cause),
+        CurbAnswer::Count(n) => vectors::line_u64(out, n as u64),
+        CurbAnswer::Refused(cause) => vectors::line_refused(out, cause),
     }
 }
 
 // The answer, and what the lent columns hold then.
-fn replay_curbs(rest: &[u8], pbeta: &[f64], px: &[f64], py: &[f64]) {
+fn replay_curbs<W: Write>(
+    out: &mut W,
+    rest: &[u8],
+    pbeta: &[f64],
+    px: &[f64],
+    py: &[f64],
+) -> io::Result<()> {
     let mut quads = [UNTOUCHED; 20100];
     let mut white = [UNTOUCHED_MARK; 2600];
-    line_curbs(call_curbs(rest, pbeta, px, py, &mut quads, &mut white));
-    vectors::line_hex(hash::floats(&quads));
-    vectors::line_hex(hash::marks(&white));
+    line_curbs(out, call_curbs(rest, pbeta, px, py, &mut quads, &mut white))?;
+    vectors::line_hex(out, hash::floats(&quads))?;
+    vectors::line_hex(out, hash::marks(&white))
 }
 
 fn put_offset(rest: &[u8], offsets: &mut [u32]) {
@@ -227,69 +238,82 @@ fn put_offset(rest: &[u8], offsets: &mut [u32]) {
 }
 
 // The part's length, and its hash.
-fn replay_lookup(rest: &[u8], offsets: &[u32], list: &[u32]) {
+fn replay_lookup<W: Write>(
+    out: &mut W,
+    rest: &[u8],
+    offsets: &[u32],
+    list: &[u32],
+) -> io::Result<()> {
     let o = front::ids(offsets, vectors::word(rest, 1));
     let l = front::ids(list, vectors::word(rest, 2));
     let part = index::candidate_tiles(o, l, vectors::float(rest, 3), vectors::float(rest, 4));
-    vectors::line_u64(part.len() as u64);
-    vectors::line_hex(hash::ids(part));
+    vectors::line_u64(out, part.len() as u64)?;
+    vectors::line_hex(out, hash::ids(part))
 }
 
 // What the record does that the list begins with.
-fn replay_one(
+fn replay_one<W: Write>(
+    out: &mut W,
     rest: &[u8],
     pbeta: &mut [f64],
     px: &mut [f64],
     py: &mut [f64],
     offsets: &mut [u32],
     ids: &mut [u32],
-) {
+) -> io::Result<()> {
     match vectors::word(rest, 0) {
         GIVE => give(rest, pbeta, px, py),
         REPEAT => repeat(rest, pbeta, px, py),
-        POINTS => replay_points(rest, pbeta, px, py, offsets, ids),
-        CURBS => replay_curbs(rest, pbeta, px, py),
+        POINTS => replay_points(out, rest, pbeta, px, py, offsets, ids)?,
+        CURBS => replay_curbs(out, rest, pbeta, px, py)?,
         OFFSET => put_offset(rest, offsets),
-        _ => replay_lookup(rest, offsets, ids),
+        _ => replay_lookup(out, rest, offsets, ids)?,
     }
+    Ok(())
 }
 
 // All records of a list, up to its end or an unknown code.
-fn replay(
+fn replay<W: Write>(
+    out: &mut W,
     list: &[u8],
     pbeta: &mut [f64],
     px: &mut [f64],
     py: &mut [f64],
     offsets: &mut [u32],
     ids: &mut [u32],
-) {
+) -> io::Result<()> {
     let end = list.len() / 8;
     let mut at: usize = 0;
     while at < end {
         let rest = &list[at * 8..];
         let size = words(rest);
         if size == 0 {
-            return;
+            return Ok(());
         }
         at += size;
-        replay_one(rest, pbeta, px, py, offsets, ids);
+        replay_one(out, rest, pbeta, px, py, offsets, ids)?;
     }
+    Ok(())
 }
 
-fn main() {
-    let mut space = [0u8; 524288];
+fn main(rt: HostRuntime) -> io::Result<()> {
+    let mut list = vec![in rt.alloc(); 0u8; 524288]?;
+    let space = list.as_mut_slice();
     let mut pbeta = [0.0f64; 2600];
     let mut px = [0.0f64; 2600];
     let mut py = [0.0f64; 2600];
     let mut offsets = [0u32; 4600];
-    let mut ids = [0u32; 450000];
-    let n = vectors::read_list(&mut space);
+    let mut ids = vec![in rt.alloc(); 0u32; 450000]?;
+    let n = vectors::read_list(&mut rt.stdin(), space)?;
+    let mut out = BufWriter::new(rt.alloc(), io::writer(&rt))?;
     replay(
+        &mut out,
         &space[..n],
         &mut pbeta,
         &mut px,
         &mut py,
         &mut offsets,
-        &mut ids,
-    );
+        ids.as_mut_slice(),
+    )?;
+    out.flush()
 }

@@ -12,6 +12,8 @@ ghost use Rattle.std.specs.Prelude.{◌≤◌};
 use course::checkpoints::Checkpoint;
 use course::lay;
 use course::points::Laid;
+use std::io;
+use std::io::{BufWriter, Write};
 use vectors::front;
 
 // Seed.
@@ -105,10 +107,11 @@ fn call_on_parts(
     )
 }
 
-fn lines_laid(answer: Laid) {
+fn lines_laid<W: Write>(out: &mut W, answer: Laid) -> io::Result<()> {
     match answer {
         Laid::Course(c) => {
             vectors::lines_course(
+                out,
                 c.n,
                 c.fallback,
                 c.entries,
@@ -117,13 +120,18 @@ fn lines_laid(answer: Laid) {
                 c.first.y,
             )
         }
-        Laid::Short(need) => vectors::lines_short(need),
-        Laid::Refused(cause) => vectors::line_refused(cause),
+        Laid::Short(need) => vectors::lines_short(out, need),
+        Laid::Refused(cause) => vectors::line_refused(out, cause),
     }
 }
 
 // The answer to the record that the list begins with, and what the lent columns hold then.
-fn replay_one(rest: &[u8], offsets: &mut [u32], list: &mut [u32]) {
+fn replay_one<W: Write>(
+    out: &mut W,
+    rest: &[u8],
+    offsets: &mut [u32],
+    list: &mut [u32],
+) -> io::Result<()> {
     let mut alpha = [UNTOUCHED; 2600];
     let mut beta = [UNTOUCHED; 2600];
     let mut x = [UNTOUCHED; 2600];
@@ -131,31 +139,41 @@ fn replay_one(rest: &[u8], offsets: &mut [u32], list: &mut [u32]) {
     let mut tiles = [UNTOUCHED; 20100];
     vectors::fill(offsets, UNTOUCHED_ID);
     vectors::fill(list, UNTOUCHED_ID);
-    lines_laid(call_on_parts(
+    let laid = call_on_parts(
         rest, &mut alpha, &mut beta, &mut x, &mut y, &mut tiles, offsets, list,
-    ));
-    vectors::lines_lent(&alpha, &beta, &x, &y, &tiles, offsets, list);
+    );
+    lines_laid(out, laid)?;
+    vectors::lines_lent(out, &alpha, &beta, &x, &y, &tiles, offsets, list)
 }
 
 // All records of a list, up to its end or an unknown code.
-fn replay(list: &[u8], offsets: &mut [u32], ids: &mut [u32]) {
+fn replay<W: Write>(
+    out: &mut W,
+    list: &[u8],
+    offsets: &mut [u32],
+    ids: &mut [u32],
+) -> io::Result<()> {
     let end = list.len() / 8;
     let mut at: usize = 0;
     while at < end {
         let rest = &list[at * 8..];
         let size = words(rest);
         if size == 0 {
-            return;
+            return Ok(());
         }
         at += size;
-        replay_one(rest, offsets, ids);
+        replay_one(out, rest, offsets, ids)?;
     }
+    Ok(())
 }
 
-fn main() {
-    let mut space = [0u8; 262144];
+fn main(rt: HostRuntime) -> io::Result<()> {
+    let mut list = vec![in rt.alloc(); 0u8; 262144]?;
+    let space = list.as_mut_slice();
     let mut offsets = [0u32; 4600];
-    let mut ids = [0u32; 30000];
-    let n = vectors::read_list(&mut space);
-    replay(&space[..n], &mut offsets, &mut ids);
+    let mut ids = vec![in rt.alloc(); 0u32; 30000]?;
+    let n = vectors::read_list(&mut rt.stdin(), space)?;
+    let mut out = BufWriter::new(rt.alloc(), io::writer(&rt))?;
+    replay(&mut out, &space[..n], &mut offsets, ids.as_mut_slice())?;
+    out.flush()
 }

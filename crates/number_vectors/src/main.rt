@@ -11,6 +11,8 @@ ghost use Rattle.std.specs.Prelude.{◌≤◌};
 
 use course::trig::Angle;
 use course::{cell, numeric, root, trig};
+use std::io;
+use std::io::{BufWriter, Write};
 
 const SINE: u64 = 1;
 
@@ -47,50 +49,54 @@ fn words(code: u64) -> usize
 }
 
 // What a call answers that may refuse.
-fn line_angle(answer: Angle) {
+fn line_angle<W: Write>(out: &mut W, answer: Angle) -> io::Result<()> {
     match answer {
-        Angle::Value(x) => vectors::line_float(x),
-        Angle::Refused(cause) => vectors::line_refused(cause),
+        Angle::Value(x) => vectors::line_float(out, x),
+        Angle::Refused(cause) => vectors::line_refused(out, cause),
     }
 }
 
 // The answer of one record. An operation leaves out the arguments that it does not take.
-fn line_answer(code: u64, a: f64, b: f64, c: f64) {
+fn line_answer<W: Write>(out: &mut W, code: u64, a: f64, b: f64, c: f64) -> io::Result<()> {
     match code {
-        SINE => line_angle(trig::sine(a)),
-        COSINE => line_angle(trig::cosine(a)),
-        ATAN2 => line_angle(trig::atan2(a, b)),
-        SQRT => vectors::line_float(root::sqrt(a)),
-        CELL => vectors::line_u64(cell::cell_of(a) as u64),
-        ABS => vectors::line_float(numeric::abs(a)),
-        MIN => vectors::line_float(numeric::min(a, b)),
-        MAX => vectors::line_float(numeric::max(a, b)),
-        CLAMP => vectors::line_float(numeric::clamp(a, b, c)),
-        SIGNUM => vectors::line_float(numeric::signum(a)),
-        _ => vectors::line_bool(numeric::inside(a, b)),
+        SINE => line_angle(out, trig::sine(a)),
+        COSINE => line_angle(out, trig::cosine(a)),
+        ATAN2 => line_angle(out, trig::atan2(a, b)),
+        SQRT => vectors::line_float(out, root::sqrt(a)),
+        CELL => vectors::line_u64(out, cell::cell_of(a) as u64),
+        ABS => vectors::line_float(out, numeric::abs(a)),
+        MIN => vectors::line_float(out, numeric::min(a, b)),
+        MAX => vectors::line_float(out, numeric::max(a, b)),
+        CLAMP => vectors::line_float(out, numeric::clamp(a, b, c)),
+        SIGNUM => vectors::line_float(out, numeric::signum(a)),
+        _ => vectors::line_bool(out, numeric::inside(a, b)),
     }
 }
 
 // The answers of all records of a list, up to its end or an unknown code.
-fn replay(list: &[u8]) {
+fn replay<W: Write>(out: &mut W, list: &[u8]) -> io::Result<()> {
     let end = list.len() / 8;
     let mut at: usize = 0;
     while at < end {
         let code = vectors::word(list, at);
         let size = words(code);
         if size == 0 {
-            return;
+            return Ok(());
         }
         let a = vectors::float(list, at + 1);
         let b = vectors::float(list, at + 2);
         let c = vectors::float(list, at + 3);
-        line_answer(code, a, b, c);
+        line_answer(out, code, a, b, c)?;
         at += size;
     }
+    Ok(())
 }
 
-fn main() {
-    let mut space = [0u8; 262144];
-    let n = vectors::read_list(&mut space);
-    replay(&space[..n]);
+fn main(rt: HostRuntime) -> io::Result<()> {
+    let mut list = vec![in rt.alloc(); 0u8; 262144]?;
+    let space = list.as_mut_slice();
+    let n = vectors::read_list(&mut rt.stdin(), space)?;
+    let mut out = BufWriter::new(rt.alloc(), io::writer(&rt))?;
+    replay(&mut out, &space[..n])?;
+    out.flush()
 }

@@ -5,6 +5,8 @@ use certificate::replay::{ANSWER_NUMBERS, ANSWER_WORDS};
 use course::points::Laid;
 use run::sheet::{RunSheet, SheetAnswer};
 use run::start::StartAnswer;
+use std::io;
+use std::io::Write;
 
 // What an answer's first word says of it.
 const FORCES: u32 = 0;
@@ -14,10 +16,11 @@ const SETTLED: u32 = 1;
 const REFUSED: u32 = 2;
 
 // The answer of lay.
-pub fn laid(answer: Laid) {
+pub fn laid<W: Write>(out: &mut W, answer: Laid) -> io::Result<()> {
     match answer {
         Laid::Course(c) => {
             vectors::lines_course(
+                out,
                 c.n,
                 c.fallback,
                 c.entries,
@@ -26,66 +29,63 @@ pub fn laid(answer: Laid) {
                 c.first.y,
             )
         }
-        Laid::Short(need) => vectors::lines_short(need),
-        Laid::Refused(cause) => vectors::line_refused(cause),
+        Laid::Short(need) => vectors::lines_short(out, need),
+        Laid::Refused(cause) => vectors::line_refused(out, cause),
     }
 }
 
 // One more figure of a line.
-fn more(n: u32) {
-    io::write_all(1, b" ");
-    io::print_decimal(1, n as u64);
+fn more<W: Write>(out: &mut W, n: u32) -> io::Result<()> {
+    out.write_all(b" ")?;
+    write!(out, "{n}")
 }
 
 // One more flag of a line, as 1 or 0.
-fn more_flag(b: bool) {
-    if b {
-        more(1);
-    } else {
-        more(0);
-    }
+fn more_flag<W: Write>(out: &mut W, b: bool) -> io::Result<()> {
+    if b { more(out, 1) } else { more(out, 0) }
 }
 
 // One more number of a line, by its bits.
-fn more_bits(x: f64) {
-    io::write_all(1, b" ");
-    io::print_hex(1, vectors::bits(x), 16);
+fn more_bits<W: Write>(out: &mut W, x: f64) -> io::Result<()> {
+    let bits = vectors::bits(x);
+    out.write_all(b" ")?;
+    write!(out, "{bits:016x}")
 }
 
-fn end() {
-    io::write_all(1, b"\n");
+fn end<W: Write>(out: &mut W) -> io::Result<()> {
+    out.write_all(b"\n")
 }
 
 // How many tiles the start credits, and the lap; or the number of the cause.
-pub fn started(answer: StartAnswer) {
+pub fn started<W: Write>(out: &mut W, answer: StartAnswer) -> io::Result<()> {
     match answer {
         StartAnswer::Started(s) => {
-            io::write_all(1, b"started");
-            more(s.count);
-            more_flag(s.lap);
-            end();
+            out.write_all(b"started")?;
+            more(out, s.count)?;
+            more_flag(out, s.lap)?;
+            end(out)
         }
-        StartAnswer::Refused(cause) => vectors::line_refused(cause),
+        StartAnswer::Refused(cause) => vectors::line_refused(out, cause),
     }
 }
 
 // Tick, credited, n, lap, ended, fallback, share.
-fn figures(s: RunSheet) {
-    io::write_all(1, b"sheet");
-    more(s.tick);
-    more(s.credited);
-    more(s.n);
-    more_flag(s.lap);
-    more_flag(s.ended);
-    more_flag(s.fallback);
-    more(s.share);
-    end();
+fn figures<W: Write>(out: &mut W, s: RunSheet) -> io::Result<()> {
+    out.write_all(b"sheet")?;
+    more(out, s.tick)?;
+    more(out, s.credited)?;
+    more(out, s.n)?;
+    more_flag(out, s.lap)?;
+    more_flag(out, s.ended)?;
+    more_flag(out, s.fallback)?;
+    more(out, s.share)?;
+    end(out)
 }
 
-pub fn sheet(answer: SheetAnswer) {
+pub fn sheet<W: Write>(out: &mut W, answer: SheetAnswer) -> io::Result<()> {
     match answer {
-        SheetAnswer::Sheet(s) => figures(s),
-        SheetAnswer::Refused(cause) => vectors::line_refused(cause),
+        SheetAnswer::Sheet(s) => figures(out, s),
+        SheetAnswer::Refused(cause) => vectors::line_refused(out, cause),
     }
 }
 
@@ -105,62 +105,66 @@ fn number_at(col: &[f64], i: usize) -> f64 {
 }
 
 // Three numbers from number k on.
-fn more_three(numbers: &[f64], k: usize)
+fn more_three<W: Write>(out: &mut W, numbers: &[f64], k: usize) -> io::Result<()>
     requires { k ≤ 20000 }
 {
-    more_bits(number_at(numbers, k));
-    more_bits(number_at(numbers, k + 1));
-    more_bits(number_at(numbers, k + 2));
+    more_bits(out, number_at(numbers, k))?;
+    more_bits(out, number_at(numbers, k + 1))?;
+    more_bits(out, number_at(numbers, k + 2))
 }
 
 // The forces from number k on: motor speed, fx and fy of each wheel.
-fn forces(numbers: &[f64], k: usize)
+fn forces<W: Write>(out: &mut W, numbers: &[f64], k: usize) -> io::Result<()>
     requires { k ≤ 10800 }
 {
-    io::write_all(1, b"forces");
-    more_three(numbers, k);
-    more_three(numbers, k + 3);
-    more_three(numbers, k + 6);
-    more_three(numbers, k + 9);
-    end();
+    out.write_all(b"forces")?;
+    more_three(out, numbers, k)?;
+    more_three(out, numbers, k + 3)?;
+    more_three(out, numbers, k + 6)?;
+    more_three(out, numbers, k + 9)?;
+    end(out)
 }
 
 // New tiles, n, off, lap, ended: from the word at k on, the flags from the bits of the last.
-fn settled(words: &[u32], k: usize)
+fn settled<W: Write>(out: &mut W, words: &[u32], k: usize) -> io::Result<()>
     requires { k ≤ 3600 }
 {
     let flags = word_at(words, k + 3);
-    io::write_all(1, b"settled");
-    more(word_at(words, k + 1));
-    more(word_at(words, k + 2));
-    more(flags % 2);
-    more(flags / 2 % 2);
-    more(flags / 4);
-    end();
+    out.write_all(b"settled")?;
+    more(out, word_at(words, k + 1))?;
+    more(out, word_at(words, k + 2))?;
+    more(out, flags % 2)?;
+    more(out, flags / 2 % 2)?;
+    more(out, flags / 4)?;
+    end(out)
 }
 
 // The answer of call i; a call that was not answered left its words untouched.
-fn answer(words: &[u32], numbers: &[f64], i: usize)
+fn answer<W: Write>(out: &mut W, words: &[u32], numbers: &[f64], i: usize) -> io::Result<()>
     requires { i ≤ 900 }
 {
     let k = i * ANSWER_WORDS;
     match word_at(words, k) {
-        FORCES => forces(numbers, i * ANSWER_NUMBERS),
-        SETTLED => settled(words, k),
-        REFUSED => vectors::line_refused(word_at(words, k + 1)),
-        _ => {
-            io::write_all(1, b"untouched\n");
-        }
+        FORCES => forces(out, numbers, i * ANSWER_NUMBERS),
+        SETTLED => settled(out, words, k),
+        REFUSED => vectors::line_refused(out, word_at(words, k + 1)),
+        _ => out.write_all(b"untouched\n"),
     }
 }
 
 // The answers of so many calls.
-pub(crate) fn answers(count: usize, words: &[u32], numbers: &[f64])
+pub(crate) fn answers<W: Write>(
+    out: &mut W,
+    count: usize,
+    words: &[u32],
+    numbers: &[f64],
+) -> io::Result<()>
     requires { count ≤ 900 }
 {
     let mut i: usize = 0;
     while i < count {
-        answer(words, numbers, i);
+        answer(out, words, numbers, i)?;
         i += 1;
     }
+    Ok(())
 }

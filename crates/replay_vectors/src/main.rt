@@ -15,6 +15,8 @@ mod read;
 
 use certificate::replay;
 use certificate::replay::Replayed;
+use std::io;
+use std::io::{BufWriter, Read, Write};
 use vectors::front;
 
 // What stands in each place of a column before a call.
@@ -123,18 +125,31 @@ fn call_on_parts(
 }
 
 // The answers, in their order; a call's from its words and numbers.
-fn lines_replayed(rest: &[u8], done: Replayed, words: &[u32], numbers: &[f64]) {
+fn lines_replayed<W: Write>(
+    out: &mut W,
+    rest: &[u8],
+    done: Replayed,
+    words: &[u32],
+    numbers: &[f64],
+) -> io::Result<()> {
     let laid = done.laid;
     let begun = done.start;
     let sheet = done.sheet;
-    line::laid(laid);
-    line::started(begun);
-    line::answers(read::held(rest), words, numbers);
-    line::sheet(sheet);
+    line::laid(out, laid)?;
+    line::started(out, begun)?;
+    line::answers(out, read::held(rest), words, numbers)?;
+    line::sheet(out, sheet)
 }
 
 // The answers to the record's calls, and what all columns hold then.
-fn replay_calls(rest: &[u8], calls: &[u32], given: &[f64], words: &mut [u32], numbers: &mut [f64]) {
+fn replay_calls<W: Write>(
+    out: &mut W,
+    rest: &[u8],
+    calls: &[u32],
+    given: &[f64],
+    words: &mut [u32],
+    numbers: &mut [f64],
+) -> io::Result<()> {
     let mut alpha = [UNTOUCHED; 2600];
     let mut beta = [UNTOUCHED; 2600];
     let mut x = [UNTOUCHED; 2600];
@@ -156,49 +171,57 @@ fn replay_calls(rest: &[u8], calls: &[u32], given: &[f64], words: &mut [u32], nu
         words,
         numbers,
     );
-    lines_replayed(rest, done, words, numbers);
-    vectors::lines_lent(&alpha, &beta, &x, &y, &tiles, &offsets, &list);
-    vectors::line_hex(vectors::hash::ids(words));
-    vectors::line_hex(vectors::hash::floats(numbers));
+    lines_replayed(out, rest, done, words, numbers)?;
+    vectors::lines_lent(out, &alpha, &beta, &x, &y, &tiles, &offsets, &list)?;
+    vectors::line_hex(out, vectors::hash::ids(words))?;
+    vectors::line_hex(out, vectors::hash::floats(numbers))
 }
 
 // The record that the list begins with.
-fn replay_one(rest: &[u8]) {
+fn replay_one<W: Write>(out: &mut W, rest: &[u8]) -> io::Result<()> {
     let mut calls = [UNTOUCHED_ID; 3700];
     let mut given = [UNTOUCHED; 18100];
     let mut words = [UNTOUCHED_ID; 3700];
     let mut numbers = [UNTOUCHED; 10900];
     read::give_calls(rest, &mut calls);
     read::give_numbers(rest, &mut given);
-    replay_calls(rest, &calls, &given, &mut words, &mut numbers);
+    replay_calls(out, rest, &calls, &given, &mut words, &mut numbers)
 }
 
 // All records of a block, up to its end or an unknown code.
-fn replay_block(block: &[u8]) {
+fn replay_block<W: Write>(out: &mut W, block: &[u8]) -> io::Result<()> {
     let end = block.len() / 8;
     let mut at: usize = 0;
     while at < end {
         let rest = &block[at * 8..];
         let size = read::size(rest);
         if size == 0 {
-            return;
+            return Ok(());
         }
         at += size;
-        replay_one(rest);
+        replay_one(out, rest)?;
     }
+    Ok(())
 }
 
 // Block after block into the space, and each replayed.
-fn replay_blocks(space: &mut [u8]) {
+fn replay_blocks<R: Read, W: Write>(
+    input: &mut R,
+    out: &mut W,
+    space: &mut [u8],
+) -> io::Result<()> {
     let mut left = BLOCKS;
     while left > 0 {
         left -= 1;
-        let n = vectors::read_list(space);
-        replay_block(&space[..n]);
+        let n = vectors::read_list(input, space)?;
+        replay_block(out, &space[..n])?;
     }
+    Ok(())
 }
 
-fn main() {
-    let mut space = [0u8; 262144];
-    replay_blocks(&mut space);
+fn main(rt: HostRuntime) -> io::Result<()> {
+    let mut space = vec![in rt.alloc(); 0u8; 262144]?;
+    let mut out = BufWriter::new(rt.alloc(), io::writer(&rt))?;
+    replay_blocks(&mut rt.stdin(), &mut out, space.as_mut_slice())?;
+    out.flush()
 }

@@ -6,6 +6,8 @@ use crate::read;
 use course::constants::{LAID_LENGTH, MOST_POINTS};
 use course::points;
 use course::points::Laid;
+use std::io;
+use std::io::Write;
 
 // Number of points, and each point's beta, x and y.
 pub const COURSE: u64 = 1;
@@ -89,30 +91,41 @@ fn put_course(rest: &[u8], tiles: &mut [f64], offsets: &mut [u32], list: &mut [u
 }
 
 // The tile count and the index list's length, or the number of the cause.
-fn line_laid(answer: Laid) {
+fn line_laid<W: Write>(out: &mut W, answer: Laid) -> io::Result<()> {
     match answer {
         Laid::Course(c) => {
-            vectors::line_u64(c.n as u64);
-            vectors::line_u64(c.entries as u64);
+            vectors::line_u64(out, c.n as u64)?;
+            vectors::line_u64(out, c.entries as u64)
         }
         Laid::Short(need) => {
-            vectors::line_refused(3);
-            vectors::line_u64(need as u64);
+            vectors::line_refused(out, 3)?;
+            vectors::line_u64(out, need as u64)
         }
-        Laid::Refused(cause) => vectors::line_refused(cause),
+        Laid::Refused(cause) => vectors::line_refused(out, cause),
     }
 }
 
-fn line_columns(tiles: &[f64], offsets: &[u32], list: &[u32]) {
-    vectors::line_hex(vectors::hash::floats(tiles));
-    vectors::line_hex(vectors::hash::ids(offsets));
-    vectors::line_hex(vectors::hash::ids(list));
+fn line_columns<W: Write>(
+    out: &mut W,
+    tiles: &[f64],
+    offsets: &[u32],
+    list: &[u32],
+) -> io::Result<()> {
+    vectors::line_hex(out, vectors::hash::floats(tiles))?;
+    vectors::line_hex(out, vectors::hash::ids(offsets))?;
+    vectors::line_hex(out, vectors::hash::ids(list))
 }
 
 // A course, and what the columns hold then.
-fn replay_course(rest: &[u8], tiles: &mut [f64], offsets: &mut [u32], list: &mut [u32]) {
-    line_laid(put_course(rest, tiles, offsets, list));
-    line_columns(tiles, offsets, list);
+fn replay_course<W: Write>(
+    out: &mut W,
+    rest: &[u8],
+    tiles: &mut [f64],
+    offsets: &mut [u32],
+    list: &mut [u32],
+) -> io::Result<()> {
+    line_laid(out, put_course(rest, tiles, offsets, list))?;
+    line_columns(out, tiles, offsets, list)
 }
 
 fn put_float(rest: &[u8], col: &mut [f64]) {
@@ -130,12 +143,19 @@ fn put_id(rest: &[u8], col: &mut [u32]) {
 }
 
 // What the record changes that the list begins with: nothing where its code is another.
-pub fn replay(rest: &[u8], tiles: &mut [f64], offsets: &mut [u32], list: &mut [u32]) {
+pub fn replay<W: Write>(
+    out: &mut W,
+    rest: &[u8],
+    tiles: &mut [f64],
+    offsets: &mut [u32],
+    list: &mut [u32],
+) -> io::Result<()> {
     match vectors::word(rest, 0) {
-        COURSE => replay_course(rest, tiles, offsets, list),
+        COURSE => replay_course(out, rest, tiles, offsets, list)?,
         TILE => put_float(rest, tiles),
         OFFSET => put_id(rest, offsets),
         ID => put_id(rest, list),
         _ => {}
     }
+    Ok(())
 }

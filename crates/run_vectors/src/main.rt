@@ -26,6 +26,8 @@ use run::sheet::{RunSheet, SheetAnswer};
 use run::start::StartAnswer;
 use run::state::Run;
 use run::{drive, dynamics, quad, reward, settle, sheet, start};
+use std::io;
+use std::io::{BufWriter, Read, Write};
 
 // The state but for its sets, last poses and seed, in the order that read::setup says.
 const CORE: u64 = 5;
@@ -168,17 +170,23 @@ fn put_core(rest: &[u8], run: Run) -> Run {
     }
 }
 
-fn line_started(answer: StartAnswer) {
+fn line_started<W: Write>(out: &mut W, answer: StartAnswer) -> io::Result<()> {
     match answer {
         StartAnswer::Started(s) => {
-            vectors::line_u64(s.count as u64);
-            vectors::line_bool(s.lap);
+            vectors::line_u64(out, s.count as u64)?;
+            vectors::line_bool(out, s.lap)
         }
-        StartAnswer::Refused(cause) => vectors::line_refused(cause),
+        StartAnswer::Refused(cause) => vectors::line_refused(out, cause),
     }
 }
 
-fn replay_start(rest: &[u8], tiles: &[f64], offsets: &[u32], list: &[u32]) -> Run {
+fn replay_start<W: Write>(
+    out: &mut W,
+    rest: &[u8],
+    tiles: &[f64],
+    offsets: &[u32],
+    list: &[u32],
+) -> io::Result<Run> {
     let s = start::start(
         vectors::front::floats(tiles, vectors::word(rest, 1)),
         vectors::front::ids(offsets, vectors::word(rest, 2)),
@@ -192,58 +200,65 @@ fn replay_start(rest: &[u8], tiles: &[f64], offsets: &[u32], list: &[u32]) -> Ru
     );
     let after = s.run;
     let answer = s.answer;
-    line_started(answer);
-    vectors::line_hex(hash::state(after));
-    after
+    line_started(out, answer)?;
+    vectors::line_hex(out, hash::state(after))?;
+    Ok(after)
 }
 
-fn line_force(f: Force) {
-    vectors::line_float(f.motor);
-    vectors::line_float(f.fx);
-    vectors::line_float(f.fy);
+fn line_force<W: Write>(out: &mut W, f: Force) -> io::Result<()> {
+    vectors::line_float(out, f.motor)?;
+    vectors::line_float(out, f.fx)?;
+    vectors::line_float(out, f.fy)
 }
 
 // The forces; where the call is refused the number, and a hash of the forces beside it.
-fn line_drove(answer: DriveAnswer, forces: [Force; 4]) {
+fn line_drove<W: Write>(out: &mut W, answer: DriveAnswer, forces: [Force; 4]) -> io::Result<()> {
     match answer {
         DriveAnswer::Forces => {
-            line_force(forces[0]);
-            line_force(forces[1]);
-            line_force(forces[2]);
-            line_force(forces[3]);
+            line_force(out, forces[0])?;
+            line_force(out, forces[1])?;
+            line_force(out, forces[2])?;
+            line_force(out, forces[3])
         }
         DriveAnswer::Refused(cause) => {
-            vectors::line_refused(cause);
-            vectors::line_hex(hash::forces(forces));
+            vectors::line_refused(out, cause)?;
+            vectors::line_hex(out, hash::forces(forces))
         }
     }
 }
 
-fn replay_drive(rest: &[u8], run: Run) -> Run {
+fn replay_drive<W: Write>(out: &mut W, rest: &[u8], run: Run) -> io::Result<Run> {
     let action = read::narrow(vectors::word(rest, 1));
     let d = drive::drive(run, action, read::motions(rest));
     let after = d.run;
     let forces = d.forces;
     let answer = d.answer;
-    line_drove(answer, forces);
-    vectors::line_hex(hash::state(after));
-    after
+    line_drove(out, answer, forces)?;
+    vectors::line_hex(out, hash::state(after))?;
+    Ok(after)
 }
 
-fn line_settled(answer: SettleAnswer) {
+fn line_settled<W: Write>(out: &mut W, answer: SettleAnswer) -> io::Result<()> {
     match answer {
         SettleAnswer::Settled(s) => {
-            vectors::line_u64(s.new_tiles as u64);
-            vectors::line_u64(s.n as u64);
-            vectors::line_bool(s.off);
-            vectors::line_bool(s.lap);
-            vectors::line_bool(s.ended);
+            vectors::line_u64(out, s.new_tiles as u64)?;
+            vectors::line_u64(out, s.n as u64)?;
+            vectors::line_bool(out, s.off)?;
+            vectors::line_bool(out, s.lap)?;
+            vectors::line_bool(out, s.ended)
         }
-        SettleAnswer::Refused(cause) => vectors::line_refused(cause),
+        SettleAnswer::Refused(cause) => vectors::line_refused(out, cause),
     }
 }
 
-fn replay_settle(rest: &[u8], tiles: &[f64], offsets: &[u32], list: &[u32], run: Run) -> Run {
+fn replay_settle<W: Write>(
+    out: &mut W,
+    rest: &[u8],
+    tiles: &[f64],
+    offsets: &[u32],
+    list: &[u32],
+    run: Run,
+) -> io::Result<Run> {
     let s = settle::settle(
         run,
         vectors::front::floats(tiles, vectors::word(rest, 1)),
@@ -255,29 +270,29 @@ fn replay_settle(rest: &[u8], tiles: &[f64], offsets: &[u32], list: &[u32], run:
     );
     let after = s.run;
     let answer = s.answer;
-    line_settled(answer);
-    vectors::line_hex(hash::state(after));
-    after
+    line_settled(out, answer)?;
+    vectors::line_hex(out, hash::state(after))?;
+    Ok(after)
 }
 
-fn line_sheet(s: RunSheet) {
-    vectors::line_u64(s.tick as u64);
-    vectors::line_u64(s.credited as u64);
-    vectors::line_u64(s.n as u64);
-    vectors::line_bool(s.lap);
-    vectors::line_bool(s.ended);
-    vectors::line_bool(s.fallback);
-    vectors::line_u64(s.share as u64);
+fn line_sheet<W: Write>(out: &mut W, s: RunSheet) -> io::Result<()> {
+    vectors::line_u64(out, s.tick as u64)?;
+    vectors::line_u64(out, s.credited as u64)?;
+    vectors::line_u64(out, s.n as u64)?;
+    vectors::line_bool(out, s.lap)?;
+    vectors::line_bool(out, s.ended)?;
+    vectors::line_bool(out, s.fallback)?;
+    vectors::line_u64(out, s.share as u64)
 }
 
-fn replay_sheet(run: Run) {
+fn replay_sheet<W: Write>(out: &mut W, run: Run) -> io::Result<()> {
     match sheet::sheet(run.setup, run.progress) {
-        SheetAnswer::Sheet(s) => line_sheet(s),
-        SheetAnswer::Refused(cause) => vectors::line_refused(cause),
+        SheetAnswer::Sheet(s) => line_sheet(out, s),
+        SheetAnswer::Refused(cause) => vectors::line_refused(out, cause),
     }
 }
 
-fn replay_reward(rest: &[u8]) {
+fn replay_reward<W: Write>(out: &mut W, rest: &[u8]) -> io::Result<()> {
     let tile = vectors::float(rest, 1);
     let step = vectors::float(rest, 2);
     let off_playfield = vectors::float(rest, 3);
@@ -289,97 +304,106 @@ fn replay_reward(rest: &[u8]) {
     let fresh = read::narrow(vectors::word(rest, 4));
     let n = read::narrow(vectors::word(rest, 5));
     let off = read::flag(vectors::word(rest, 6));
-    vectors::line_float(reward::reward(w, fresh, n, off));
+    vectors::line_float(out, reward::reward(w, fresh, n, off))
 }
 
-fn replay_weights() {
+fn replay_weights<W: Write>(out: &mut W) -> io::Result<()> {
     let w = reward::default_weights();
-    vectors::line_float(w.tile);
-    vectors::line_float(w.step);
-    vectors::line_float(w.off_playfield);
+    vectors::line_float(out, w.tile)?;
+    vectors::line_float(out, w.step)?;
+    vectors::line_float(out, w.off_playfield)
 }
 
-fn replay_overlap(rest: &[u8]) {
+fn replay_overlap<W: Write>(out: &mut W, rest: &[u8]) -> io::Result<()> {
     let a = read::quad(rest, 1);
     let b = read::quad(rest, 9);
-    vectors::line_bool(quad::quad_overlap(a, b));
+    vectors::line_bool(out, quad::quad_overlap(a, b))
 }
 
-fn replay_quad(rest: &[u8]) {
+fn replay_quad<W: Write>(out: &mut W, rest: &[u8]) -> io::Result<()> {
     let q = quad::wheel_quad(read::pose(rest, 1));
-    vectors::line_float(q[0][0]);
-    vectors::line_float(q[0][1]);
-    vectors::line_float(q[1][0]);
-    vectors::line_float(q[1][1]);
-    vectors::line_float(q[2][0]);
-    vectors::line_float(q[2][1]);
-    vectors::line_float(q[3][0]);
-    vectors::line_float(q[3][1]);
+    vectors::line_float(out, q[0][0])?;
+    vectors::line_float(out, q[0][1])?;
+    vectors::line_float(out, q[1][0])?;
+    vectors::line_float(out, q[1][1])?;
+    vectors::line_float(out, q[2][0])?;
+    vectors::line_float(out, q[2][1])?;
+    vectors::line_float(out, q[3][0])?;
+    vectors::line_float(out, q[3][1])
 }
 
-fn replay_cells(rest: &[u8]) {
+fn replay_cells<W: Write>(out: &mut W, rest: &[u8]) -> io::Result<()> {
     let k = quad::box_cells(read::quad(rest, 1));
-    vectors::line_u64(k[0] as u64);
-    vectors::line_u64(k[1] as u64);
-    vectors::line_u64(k[2] as u64);
-    vectors::line_u64(k[3] as u64);
+    vectors::line_u64(out, k[0] as u64)?;
+    vectors::line_u64(out, k[1] as u64)?;
+    vectors::line_u64(out, k[2] as u64)?;
+    vectors::line_u64(out, k[3] as u64)
 }
 
 // What the record does that answers without a state.
-fn replay_rule(rest: &[u8], run: Run) {
+fn replay_rule<W: Write>(out: &mut W, rest: &[u8], run: Run) -> io::Result<()> {
     match vectors::word(rest, 0) {
-        SHEET => replay_sheet(run),
-        REWARD => replay_reward(rest),
-        OVERLAP => replay_overlap(rest),
-        QUAD => replay_quad(rest),
-        CELLS => replay_cells(rest),
-        WEIGHTS => replay_weights(),
-        BRAKED => vectors::line_float(dynamics::braked(
-            vectors::float(rest, 1),
-            vectors::float(rest, 2),
-        )),
-        saves::LAST => saves::line_last(run),
-        saves::SAVE => saves::replay_save(rest, run),
-        _ => {}
+        SHEET => replay_sheet(out, run),
+        REWARD => replay_reward(out, rest),
+        OVERLAP => replay_overlap(out, rest),
+        QUAD => replay_quad(out, rest),
+        CELLS => replay_cells(out, rest),
+        WEIGHTS => replay_weights(out),
+        BRAKED => vectors::line_float(
+            out,
+            dynamics::braked(vectors::float(rest, 1), vectors::float(rest, 2)),
+        ),
+        saves::LAST => saves::line_last(out, run),
+        saves::SAVE => saves::replay_save(out, rest, run),
+        _ => Ok(()),
     }
 }
 
 // The state after the record, which is another one only after some.
-fn replay_call(rest: &[u8], tiles: &[f64], offsets: &[u32], list: &[u32], run: Run) -> Run {
+fn replay_call<W: Write>(
+    out: &mut W,
+    rest: &[u8],
+    tiles: &[f64],
+    offsets: &[u32],
+    list: &[u32],
+    run: Run,
+) -> io::Result<Run> {
     match vectors::word(rest, 0) {
-        CORE => put_core(rest, run),
-        CREDITED => put_credited(rest, run),
-        WHEELS => put_wheels(rest, run),
-        START => replay_start(rest, tiles, offsets, list),
-        DRIVE => replay_drive(rest, run),
-        SETTLE => replay_settle(rest, tiles, offsets, list, run),
-        saves::PUT_LAST => saves::put_last(rest, run),
-        saves::RESTORE => saves::replay_restore(rest, tiles, offsets, list, run),
-        _ => run,
+        CORE => Ok(put_core(rest, run)),
+        CREDITED => Ok(put_credited(rest, run)),
+        WHEELS => Ok(put_wheels(rest, run)),
+        START => replay_start(out, rest, tiles, offsets, list),
+        DRIVE => replay_drive(out, rest, run),
+        SETTLE => replay_settle(out, rest, tiles, offsets, list, run),
+        saves::PUT_LAST => Ok(saves::put_last(rest, run)),
+        saves::RESTORE => saves::replay_restore(out, rest, tiles, offsets, list, run),
+        _ => Ok(run),
     }
 }
 
 // What the record does that the list begins with, and the state after it.
-fn replay_one(
+fn replay_one<W: Write>(
+    out: &mut W,
     rest: &[u8],
     tiles: &mut [f64],
     offsets: &mut [u32],
     list: &mut [u32],
     run: Run,
-) -> Run {
-    change::replay(rest, tiles, offsets, list);
-    replay_rule(rest, run);
-    replay_call(rest, tiles, offsets, list, run)
+) -> io::Result<Run> {
+    change::replay(out, rest, tiles, offsets, list)?;
+    replay_rule(out, rest, run)?;
+    replay_call(out, rest, tiles, offsets, list, run)
 }
 
 // All records of a block, up to its end or an unknown code; the state after them.
-fn replay(
+fn replay<W: Write>(
+    out: &mut W,
     block: &[u8],
     first: Run,
     tiles: &mut [f64],
     offsets: &mut [u32],
     ids: &mut [u32],
-) -> Run {
+) -> io::Result<Run> {
     let end = block.len() / 8;
     let mut run = first;
     let mut at: usize = 0;
@@ -387,13 +411,13 @@ fn replay(
         let rest = &block[at * 8..];
         let size = words(rest);
         if size == 0 {
-            return run;
+            return Ok(run);
         }
         at += size;
-        let next = replay_one(rest, tiles, offsets, ids, run);
+        let next = replay_one(out, rest, tiles, offsets, ids, run)?;
         run = next;
     }
-    run
+    Ok(run)
 }
 
 // The state of zeros: a list has only those past its end.
@@ -416,21 +440,38 @@ fn zero_run() -> Run {
 }
 
 // Block after block into the space, and each replayed.
-fn replay_blocks(space: &mut [u8], tiles: &mut [f64], offsets: &mut [u32], ids: &mut [u32]) {
+fn replay_blocks<R: Read, W: Write>(
+    input: &mut R,
+    out: &mut W,
+    space: &mut [u8],
+    tiles: &mut [f64],
+    offsets: &mut [u32],
+    ids: &mut [u32],
+) -> io::Result<()> {
     let mut run = zero_run();
     let mut left = BLOCKS;
     while left > 0 {
         left -= 1;
-        let n = vectors::read_list(space);
-        let next = replay(&space[..n], run, tiles, offsets, ids);
+        let n = vectors::read_list(input, space)?;
+        let next = replay(out, &space[..n], run, tiles, offsets, ids)?;
         run = next;
     }
+    Ok(())
 }
 
-fn main() {
-    let mut space = [0u8; 262144];
-    let mut tiles = [0.0f64; 20100];
+fn main(rt: HostRuntime) -> io::Result<()> {
+    let mut space = vec![in rt.alloc(); 0u8; 262144]?;
+    let mut tiles = vec![in rt.alloc(); 0.0f64; 20100]?;
     let mut offsets = [0u32; 4600];
-    let mut ids = [0u32; 60000];
-    replay_blocks(&mut space, &mut tiles, &mut offsets, &mut ids);
+    let mut ids = vec![in rt.alloc(); 0u32; 60000]?;
+    let mut out = BufWriter::new(rt.alloc(), io::writer(&rt))?;
+    replay_blocks(
+        &mut rt.stdin(),
+        &mut out,
+        space.as_mut_slice(),
+        tiles.as_mut_slice(),
+        &mut offsets,
+        ids.as_mut_slice(),
+    )?;
+    out.flush()
 }

@@ -6,6 +6,8 @@ use run::restore::{RestoreAnswer, SavedCourse};
 use run::save::SaveAnswer;
 use run::state::Run;
 use run::{restore, save};
+use std::io;
+use std::io::Write;
 
 // The last poses' sixteen numbers, the seed.
 pub const PUT_LAST: u64 = 18;
@@ -67,9 +69,9 @@ pub fn put_last(rest: &[u8], run: Run) -> Run {
 }
 
 // A hash of the last poses, and the seed.
-pub fn line_last(run: Run) {
-    vectors::line_hex(hash::last(run));
-    vectors::line_u64(run.seed);
+pub fn line_last<W: Write>(to: &mut W, run: Run) -> io::Result<()> {
+    vectors::line_hex(to, hash::last(run))?;
+    vectors::line_u64(to, run.seed)
 }
 
 fn wide(b: u8) -> u64 {
@@ -77,13 +79,14 @@ fn wide(b: u8) -> u64 {
 }
 
 // A line with two digits for each byte.
-fn line_bytes(bytes: &[u8]) {
+fn line_bytes<W: Write>(to: &mut W, bytes: &[u8]) -> io::Result<()> {
     let mut i: usize = 0;
     while i < bytes.len() {
-        io::print_hex(1, wide(bytes[i]), 2);
+        let byte = wide(bytes[i]);
+        write!(to, "{byte:02x}")?;
         i += 1;
     }
-    io::write_all(1, b"\n");
+    to.write_all(b"\n")
 }
 
 // The first bytes, so many.
@@ -96,56 +99,63 @@ fn front(out: &[u8], length: u64) -> &[u8] {
 }
 
 // The length, and as many of the first bytes as are asked for.
-fn line_form(length: u32, shown: u64, out: &[u8]) {
-    vectors::line_u64(length as u64);
-    line_bytes(front(out, shown));
+fn line_form<W: Write>(to: &mut W, length: u32, shown: u64, out: &[u8]) -> io::Result<()> {
+    vectors::line_u64(to, length as u64)?;
+    line_bytes(to, front(out, shown))
 }
 
-fn line_saved(answer: SaveAnswer, shown: u64, out: &[u8]) {
+fn line_saved<W: Write>(to: &mut W, answer: SaveAnswer, shown: u64, out: &[u8]) -> io::Result<()> {
     match answer {
-        SaveAnswer::Saved(length) => line_form(length, shown, out),
-        SaveAnswer::Refused(cause) => vectors::line_refused(cause),
+        SaveAnswer::Saved(length) => line_form(to, length, shown, out),
+        SaveAnswer::Refused(cause) => vectors::line_refused(to, cause),
     }
 }
 
 // A save into a part of the output, and a hash of the whole.
-pub fn replay_save(rest: &[u8], run: Run) {
+pub fn replay_save<W: Write>(to: &mut W, rest: &[u8], run: Run) -> io::Result<()> {
     let mut out = [165u8; 700];
     let answer = save::save(
         run,
         vectors::front::marks_mut(&mut out, vectors::word(rest, 1)),
     );
-    line_saved(answer, vectors::word(rest, 2), &out);
-    vectors::line_hex(vectors::hash::marks(&out));
+    line_saved(to, answer, vectors::word(rest, 2), &out)?;
+    vectors::line_hex(to, vectors::hash::marks(&out))
 }
 
-fn line_course(of: SavedCourse) {
+fn line_course<W: Write>(to: &mut W, of: SavedCourse) -> io::Result<()> {
     match of {
         SavedCourse::Course(c) => {
-            vectors::line_u64(c.seed);
-            vectors::line_u64(c.n as u64);
+            vectors::line_u64(to, c.seed)?;
+            vectors::line_u64(to, c.n as u64)
         }
-        SavedCourse::Refused(cause) => vectors::line_refused(cause),
+        SavedCourse::Refused(cause) => vectors::line_refused(to, cause),
     }
 }
 
 // The restored run; where the restore is refused, the one before it.
-fn taken(answer: RestoreAnswer, before: Run, after: Run) -> Run {
+fn taken<W: Write>(to: &mut W, answer: RestoreAnswer, before: Run, after: Run) -> io::Result<Run> {
     match answer {
         RestoreAnswer::Restored => {
-            io::write_all(1, b"restored\n");
-            after
+            to.write_all(b"restored\n")?;
+            Ok(after)
         }
         RestoreAnswer::Refused(cause) => {
-            vectors::line_refused(cause);
-            before
+            vectors::line_refused(to, cause)?;
+            Ok(before)
         }
     }
 }
 
 // Which course the bytes are of, and a restore of them.
-pub fn replay_restore(rest: &[u8], tiles: &[f64], offsets: &[u32], list: &[u32], run: Run) -> Run {
-    line_course(restore::saved_course(bytes(rest)));
+pub fn replay_restore<W: Write>(
+    to: &mut W,
+    rest: &[u8],
+    tiles: &[f64],
+    offsets: &[u32],
+    list: &[u32],
+    run: Run,
+) -> io::Result<Run> {
+    line_course(to, restore::saved_course(bytes(rest)))?;
     let s = restore::restore(
         bytes(rest),
         vectors::front::floats(tiles, vectors::word(rest, 1)),
@@ -155,7 +165,7 @@ pub fn replay_restore(rest: &[u8], tiles: &[f64], offsets: &[u32], list: &[u32],
     );
     let after = s.run;
     let answer = s.answer;
-    let next = taken(answer, run, after);
-    vectors::line_hex(hash::whole(after));
-    next
+    let next = taken(to, answer, run, after)?;
+    vectors::line_hex(to, hash::whole(after))?;
+    Ok(next)
 }

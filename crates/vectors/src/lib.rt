@@ -10,10 +10,13 @@
 // Every function here is proved safe and ending. No public function has a `requires`.
 #![tactic(auto)]
 
-ghost use Rattle.io.specs.Counts.{IsPrefixLen};
+ghost use Rattle.std.specs.Io.{ReadsAtMost};
 
 pub mod front;
 pub mod hash;
+
+use std::io;
+use std::io::{Read, Write};
 
 // The bits that stand for every NaN: IEEE 754 has many, and Rattle one.
 const NAN: u64 = 0x7ff8_0000_0000_0000;
@@ -24,10 +27,18 @@ const INFINITY: u64 = 0x7ff0_0000_0000_0000;
 const SIGN: u64 = 0x8000_0000_0000_0000;
 
 // Reads the list into buf until it ends or buf is full, and answers how many bytes came.
-pub fn read_list(buf: &mut [u8]) -> usize
-    ensures { IsPrefixLen result buf.new }
+pub fn read_list<R: Read>(input: &mut R, buf: &mut [u8]) -> io::Result<usize>
+    ensures { ReadsAtMost result buf.new }
 {
-    io::read_full(0, buf)
+    let mut done = 0;
+    while done < buf.len() {
+        let n = input.read(&mut buf[done..])?;
+        if n == 0 {
+            break;
+        }
+        done += n;
+    }
+    Ok(done)
 }
 
 fn wide(b: u8) -> u64 {
@@ -69,40 +80,40 @@ pub fn float(list: &[u8], at: usize) -> f64 {
     number(word(list, at))
 }
 
-fn end_line() {
-    io::write_all(1, b"\n");
+fn end_line<W: Write>(out: &mut W) -> io::Result<()> {
+    out.write_all(b"\n")
 }
 
 // A line with n in decimal.
-pub fn line_u64(n: u64) {
-    io::print_decimal(1, n);
-    end_line();
+pub fn line_u64<W: Write>(out: &mut W, n: u64) -> io::Result<()> {
+    write!(out, "{n}")?;
+    end_line(out)
 }
 
 // A line with n in 16 hexadecimal digits.
-pub fn line_hex(n: u64) {
-    io::print_hex(1, n, 16);
-    end_line();
+pub fn line_hex<W: Write>(out: &mut W, n: u64) -> io::Result<()> {
+    write!(out, "{n:016x}")?;
+    end_line(out)
 }
 
 // A line with the bits of x.
-pub fn line_float(x: f64) {
-    line_hex(bits(x));
+pub fn line_float<W: Write>(out: &mut W, x: f64) -> io::Result<()> {
+    line_hex(out, bits(x))
 }
 
 // A line with 1 for true and 0 for false.
-pub fn line_bool(b: bool) {
+pub fn line_bool<W: Write>(out: &mut W, b: bool) -> io::Result<()> {
     if b {
-        line_u64(1);
+        line_u64(out, 1)
     } else {
-        line_u64(0);
+        line_u64(out, 0)
     }
 }
 
 // A line that says by which cause a call was refused.
-pub fn line_refused(cause: u32) {
-    io::write_all(1, b"refused ");
-    line_u64(cause as u64);
+pub fn line_refused<W: Write>(out: &mut W, cause: u32) -> io::Result<()> {
+    out.write_all(b"refused ")?;
+    line_u64(out, cause as u64)
 }
 
 // The id in every place of the column.
@@ -115,23 +126,32 @@ pub fn fill(col: &mut [u32], id: u32) {
 }
 
 // The lines of a course's answer: n, fallback, list length and the first point.
-pub fn lines_course(n: u32, fallback: bool, length: u32, beta: f64, x: f64, y: f64) {
-    line_u64(n as u64);
-    line_bool(fallback);
-    line_u64(length as u64);
-    line_float(beta);
-    line_float(x);
-    line_float(y);
+pub fn lines_course<W: Write>(
+    out: &mut W,
+    n: u32,
+    fallback: bool,
+    length: u32,
+    beta: f64,
+    x: f64,
+    y: f64,
+) -> io::Result<()> {
+    line_u64(out, n as u64)?;
+    line_bool(out, fallback)?;
+    line_u64(out, length as u64)?;
+    line_float(out, beta)?;
+    line_float(out, x)?;
+    line_float(out, y)
 }
 
 // The lines of a refusal by cause 3: the number, and the length needed.
-pub fn lines_short(need: u32) {
-    line_refused(3);
-    line_u64(need as u64);
+pub fn lines_short<W: Write>(out: &mut W, need: u32) -> io::Result<()> {
+    line_refused(out, 3)?;
+    line_u64(out, need as u64)
 }
 
 // The hashes of a course's lent columns, a line each.
-pub fn lines_lent(
+pub fn lines_lent<W: Write>(
+    out: &mut W,
     alpha: &[f64],
     beta: &[f64],
     x: &[f64],
@@ -139,12 +159,12 @@ pub fn lines_lent(
     tiles: &[f64],
     offsets: &[u32],
     list: &[u32],
-) {
-    line_hex(hash::floats(alpha));
-    line_hex(hash::floats(beta));
-    line_hex(hash::floats(x));
-    line_hex(hash::floats(y));
-    line_hex(hash::floats(tiles));
-    line_hex(hash::ids(offsets));
-    line_hex(hash::ids(list));
+) -> io::Result<()> {
+    line_hex(out, hash::floats(alpha))?;
+    line_hex(out, hash::floats(beta))?;
+    line_hex(out, hash::floats(x))?;
+    line_hex(out, hash::floats(y))?;
+    line_hex(out, hash::floats(tiles))?;
+    line_hex(out, hash::ids(offsets))?;
+    line_hex(out, hash::ids(list))
 }
