@@ -18,7 +18,7 @@ use Rattle.run.specs.Grader.Save.{save_answer, save_cause_of, save_length_of, sa
 use Rattle.run.specs.Grader.Restore.{restore_answer, restore_cause_of, restore_cause, restored_state, restore_at, restore_of}
 use Rattle.certificate.specs.Rules.Answers.{Answer, Reply}
 use Rattle.certificate.specs.Rules.Answers.Reply.{answered, decided}
-use Rattle.certificate.specs.Grader.Calls.{Call, Replied, reply_of, replies_of, state_after, Going, going, Went, went, saves_after, state_next, request_of, requests_said, going_after}
+use Rattle.certificate.specs.Grader.Calls.{Call, Replied, reply_of, replies_of, state_after, going, Went, went, saves_after, state_next, request_of, requests_said, going_after}
 use Rattle.run.specs.Grader.Numbers.{motions_from, force_from, forces_from, force_numbers, wheel_from, car_from, car_numbers}
 use Rattle.run.specs.declared.state.Setup.{Setup}
 use Rattle.run.specs.declared.state.Progress.{Progress}

@@ -2,7 +2,7 @@
 use mathlib.Core.Bool.{Bool, true, false, cond, not, ◌&&◌, ◌||◌, true≢false}
 use mathlib.Core.List.{List, [], ◌∷◌, ◌++◌, map}
 use mathlib.Core.Path.{◌≡◌, refl, sym, ap, ◌∙◌, subst}
-use Prim.Native.Nat.{ℕ, zero, suc, ◌+◌, ◌*◌, ◌^◌, ◌≤◌, ◌<◌}
+use Prim.Native.Nat.{ℕ, zero, suc, ◌*◌, ◌^◌, ◌≤◌, ◌<◌}
 use native.Mathlib.Nat.{le_trans}
 use native.Mathlib.Omega.{arith}
 use lib.Dec.{ltb}
@@ -37,9 +37,9 @@ use Rattle.certificate.specs.Rules.Answers.Reply.{answered, decided}
 use Rattle.certificate.specs.Grader.Calls.{Call, Replied, reply_of, replies_of, state_after, Going, going, Went, went, state_next, request_of, requests_said}
 use Rattle.certificate.specs.Claim.Scorer.{LentLengths, Opening, Told, History, kept_calls, opening, drives, settles, last_poses, touch, touched, touched_count, lap_done, ended, start_number, drive_number, settle_number, drive_score, settle_score, score, scores, kept_of, save_number}
 use Rattle.certificate.specs.Claim.Scorer.History.{begun}
-use Rattle.certificate.specs.Claim.Items.{Lending, lent_by, lengths_of, CourseCall, call_of, told_of, calls_of, tolds_of, CourseItem, request_by, requests_of, items_of, Sums, sums, KeptSums, kept_sums, sums_over, all_occur, turned_down, all_fit, is_restore, some_restore, typed_item, typed_items, typed}
+use Rattle.certificate.specs.Claim.Items.{Lending, lent_by, lengths_of, CourseCall, call_of, told_of, calls_of, tolds_of, CourseItem, request_by, requests_of, sums, KeptSums, kept_sums, sums_over, all_occur, turned_down, all_fit, is_restore, some_restore, typed_item, typed_items, typed}
 use Rattle.certificate.specs.Claim.Items.Lending.{laid, short}
-use Rattle.certificate.specs.Claim.Certificate.{CourseLabel, settings_for, settings_on, kept_by, replied_by, Graded, start_on, Demand3, lay_number, seed_tiles, Certificate}
+use Rattle.certificate.specs.Claim.Certificate.{CourseLabel, settings_for, settings_on, kept_by, Graded, start_on, Demand3, lay_number, seed_tiles, Certificate}
 use Rattle.course.proofs.BoolLaws.{and_left, and_right, or_no, cond-else, cond-skip, cleared}
 use Rattle.certificate.proofs.ScoreLaws.{InTurn, kept-turn, one-opening, ended-over, all-occur}
 use Rattle.certificate.proofs.ItemLaws.{none-restored, OkAll, replies-same, going-same, kept_fine, sums_same}

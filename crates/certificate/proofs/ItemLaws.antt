@@ -1,7 +1,7 @@
 -- A list with saves and restores, from the laws of one call: what one drive or settle replies, which number a save has, and that a restore gives back the
 -- state at its save. Stated for any state by the calls kept, and any facts `Fine` of these that accepted calls keep. Assumes nothing.
 use mathlib.Core.Bool.{Bool, true, false, cond}
-use mathlib.Core.List.{List, [], ◌∷◌, ◌++◌, map}
+use mathlib.Core.List.{List, [], ◌∷◌, map}
 use mathlib.Core.Path.{◌≡◌, refl, sym, ap, ◌∙◌}
 use Prim.Native.Nat.{ℕ, zero, suc}
 use lib.Dec.{ltb, leb, leb-zero, leb-suc-zero, leb-suc-suc}
@@ -19,10 +19,9 @@ use Rattle.run.proofs.SavedLaws.{none-loaded}
 use Rattle.certificate.specs.Rules.Answers.{Reply}
 use Rattle.certificate.specs.Rules.Answers.Reply.{answered, decided}
 use Rattle.certificate.specs.Grader.Calls.{Call, Replied, reply_of, replies_of, state_after, Request, Going, going, Went, went, saves_after, state_next, request_of, requests_said, going_after}
-use Rattle.certificate.specs.Claim.Scorer.{History, KeptCalls, kept_calls, drives, settles, score, save_number, restore_number, noted, taken_up, after_item, after_items}
+use Rattle.certificate.specs.Claim.Scorer.{History, KeptCalls, drives, settles, score, save_number, restore_number, noted, taken_up, after_item, after_items}
 use Rattle.certificate.specs.Claim.Items.{Lending, lent_by, lengths_of, CourseCall, call_of, told_of, CourseItem, request_by, item_by, requests_of, items_of, reply_to, replies_to, Sums, KeptSums, kept_sums, was_accepted, sums_after, sums_over}
 use Rattle.certificate.proofs.ScoreLaws.{sums_of, one-sums}
-use Rattle.run.specs.declared.restore.RestoreAnswer.TheVariants.{Restored, Refused}
 
 -- no bytes are no saved form
 pub none-restored : (m most : ℕ) (l : Columns) (n : ℕ) → restore_of m most [] l n ≡ after_restore (restore_answer 11) (zero_state m)

@@ -1,11 +1,11 @@
 -- A restore of what a save of a run wrote, on the same course, gives that run's state back; and a save of a run is refused while a settle is due or for
 -- room alone. For any number of words that hold the course's tiles. Assumes nothing.
 use mathlib.Core.Bool.{Bool, true, false, cond, not, ◌&&◌}
-use mathlib.Core.List.{List, [], ◌∷◌, ◌++◌}
-use mathlib.Core.Path.{◌≡◌, refl, sym, ap, ap₂, ◌∙◌, subst}
-use Prim.Native.Nat.{ℕ, ◌+◌, ◌*◌, ◌^◌, ◌≤◌, ◌<◌}
+use mathlib.Core.List.{List, [], ◌∷◌}
+use mathlib.Core.Path.{◌≡◌, refl, sym, ap, ◌∙◌, subst}
+use Prim.Native.Nat.{ℕ, ◌*◌, ◌^◌, ◌≤◌, ◌<◌}
 use native.Mathlib.Omega.{arith}
-use lib.Dec.{T, ltb, leb, eqb}
+use lib.Dec.{T, ltb, leb}
 use lib.ListN.{length}
 use lib.Ieee.{Float, binary64, fits, le}
 use borrow.Author.Tests.{leb-true, le-leb, eq-eqb}
@@ -21,7 +21,7 @@ use Rattle.run.specs.Grader.Touch.{sound_poses}
 use Rattle.run.specs.Grader.Contact.{wheel_sets, Contacted}
 use Rattle.run.specs.Grader.Numbers.{pose_from, poses_at, pose_numbers}
 use Rattle.run.specs.Grader.Start.{setup_of, zero_state, first_contact}
-use Rattle.run.specs.Grader.Saved.{Fields, fields_of, saved_form, all_below, sound_fields, Loaded}
+use Rattle.run.specs.Grader.Saved.{fields_of, saved_form, sound_fields, Loaded}
 use Rattle.run.specs.Grader.Saved.Loaded.{kept}
 use Rattle.run.specs.Grader.Save.{save_cause}
 use Rattle.run.specs.Grader.Restore.{restore_answer, bit_count, restore_cause, restored_state, AfterRestore, after_restore, restore_at, restore_of}
@@ -33,10 +33,8 @@ use Rattle.run.proofs.WordLaws.{length-set_of}
 use Rattle.certificate.specs.Claim.Scorer.{Opening, History, opening, drives, settles, last_poses, touch, touched, touched_count, lap_done, ended, passed, save_number}
 use Rattle.certificate.specs.Claim.Scorer.History.{begun, then_drive, then_settle}
 use Rattle.certificate.specs.Claim.Items.{all_fit}
-use Rattle.certificate.specs.Claim.Certificate.{CourseLabel, settings_for}
-use Rattle.certificate.proofs.ScoreLaws.{InTurn}
+use Rattle.certificate.specs.Claim.Certificate.{CourseLabel}
 use Rattle.certificate.proofs.Simulation.{held, HoldsCourse, history_state, first-contact, fits-state}
-use Rattle.run.specs.declared.state.Car.{Car}
 use Rattle.run.specs.declared.state.Pose.{Pose}
 
 -- ---- tests as facts

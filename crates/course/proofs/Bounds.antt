@@ -1,9 +1,9 @@
 -- Bounds on the size of a result: `Bounded x n` is |x| ≤ n, n a whole number. Rounding, a quotient and a sum keep such bounds. Assumes nothing.
-use Rattle.std.proofs.Common.{◌≡◌, ℕ, zero, suc, ◌+◌, ◌-◌, ◌*◌, ◌/◌, ◌^◌, ◌<◌, ◌≤◌, Bool, true, false, cond, not, ◌&&◌, ◌||◌, T, eqb, ltb, ◌⊎◌, ℤ, sym, refl, ap, ◌∙◌, subst, inl, inr, true≢false, le_trans, le_of_eq, le_of_lt, mul-le-mul_right, mul_assoc, mul_comm, add-mul, mul-le-mul, mul-le-mul_left, mul-pos, one-mul, mul-one, mul_right_comm, le_of_mul-le-mul_right, mul_left_comm, arith, lit≤, eqb→eq, ltb→lt, nltb→le}
+use Rattle.std.proofs.Common.{◌≡◌, ℕ, zero, suc, ◌+◌, ◌-◌, ◌*◌, ◌^◌, ◌<◌, ◌≤◌, Bool, true, false, cond, not, ◌&&◌, ◌||◌, T, eqb, ltb, ℤ, sym, refl, ap, ◌∙◌, subst, true≢false, le_trans, le_of_eq, le_of_lt, mul-le-mul_right, mul_assoc, mul_comm, add-mul, mul-le-mul, mul-pos, mul-one, mul_right_comm, le_of_mul-le-mul_right, arith, lit≤, eqb→eq, ltb→lt}
 use native.Mathlib.Nat.{mul-mul-mul_comm}
 use mathlib.Core.Bool.{beq}
-use lib.Ieee.{Float, nan, inf, fin, Format, binary64, prec, low, emax, up, down, round, units, odd, nearest, size, neg, le, add, sum, mul, div, unlike}
-use lib.Ieee.Fits.{up_pos, down_pos, and_l, and_r, round_is, core}
+use lib.Ieee.{Float, nan, inf, fin, Format, binary64, prec, low, emax, up, down, round, units, odd, neg, le, add, sum, mul, div, unlike}
+use lib.Ieee.Fits.{up_pos, down_pos, and_l, and_r, round_is}
 use lib.Ieee.Exact.{HasValue}
 use lib.Ieee.Back.{round_whole}
 use lib.Ieee.Order.{round_mono}

@@ -1,9 +1,8 @@
 -- `cell_of` keeps the order: v ≤ w gives cell_of v ≤ cell_of w. Assumes nothing.
-use Rattle.std.proofs.Common.{◌≡◌, ℕ, zero, suc, ◌+◌, ◌-◌, ◌*◌, ◌/◌, ◌^◌, ◌<◌, ◌≤◌, min, Bool, true, false, cond, not, ◌&&◌, ◌||◌, T, eqb, ltb, ◌⊎◌, ℤ, pos, negsuc, sym, refl, ap, ◌∙◌, subst, inl, inr, zero-le, le_trans, le_of_eq, le_refl, le_of_lt, mul-le-mul_right, mul_assoc, mul_comm, add-mul, eq-zero-or-pos, mul-pos, zero-mul, mul-one, mul_right_comm, le_of_mul-le-mul_right, mul_left_comm, arith, lit≤, eqb→eq, ltb→lt, nltb→le, le-ltb, lt-ltb}
+use Rattle.std.proofs.Common.{◌≡◌, ℕ, ◌+◌, ◌-◌, ◌*◌, ◌/◌, ◌^◌, ◌<◌, ◌≤◌, min, Bool, true, false, cond, not, T, eqb, ltb, ℤ, pos, negsuc, sym, refl, ap, ◌∙◌, inl, inr, zero-le, le_trans, le_of_eq, le_refl, le_of_lt, mul-le-mul_right, mul_assoc, mul_comm, add-mul, eq-zero-or-pos, mul-pos, zero-mul, mul-one, mul_right_comm, le_of_mul-le-mul_right, mul_left_comm, arith, lit≤, eqb→eq, ltb→lt, nltb→le, le-ltb, lt-ltb}
 use native.Mathlib.Nat.{mul-sub}
-use mathlib.Core.Bool.{beq}
 use lib.Ieee.{neg, Float, nan, inf, fin, binary64, up, down, round, sum, add, div, le, to_unsigned, of_int}
-use lib.Ieee.Fits.{up_pos, down_pos, and_l, and_r}
+use lib.Ieee.Fits.{down_pos, and_l, and_r}
 use lib.Ieee.Nearest.{div_mono}
 use lib.Ieee.Order.{round_mono}
 use lib.Ieee.Casts.{to_unsigned-lt}

@@ -1,13 +1,7 @@
 -- `cell_of` is (v + P) / 10 cut to an integer, 66 at most. Assumes nothing.
-use Rattle.std.proofs.Common.{◌≡◌, ℕ, zero, suc, ◌+◌, ◌-◌, ◌*◌, ◌/◌, ◌^◌, ◌<◌, ◌≤◌, min, Bool, true, false, not, T, ltb, leb, ℤ, pos, sym, refl, ap, ◌∙◌, subst, le_trans, le_of_eq, lt_of_lt_of_le, mul-le-mul_right, div-lt_iff_lt-mul, le-div_iff_mul-le, mul-one, arith, lit≤, le→leb, ltb→lt, lt→ltb, leb→le, le-leb, leb-false, leb-true}
-use native.Mathlib.Nat.{min-zero}
-use lib.Ieee.{Float, nan, inf, fin, binary64, up, down, le, lt, of_int, to_unsigned}
+use Rattle.std.proofs.Common.{◌≡◌, ℕ, zero, suc, ◌+◌, ◌-◌, ◌*◌, ◌/◌, ◌^◌, ◌<◌, ◌≤◌, min, Bool, true, false, T, leb, pos, sym, refl, ap, ◌∙◌, subst, le_trans, div-lt_iff_lt-mul, mul-one, arith, lit≤, lt→ltb, leb-false, leb-true}
+use lib.Ieee.{Float, nan, inf, fin, up, down, le, lt, to_unsigned}
 use lib.Ieee.Fits.{down_pos}
-use lib.Ieee.Exact.{HasValue}
-use lib.Ieee.Back.{round_whole}
-use lib.Ieee.Order.{le_of_values}
-use lib.Ieee.Positive.{positive, positive_of_value, above_of_le, values_of_le}
-use borrow.Author.Tests.{lt-leb}
 use Rattle.course.specs.Rules.Arithmetic.{natural}
 use Rattle.course.proofs.Naturals.{natural-le}
 use Rattle.course.specs.Rules.Counting.{digit, how_many}

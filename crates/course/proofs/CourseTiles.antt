@@ -1,11 +1,10 @@
 -- The points and tiles of columns. Assumes nothing.
-use Rattle.std.proofs.Common.{◌≡◌, ℕ, zero, suc, ◌+◌, ◌-◌, ◌*◌, ◌<◌, ◌≤◌, Bool, true, cond, ◌&&◌, List, [], ◌∷◌, ◌++◌, map, length, get_or, take, drop, set, replicate, sym, refl, ap, ◌∙◌, subst, ap₂, append_assoc, append-nil, add-one, sub-one, arith, length-append, length-take-le, get_or-take, take-suc, drop-drop, take_at, ext_get_or, drop_at}
+use Rattle.std.proofs.Common.{◌≡◌, ℕ, zero, suc, ◌+◌, ◌-◌, ◌*◌, ◌<◌, ◌≤◌, Bool, true, ◌&&◌, List, [], ◌∷◌, ◌++◌, length, get_or, take, sym, refl, ap, ◌∙◌, subst, ap₂, add-one, sub-one, arith, length-append, length-take-le, get_or-take, take-suc, ext_get_or}
 use mathlib.Core.List.{map-append}
-use lib.ListN.{length-map, get_or-append}
-use lib.Seq.{get_or_at, take-append-le, drop-append-add}
+use lib.ListN.{get_or-append}
+use lib.Seq.{get_or_at}
 use lib.Ieee.{Float, nan}
 use native.Mathlib.Decide.{dec_lt}
-use Rattle.course.specs.Rules.Arithmetic.{nought}
 use Rattle.course.specs.Rules.Tiles.{betas, xs, ys, point_at, points_of, tile_quad, eight, before_of, no_point, tile_at, tiles_to}
 use Rattle.course.specs.Steps.Tiles.{puts, edges_at, quad_between}
 use Rattle.course.specs.Grader.Points.{good_point, all_good}

@@ -1,9 +1,8 @@
 -- `floor`: what the casts of `whole_below` compute, and that it is the largest whole number not above x. Assumes nothing.
-use Rattle.std.proofs.Common.{◌≡◌, ℕ, zero, suc, ◌+◌, ◌-◌, ◌*◌, ◌/◌, ◌%◌, ◌^◌, ◌<◌, ◌≤◌, min, Bool, true, false, cond, not, ◌&&◌, T, eqb, ltb, leb, ℤ, pos, negsuc, neg_ℤ, sym, refl, ap, ◌∙◌, subst, inl, inr, true≢false, le_trans, le_of_eq, lt_of_lt_of_le, lt_of_le_of_lt, mul-le-mul_right, suc-mul, mul_comm, div-lt_iff_lt-mul, eq-zero-or-pos, lt_of_mul-lt-mul_right, mul-lt-mul_of_pos_right, one-mul, le-div_iff_mul-le, mul-one, mul_right_comm, div-mul-le_self, arith, lit≤, le→leb, eqb→eq, ltb→lt, lt→ltb, leb→le, ltb-false, ltb-true, le-ltb, lt-ltb}
+use Rattle.std.proofs.Common.{◌≡◌, ℕ, zero, suc, ◌+◌, ◌-◌, ◌*◌, ◌/◌, ◌%◌, ◌^◌, ◌<◌, ◌≤◌, min, true, false, T, eqb, ltb, ℤ, pos, negsuc, neg_ℤ, sym, refl, ap, ◌∙◌, subst, inl, inr, true≢false, le_trans, lt_of_lt_of_le, lt_of_le_of_lt, suc-mul, div-lt_iff_lt-mul, eq-zero-or-pos, lt_of_mul-lt-mul_right, mul-lt-mul_of_pos_right, le-div_iff_mul-le, mul-one, mul_right_comm, div-mul-le_self, arith, lit≤, eqb→eq, ltb→lt, lt→ltb, ltb-false, ltb-true}
 use native.Mathlib.Nat.{lt-div-mul-add}
-use mathlib.Core.Bool.{false≢true}
 use lib.Ieee.{Float, nan, inf, fin, binary64, up, down, le, lt, neg, of_int, to_unsigned}
-use lib.Ieee.Fits.{up_pos, down_pos, and_i, and_l, and_r, eq→eqb}
+use lib.Ieee.Fits.{down_pos, and_i, and_l, eq→eqb}
 use lib.Ieee.Exact.{HasValue}
 use lib.Ieee.Order.{le_of_values}
 use lib.Ieee.Positive.{first_pos}

@@ -1,7 +1,6 @@
 -- Whole numbers beside a float: k ≤ w exactly where k ≤ w cut to an integer. Assumes nothing.
-use Rattle.std.proofs.Common.{◌≡◌, ℕ, zero, suc, ◌+◌, ◌-◌, ◌*◌, ◌/◌, ◌^◌, ◌<◌, ◌≤◌, min, true, false, cond, not, T, ltb, leb, ℤ, pos, sym, refl, ap, ◌∙◌, subst, le_trans, le_of_eq, lt_of_lt_of_le, mul-le-mul_right, div-lt_iff_lt-mul, le-div_iff_mul-le, mul-one, arith, lit≤, le→leb, ltb→lt, lt→ltb, leb→le, le-leb, leb-false, leb-true}
-use native.Mathlib.Nat.{min-zero}
-use lib.Ieee.{Float, nan, inf, fin, binary64, up, down, le, lt, of_int, to_unsigned}
+use Rattle.std.proofs.Common.{◌≡◌, ℕ, ◌-◌, ◌*◌, ◌/◌, ◌^◌, ◌<◌, ◌≤◌, min, true, false, T, leb, ℤ, sym, refl, subst, le_trans, le_of_eq, le-div_iff_mul-le, mul-one, arith, lit≤, le→leb, leb→le}
+use lib.Ieee.{Float, nan, inf, fin, binary64, up, down, le, of_int, to_unsigned}
 use lib.Ieee.Fits.{down_pos}
 use lib.Ieee.Exact.{HasValue}
 use lib.Ieee.Back.{round_whole}

@@ -1,8 +1,8 @@
 -- Tests on floats: NaN, and the sign. Assumes nothing.
-use Rattle.std.proofs.Common.{◌≡◌, ℕ, zero, suc, ◌+◌, ◌*◌, ◌^◌, ◌<◌, Bool, true, false, cond, not, ◌&&◌, ◌||◌, T, eqb, ltb, ℤ, pos, negsuc, sym, refl, ap, ◌∙◌, subst, ap₂, inl, inr, true≢false, eq-zero-or-pos, mul-pos, one-mul, mul-one, arith, eqb→eq, ltb-false, ltb-true, eq-eqb, eqb-true}
+use Rattle.std.proofs.Common.{◌≡◌, ℕ, zero, suc, ◌+◌, ◌*◌, ◌^◌, ◌<◌, Bool, true, false, cond, ◌&&◌, ◌||◌, T, eqb, ltb, ℤ, pos, negsuc, sym, refl, ap, ◌∙◌, subst, ap₂, inl, inr, true≢false, eq-zero-or-pos, mul-pos, one-mul, mul-one, arith, eqb→eq, ltb-false, ltb-true, eq-eqb, eqb-true}
 use mathlib.Core.Bool.{beq, false≢true}
 use native.Mathlib.Nat.{pow-succ'}
-use lib.Ieee.{Float, nan, inf, fin, fits, is_nan, ne, eq, lt, le, add, sum, sub, mul, div, binary64, of_int, neg, up, down, round}
+use lib.Ieee.{Float, nan, inf, fin, fits, is_nan, ne, eq, lt, le, add, sum, sub, mul, div, binary64, neg, up, down, round}
 use lib.Ieee.Compare.{differs_from_itself, nan_differs}
 use lib.Ieee.Fits.{up_pos, and_l}
 use Rattle.course.specs.Rules.Arithmetic.{natural}

@@ -1,9 +1,8 @@
 -- Quarter turns as a record, and sine and cosine from the rest's, by k mod 4. Assumes nothing.
-use Rattle.std.proofs.Common.{◌≡◌, ℕ, zero, suc, ℤ, sym, refl, ap, ◌∙◌, subst}
+use Rattle.std.proofs.Common.{◌≡◌, ℕ, zero, suc, ℤ, refl, ap, ◌∙◌}
 use lib.Ieee.{Float, neg, of_int, binary64}
 use Rattle.course.specs.Rules.Trig.{SinCos, quarter_of, turns_of, rest_of, sine_poly, cosine_poly, cosine_of, sine_of, sin_cos_of, pick}
 use Rattle.course.specs.Steps.Numbers.{turns_at, sin_cos_as}
-use Rattle.course.specs.declared.trig.Turns.{Turns}
 use Rattle.course.specs.declared.trig.SinCos.{SinCos as CodeSinCos}
 
 pub turns-is : (f : Float) (q : ℕ) (z : ℤ) → f ≡ of_int binary64 z → q ≡ quarter_of z → record { k = f; quarter = q } ≡ turns_at z

@@ -4,11 +4,9 @@ use Rattle.std.proofs.Common.{◌≡◌, ℕ, zero, suc, ◌+◌, ◌*◌, ◌/�
 use native.Mathlib.Nat.{mod-add-mod}
 use lib.Pow.{shr_le}
 use lib.Bits.{xor_lt}
-use lib.Ieee.{Float, fin, lt, le, is_nan}
+use lib.Ieee.{fin, lt, le, is_nan}
 use lib.Ieee.Exact.{HasValue}
 use Rattle.rng.specs.declared.SplitMix64.{SplitMix64}
-use Rattle.rng.specs.declared.Draw.{Draw}
-use Rattle.rng.specs.declared.UnitDraw.{UnitDraw}
 use Rattle.rng.specs.Rules.SplitMix.{gamma, xor_shift, product64, mix64, next_state, draw_of, after, draw_at}
 use Rattle.rng.specs.Rules.Unit.{unit_of, unit_draw_of, unit_at}
 use Rattle.rng.proofs.Units.{unit-value, unit-range, unit-not-nan}

@@ -1,6 +1,6 @@
 -- Laws of `unit_of`: a unit is exactly the draw shifted right 11 over 2^53, from 0 to below 1; and multiplying by 2^−53 gives it too.
 -- Assumes nothing.
-use Rattle.std.proofs.Common.{◌≡◌, ℕ, zero, suc, ◌+◌, ◌*◌, ◌/◌, ◌^◌, ◌<◌, ◌≤◌, Bool, true, false, not, T, ℤ, pos, negsuc, sym, refl, ap, ◌∙◌, subst, zero-le, lt_of_lt_of_le, le_of_lt, mul_assoc, mul_comm, lt_of_mul-lt-mul_right, mul-lt-mul_of_pos_right, mul-pos, one-mul, zero-mul, mul-one, arith, lit<, lit≤, lt→ltb, pow_pos, pow_mono, pow-add, shl_lt, shr_lt}
+use Rattle.std.proofs.Common.{◌≡◌, ℕ, suc, ◌+◌, ◌*◌, ◌/◌, ◌^◌, ◌<◌, Bool, true, false, not, T, pos, negsuc, sym, refl, ap, ◌∙◌, subst, zero-le, lt_of_lt_of_le, le_of_lt, mul_assoc, mul_comm, lt_of_mul-lt-mul_right, mul-lt-mul_of_pos_right, mul-pos, one-mul, zero-mul, mul-one, arith, lit<, lit≤, lt→ltb, pow_pos, pow_mono, pow-add, shl_lt, shr_lt}
 use lib.Ieee.{Float, nan, inf, fin, Format, binary64, up, down, unlike, mul, div, round, of_int, to_bits, lt, le, is_nan}
 use lib.Ieee.Fits.{down_pos}
 use lib.Ieee.Exact.{HasValue, round_exact}

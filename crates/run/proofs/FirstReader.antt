@@ -1,5 +1,5 @@
 -- A reader of the first saved form never shows a shortened seed, and what it shows is shown as before. For sets of any number of words. Assumes nothing.
-use mathlib.Core.Bool.{Bool, true, false, cond, not, ◌&&◌}
+use mathlib.Core.Bool.{Bool, false, cond, not, ◌&&◌}
 use mathlib.Core.List.{List, [], ◌∷◌, ◌++◌}
 use mathlib.Core.Path.{◌≡◌, refl, sym, ap, ap₂, ◌∙◌, subst}
 use Prim.Native.Nat.{ℕ, ◌+◌, ◌*◌, ◌/◌, ◌^◌, ◌≤◌, ◌<◌}
@@ -15,7 +15,6 @@ use Rattle.form.proofs.TableLaws.{map_below}
 use Rattle.form.proofs.MapLaws.{map-in}
 use Rattle.form.proofs.LaterRows.{no_fields, packed-past, parsed-past, parsed-many, later-refused, map_at, zeros-low, number-zeros, some_byte}
 use Rattle.run.specs.Grader.Numbers.{control_count, pose_count}
-use Rattle.run.specs.Grader.State.{Columns}
 use Rattle.run.specs.Grader.Saved.{Fields, wide_seed, narrow_part, wide_part, ten_fields, bytes_of, field_bytes, saved_form, field_at, float_in, fields_with, seed_from, fields_from, seeds_ok, sound_fields, Loaded, loaded_from, loaded}
 use Rattle.run.specs.Grader.Saved.Loaded.{kept, not_kept}
 use Rattle.run.specs.Grader.Restore.{restore_cause, course_at}

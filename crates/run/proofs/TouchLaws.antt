@@ -19,7 +19,7 @@ use Rattle.course.specs.Grader.Index.{part_ok, lookup}
 use Rattle.run.specs.Rules.Overlap.{overlap_of}
 use Rattle.run.specs.Rules.Wheel.{box_cells}
 use Rattle.run.specs.Grader.Touch.{lists, listed_by, touched_by, sound_cell}
-use Rattle.run.specs.Steps.Touch.{overlaps_tile, Tested, Tests, Room, Looked}
+use Rattle.run.specs.Steps.Touch.{Tested, Tests, Room, Looked}
 use Rattle.run.proofs.WordLaws.{member-set_of, set_of-cong, or-chain}
 
 -- ---- tests over lists

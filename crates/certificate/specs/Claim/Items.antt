@@ -8,7 +8,7 @@ use Rattle.course.specs.Grader.Outcome.{Outcome, laid_values_of}
 use Rattle.course.specs.declared.tiles.TrackPoint.{TrackPoint}
 use Rattle.run.specs.Grader.State.{Columns, columns, short_of}
 use Rattle.run.specs.Grader.Numbers.{pose_numbers}
-use Rattle.certificate.specs.Rules.Answers.{Answer, Reply}
+use Rattle.certificate.specs.Rules.Answers.{Reply}
 use Rattle.certificate.specs.Rules.Answers.Answer.{drove, settled, refused}
 use Rattle.certificate.specs.Rules.Answers.Reply.{answered, decided}
 use Rattle.certificate.specs.Grader.Calls.{Call, Request}

@@ -1,6 +1,6 @@
 -- Document 01, "Tiles and index": which ids each cell lists, and how the lists stand in the two lent columns. `h i c` says whether
 -- the rectangle of tile i holds cell c. Assumes nothing.
-use Rattle.std.specs.Prelude.{ℕ, zero, suc, ◌+◌, ◌-◌, ◌<◌, ◌≤◌, Bool, true, false, cond, ◌&&◌, List, [], ◌∷◌, ◌++◌, length, take, drop, nat_le, nat_lt, slice_index}
+use Rattle.std.specs.Prelude.{ℕ, zero, suc, ◌+◌, ◌-◌, Bool, true, false, cond, ◌&&◌, List, [], ◌∷◌, ◌++◌, length, take, drop, nat_le, nat_lt, slice_index}
 
 -- the id i after the list l where the test holds, else l
 abbrev pub add_if : Bool → ℕ → List ℕ → List ℕ

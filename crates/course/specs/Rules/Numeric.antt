@@ -1,7 +1,7 @@
 -- Document 01, "Rust with no Rattle counterpart": Rust's methods on f64, at NaN and −0 too; and the range test of cause 8. Assumes nothing.
-use Rattle.std.specs.Prelude.{Bool, true, false, cond, ◌&&◌, is_nan, Float}
+use Rattle.std.specs.Prelude.{Bool, false, cond, ◌&&◌, is_nan, Float}
 use Rattle.std.specs.Float.{nan, inf, fin}
-use Rattle.std.specs.Float.Ieee.{lt, le, eq, neg}
+use Rattle.std.specs.Float.Ieee.{lt, le, neg}
 use Rattle.course.specs.Rules.Arithmetic.{natural}
 use Rattle.course.specs.Rules.Constants.{f64_max, f64_min}
 

@@ -1,6 +1,6 @@
 -- What the steps of the index's builder do, one cell at a time; only private functions of `index` cite these. `o` and `l` are the offsets
 -- and the list before a step, `o'` and `l'` after it. Assumes nothing.
-use Rattle.std.specs.Prelude.{◌≡◌, ℕ, zero, suc, ◌+◌, ◌-◌, ◌/◌, ◌%◌, ◌<◌, ◌≤◌, Bool, true, cond, not, T, ◌⊎◌, List, ◌++◌, length, get_or, drop, ◌≢◌, is_nan, nat_lt, slice_index, slice_index_or, to_bits, Float}
+use Rattle.std.specs.Prelude.{◌≡◌, ℕ, zero, suc, ◌+◌, ◌/◌, ◌%◌, ◌<◌, ◌≤◌, Bool, true, cond, not, T, ◌⊎◌, List, ◌++◌, length, get_or, drop, ◌≢◌, is_nan, nat_lt, slice_index, slice_index_or, to_bits, Float}
 use Rattle.std.specs.Float.{nan, binary64}
 use Rattle.course.specs.Rules.Lengths.{cell_count, most_points, offset_count}
 use Rattle.course.specs.Rules.Counting.{digit}

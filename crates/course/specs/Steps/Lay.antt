@@ -14,16 +14,12 @@ use Rattle.course.specs.Rules.Tiles.{betas, xs, ys}
 use Rattle.course.specs.declared.checkpoints.Checkpoint.{Checkpoint}
 use Rattle.course.specs.declared.checkpoints.Drawn.{Drawn}
 use Rattle.course.specs.declared.finder.Found.{Found as CodeFound}
-use Rattle.course.specs.declared.finder.Found.TheVariants as CodeFound
 use Rattle.course.specs.declared.finder.Dest.{Dest as CodeDest}
-use Rattle.course.specs.declared.finder.Dest.TheVariants as CodeDest
 use Rattle.course.specs.declared.step.Walk.{Walk as CodeWalk}
 use Rattle.course.specs.declared.step.TrackStep.{TrackStep as CodeTrackStep}
 use Rattle.course.specs.declared.step.Stepped.{Stepped as CodeStepped}
-use Rattle.course.specs.declared.step.Stepped.TheVariants as CodeStepped
 use Rattle.course.specs.declared.step.Sight.{Sight as CodeSight}
 use Rattle.course.specs.declared.step.Turned.{Turned as CodeTurned}
-use Rattle.course.specs.declared.step.Turned.TheVariants as CodeTurned
 use Rattle.course.specs.declared.tiles.TrackPoint.{TrackPoint}
 
 -- an attempt's checkpoints, and the generator after their 24 draws

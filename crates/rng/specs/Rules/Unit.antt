@@ -3,7 +3,6 @@ use Rattle.std.specs.Prelude.{ℕ, ◌/◌, ◌^◌, pos, Float}
 use Rattle.std.specs.Float.{binary64}
 use Rattle.std.specs.Float.Ieee.{add, sub, mul, div, of_int}
 use Rattle.rng.specs.declared.SplitMix64.{SplitMix64}
-use Rattle.rng.specs.declared.Draw.{Draw}
 use Rattle.rng.specs.declared.UnitDraw.{UnitDraw}
 use Rattle.rng.specs.Rules.SplitMix.{draw_of, after}
 

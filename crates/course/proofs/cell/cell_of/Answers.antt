@@ -13,7 +13,9 @@ returns-then-w c = at_top c.args.v c.if-w.true
 
 pub truncating_f64_to_u64-requires : goal.truncating_f64_to_u64-requires
 unfolding of_bits div of_int natural playfield along scale grid_cell
-truncating_f64_to_u64-requires c = call_fits (along c.args.v) c.if-w.false c.if-w-2.true
+truncating_f64_to_u64-requires c =
+    let f = call_fits (along c.args.v) c.if-w.false c.if-w-2.true in
+    record { lower_bound = f.0; upper_bound = f.1 }
 
 pub returns-then-w-2 : goal.returns-then-w-2
 unfolding of_bits div of_int natural playfield along scale grid_cell

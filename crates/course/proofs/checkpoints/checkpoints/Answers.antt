@@ -1,5 +1,5 @@
 -- `course::checkpoints::checkpoints` meets its contract. Assumes nothing.
-use Rattle.std.proofs.Common.{◌≡◌, ◌-◌, refl, arith}
+use Rattle.std.proofs.Common.{◌≡◌, refl, arith}
 use Rattle.course.proofs.CheckpointDraws.{drawing-none, one_more, all-drawn}
 use Rattle.course.proofs.checkpoints.checkpoints.Goals as goal
 

@@ -1,7 +1,7 @@
 -- `course::columns::clear_from` meets its contract. Assumes nothing.
 use Rattle.course.proofs.ColumnLaws.{cleared-none, cleared}
 use Rattle.course.specs.Rules.Arithmetic.{nought}
-use Rattle.std.proofs.Common.{◌≡◌, ℕ, ◌+◌, ◌-◌, ◌++◌, take, drop, replicate, ap, ◌∙◌, append_assoc, arith}
+use Rattle.std.proofs.Common.{◌≡◌, ℕ, ◌-◌, ◌++◌, take, drop, replicate, ap, ◌∙◌, append_assoc, arith}
 use Rattle.course.proofs.columns.clear_from.Goals as goal
 
 pub loop-i-init : goal.loop-i-init

@@ -1,7 +1,7 @@
 -- `course::columns::clear_from` meets its contract. Assumes nothing.
 use Rattle.course.proofs.ColumnLaws.{Grown}
 use Rattle.course.specs.Rules.Arithmetic.{nought}
-use Rattle.std.proofs.Common.{◌+◌, ◌-◌, ◌≤◌, ◌++◌, length, take, replicate}
+use Rattle.std.proofs.Common.{◌-◌, ◌≤◌, ◌++◌, length, take, replicate}
 use Rattle.course.proofs.columns.clear_from.Given as goal
 
 abbrev pub invariant-loop-i : goal.invariant-loop-i

@@ -1,6 +1,6 @@
 -- `course::columns::clear_marks` meets its contract. Assumes nothing.
 use Rattle.course.proofs.ColumnLaws.{cleared-none, cleared}
-use Rattle.std.proofs.Common.{◌≡◌, ℕ, ◌+◌, ◌-◌, ◌++◌, take, drop, replicate, ap, ◌∙◌, append_assoc, arith}
+use Rattle.std.proofs.Common.{◌≡◌, ℕ, ◌-◌, ◌++◌, take, drop, replicate, ap, ◌∙◌, append_assoc, arith}
 use Rattle.course.proofs.columns.clear_marks.Goals as goal
 
 pub loop-i-init : goal.loop-i-init

@@ -1,6 +1,6 @@
 -- `course::columns::clear_marks` meets its contract. Assumes nothing.
 use Rattle.course.proofs.ColumnLaws.{Grown}
-use Rattle.std.proofs.Common.{◌+◌, ◌-◌, ◌≤◌, ◌++◌, length, take, replicate}
+use Rattle.std.proofs.Common.{◌-◌, ◌≤◌, ◌++◌, length, take, replicate}
 use Rattle.course.proofs.columns.clear_marks.Given as goal
 
 abbrev pub invariant-loop-i : goal.invariant-loop-i

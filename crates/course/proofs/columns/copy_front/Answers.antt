@@ -1,7 +1,7 @@
 -- `course::columns::copy_front` meets its contract. Assumes nothing.
 use lib.Ieee.{nan}
 use Rattle.course.proofs.ColumnLaws.{grown-none, copied}
-use Rattle.std.proofs.Common.{◌≡◌, ℕ, ◌+◌, ◌-◌, ◌++◌, take, drop, ap, ◌∙◌, arith}
+use Rattle.std.proofs.Common.{◌≡◌, ℕ, ◌++◌, take, drop, ap, ◌∙◌, arith}
 use Rattle.course.proofs.columns.copy_front.Goals as goal
 
 pub loop-i-init : goal.loop-i-init

@@ -1,5 +1,5 @@
 -- `course::columns::shift` meets its contract. Assumes nothing.
-use Rattle.std.proofs.Common.{◌≡◌, ℕ, ◌+◌, ◌-◌, ◌++◌, take, drop, ap, ◌∙◌, arith}
+use Rattle.std.proofs.Common.{◌≡◌, ℕ, ◌++◌, take, drop, ap, ◌∙◌, arith}
 use Rattle.course.proofs.ColumnLaws.{grown-none, shifted}
 use Rattle.course.proofs.columns.shift.Goals as goal
 

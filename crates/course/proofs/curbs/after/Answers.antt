@@ -1,6 +1,6 @@
 -- `course::curbs::after` meets its contract. Assumes nothing.
 use Rattle.course.specs.Grader.Curbs.{after_of}
-use Rattle.std.proofs.Common.{◌-◌, arith, le-ltb, lt-ltb}
+use Rattle.std.proofs.Common.{arith, le-ltb, lt-ltb}
 use Rattle.course.proofs.curbs.after.Goals as goal
 
 pub returns-then-i-n : goal.returns-then-i-n

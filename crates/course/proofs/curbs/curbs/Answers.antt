@@ -1,7 +1,7 @@
 -- `course::curbs::curbs` meets its contract. Assumes nothing.
 use Rattle.course.proofs.LaidColumns.{no-cause}
 use Rattle.course.proofs.CurbLaws.{fits, turned-down, all-edged}
-use Rattle.std.proofs.Common.{◌-◌, arith}
+use Rattle.std.proofs.Common.{arith}
 use Rattle.course.proofs.curbs.curbs.Goals as goal
 
 pub returns-then-k-gt0 : goal.returns-then-k-gt0

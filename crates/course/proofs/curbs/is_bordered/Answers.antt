@@ -1,6 +1,5 @@
 -- `course::curbs::is_bordered` meets its contract. Assumes nothing.
 use Rattle.course.specs.Grader.Curbs.{bordered}
-use Rattle.std.proofs.Common.{◌-◌}
 use Rattle.course.proofs.curbs.is_bordered.Goals as goal
 
 pub returns : goal.returns

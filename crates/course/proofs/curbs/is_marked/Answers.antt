@@ -1,6 +1,5 @@
 -- `course::curbs::is_marked` meets its contract. Assumes nothing.
 use Rattle.course.specs.Grader.Curbs.{mark_at}
-use Rattle.std.proofs.Common.{◌-◌}
 use Rattle.course.proofs.curbs.is_marked.Goals as goal
 
 pub returns : goal.returns

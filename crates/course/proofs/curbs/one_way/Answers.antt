@@ -1,6 +1,5 @@
 -- `course::curbs::one_way` meets its contract. Assumes nothing.
 use Rattle.course.specs.Grader.Curbs.{one_way}
-use Rattle.std.proofs.Common.{◌-◌}
 use Rattle.course.proofs.curbs.one_way.Goals as goal
 
 pub returns : goal.returns

@@ -1,7 +1,6 @@
 -- `course::curbs::side_of` meets its contract. Assumes nothing.
 use Rattle.course.proofs.Literals.{one-bits}
 use Rattle.course.specs.Grader.Curbs.{side_of}
-use Rattle.std.proofs.Common.{◌-◌}
 use Rattle.course.proofs.curbs.side_of.Goals as goal
 
 pub returns-then-q-p : goal.returns-then-q-p

@@ -1,6 +1,5 @@
 -- `course::curbs::turn_at` meets its contract. Assumes nothing.
 use Rattle.course.specs.Grader.Curbs.{turn_at}
-use Rattle.std.proofs.Common.{◌-◌}
 use Rattle.course.proofs.curbs.turn_at.Goals as goal
 
 pub returns : goal.returns

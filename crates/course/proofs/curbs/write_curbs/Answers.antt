@@ -1,7 +1,7 @@
 -- `course::curbs::write_curbs` meets its contract. Assumes nothing.
 use Rattle.course.proofs.CurbLaws.{curbs-at}
 use Rattle.course.proofs.CurbLaws.{curbs-none, curbs-more}
-use Rattle.std.proofs.Common.{◌≡◌, ◌-◌, arith}
+use Rattle.std.proofs.Common.{◌≡◌, arith}
 use Rattle.course.proofs.curbs.write_curbs.Goals as goal
 
 pub loop-i-init : goal.loop-i-init

@@ -7,8 +7,8 @@ use Rattle.course.proofs.index.build_index.Goals as goal
 
 pub returns-then-list-need : goal.returns-then-list-need
 returns-then-list-need c =
-    let t = c.total-need in
-    record { built = built-short _ t.ensures.0 (omega (arith, c.if-list-need.true, t.ensures.0)); rects_unchanged = t.ensures.1.past }
+    let e = c.total-need.ensures in
+    record { built = built-short _ e.value (omega (arith, c.if-list-need.true, e.value)); rects_unchanged = e.rects_packed.past }
 
 pub slice_bounds-lay_index-end-2 : goal.slice_bounds-lay_index-end-2
 slice_bounds-lay_index-end-2 c = sym (length-take-le offset_count c.args.offsets.now c.requires.n_in_bounds.1)

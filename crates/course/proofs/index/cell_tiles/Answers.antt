@@ -1,13 +1,12 @@
 -- `course::index::cell_tiles` meets its contract. Assumes nothing.
 use Rattle.course.proofs.IndexLaws.{Part, part-facts, lookup-none, lookup-part}
 use Rattle.course.specs.Grader.Index.{part_ok}
-use borrow.Author.Tests.{not-false}
-use Rattle.std.proofs.Common.{◌≡◌, ℕ, ◌+◌, ◌-◌, Bool, false, not, List, get_or, take, drop, sym, ◌∙◌, ap₂, arith}
+use Rattle.std.proofs.Common.{◌≡◌, ℕ, ◌+◌, ◌-◌, Bool, true, List, get_or, take, drop, sym, ◌∙◌, ap₂, arith}
 use Rattle.course.proofs.index.cell_tiles.Goals as goal
 
 -- what the test says of the cell's part
-held : (o l : List ℕ) (k : ℕ) (r : Bool) → r ≡ part_ok o l k → not r ≡ false → Part o l k
-held o l k r e h = part-facts o l k (sym e ∙ not-false r h)
+held : (o l : List ℕ) (k : ℕ) (r : Bool) → r ≡ part_ok o l k → r ≡ true → Part o l k
+held o l k r e h = part-facts o l k (sym e ∙ h)
 
 pub returns-then-not-part_ok : goal.returns-then-not-part_ok
 returns-then-not-part_ok c = sym (lookup-none _ _ _ (sym c.part_ok.ensures ∙ c.if-not-part_ok.true))

@@ -1,5 +1,5 @@
 -- `course::index::clear` meets its contract. Assumes nothing.
-use Rattle.std.proofs.Common.{◌≡◌, ℕ, ◌+◌, ◌-◌, List, ◌++◌, length, drop, set, replicate, refl, ap, ◌∙◌, append-nil, arith, length-set}
+use Rattle.std.proofs.Common.{◌≡◌, ℕ, List, ◌++◌, length, drop, set, replicate, refl, ap, ◌∙◌, append-nil, arith, length-set}
 use lib.Seq.{drop-length}
 use borrow.Author.Fill.{fill_none, fill_more}
 use Rattle.course.proofs.index.clear.Goals as goal

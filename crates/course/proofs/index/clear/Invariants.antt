@@ -1,5 +1,5 @@
 -- `course::index::clear` meets its contract. Assumes nothing.
-use Rattle.std.proofs.Common.{◌≡◌, ◌+◌, ◌-◌, ◌≤◌, ◌++◌, length, drop, replicate}
+use Rattle.std.proofs.Common.{◌≡◌, ◌-◌, ◌≤◌, ◌++◌, length, drop, replicate}
 use Rattle.course.proofs.index.clear.Given as goal
 
 abbrev pub invariant-loop-c : goal.invariant-loop-c

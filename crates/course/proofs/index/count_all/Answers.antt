@@ -1,5 +1,5 @@
 -- `course::index::count_all` meets its contract. Assumes nothing.
-use Rattle.std.proofs.Common.{◌≡◌, ℕ, ◌-◌, sym, ap, subst, arith}
+use Rattle.std.proofs.Common.{◌≡◌, ℕ, sym, ap, subst, arith}
 use Rattle.course.specs.Rules.Rect.{Rect, holds}
 use Rattle.course.specs.Steps.Index.{rect_as, Small, held_in}
 use Rattle.course.specs.Steps.Index.{Counts}

@@ -2,7 +2,7 @@
 use Rattle.course.specs.Rules.Constants.{grid_dim}
 use Rattle.course.specs.Rules.Lengths.{most_points, offset_count}
 use Rattle.course.specs.Steps.Index.{rect_as, Inside}
-use Rattle.std.proofs.Common.{◌≡◌, ℕ, ◌+◌, ◌-◌, ◌*◌, ◌<◌, ◌≤◌, min, length, get_or, refl, arith}
+use Rattle.std.proofs.Common.{◌≡◌, ℕ, ◌+◌, ◌*◌, ◌<◌, ◌≤◌, min, length, get_or, refl, arith}
 use Rattle.course.proofs.RowSweeps.{count_none, count-row, count-done}
 use Rattle.course.proofs.index.count_rect.Goals as goal
 

@@ -1,5 +1,5 @@
 -- `course::index::lay_index` meets its contract. Assumes nothing.
-use Rattle.std.proofs.Common.{ℕ, ◌-◌, List, length, get_or, ap, ◌∙◌, arith}
+use Rattle.std.proofs.Common.{ℕ, List, length, get_or, ap, ◌∙◌, arith}
 use lib.ListN.{length-replicate, get_or-replicate}
 use Rattle.course.specs.Steps.Index.{held_in}
 use Rattle.course.proofs.TileSteps.{counts-none, counts-small, placed-none, placed-offsets, placed-index}
@@ -10,7 +10,7 @@ count_all-requires c =
     let o : List ℕ = c.args.o.now in
     record {
       rects_in = c.requires.rects_in;
-      counts = counts-none (held_in c.args.rects.now) 0 c.clear.new.0
+      counts = counts-none (held_in c.args.rects.now) 0 c.clear.new.o
           (ap length c.clear.ensures ∙ length-replicate (length o) 0 ∙ c.requires.o_len)
           (λ d l. ap (λ (z : List ℕ). get_or z d 0) c.clear.ensures ∙ get_or-replicate (length o) d 0 0 (omega (arith, c.requires.o_len)));
     }

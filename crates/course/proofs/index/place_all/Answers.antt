@@ -1,5 +1,5 @@
 -- `course::index::place_all` meets its contract. Assumes nothing.
-use Rattle.std.proofs.Common.{◌≡◌, ℕ, ◌-◌, sym, ap, subst, arith}
+use Rattle.std.proofs.Common.{◌≡◌, ℕ, sym, ap, subst, arith}
 use Rattle.course.specs.Rules.Rect.{Rect, holds}
 use Rattle.course.specs.Steps.Index.{rect_as, Small, Placed, held_in}
 use Rattle.course.specs.Rules.Lengths.{most_points, cell_count}

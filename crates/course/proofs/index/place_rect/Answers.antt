@@ -26,7 +26,7 @@ place_run-requires c =
     in
     let g : c.loop-y.y * grid_dim + c.args.r.x1 + 2 ≤ length c.loop-y.o = omega (arith, t.cursors.same) in
     let b : length c.loop-y.l ≤ most_points * cell_count = omega (arith, t.same-list, c.requires.l_len_bound) in
-    (g, (b, f))
+    record { b_in_bounds = g; l_len_bound = b; by_index = f }
 
 pub loop-y-preserved : goal.loop-y-preserved
 loop-y-preserved c = (place-row (rect_as c.args.r) c.requires.small _ _ _ _ _ _ _ c.loop-y.y c.loop-y.invariant.1 (omega arith) c.loop-y.invariant.0 c.place_run.ensures, omega arith, omega arith)

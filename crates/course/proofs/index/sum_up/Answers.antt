@@ -1,27 +1,22 @@
 -- `course::index::sum_up` meets its contract. Assumes nothing.
-use Rattle.std.proofs.Common.{◌≡◌, ℕ, ◌+◌, ◌-◌, ◌*◌, ◌≤◌, get_or, set, sym, refl, subst, arith}
-use Rattle.course.specs.Rules.Lengths.{most_points, offset_count}
+use Rattle.std.proofs.Common.{◌≡◌, ℕ, ◌+◌, get_or, set, sym, refl, subst, arith}
+use Rattle.course.specs.Rules.Lengths.{most_points}
 use Rattle.course.specs.Steps.Index.{sum_below}
 use Rattle.course.proofs.CellRuns.{SummedTo, sum-none, sum_more, sum-small, summed-more}
 use Rattle.course.proofs.index.sum_up.Goals as goal
-
-sum_fits : (c : tie.In-loop invariant-loop decreases-loop) → c.before.loop.sum + get_or c.before.loop.o c.before.loop.k 0 ≤ most_points * offset_count
-sum_fits c =
-    let a = c.before in
-    let s = a.before in
-    omega (
-      arith,
-      sum-small most_points s.args.o.now a.loop.k (λ d l. s.requires.1 d (omega arith)),
-      a.loop.invariant.0.same,
-      a.loop.invariant.0.left a.loop.k (omega arith),
-      s.requires.1 a.loop.k (omega (arith, a.loop.invariant.0.same)),
-    )
 
 pub loop-k-init : goal.loop-k-init
 loop-k-init c = (record { same = refl; done = λ d w. absurd (omega arith); left = λ d w. refl }, omega arith, sym (sum-none _))
 
 pub overflow_add-sum : goal.overflow_add-sum
-overflow_add-sum c = omega (arith, sum_fits c)
+overflow_add-sum c =
+    omega (
+      arith,
+      sum-small most_points c.args.o.now c.loop-k.k (λ d l. c.requires.by_index d (omega arith)),
+      c.loop-k.invariant.0.same,
+      c.loop-k.invariant.0.left c.loop-k.k (omega arith),
+      c.requires.by_index c.loop-k.k (omega (arith, c.loop-k.invariant.0.same)),
+    )
 
 pub loop-k-smaller : goal.loop-k-smaller
 loop-k-smaller c = omega (arith, c.loop-k.invariant.0.same)

@@ -1,22 +1,10 @@
 -- `course::index::total` meets its contract. Assumes nothing.
 use Rattle.course.specs.Steps.Index.{Small, Packs, RectsPacked}
-use Rattle.std.proofs.Common.{◌≡◌, ℕ, ◌+◌, ◌-◌, sym, ap, ◌∙◌, subst, arith}
+use Rattle.std.proofs.Common.{◌≡◌, ℕ, ◌+◌, sym, ap, ◌∙◌, subst, arith}
 use Rattle.course.specs.Rules.Rect.{Rect, needed, area_of}
 use Rattle.course.proofs.CourseRects.{rect-small, needed-none, needed-more, needed-small}
 use Rattle.course.proofs.PackedRects.{packed_none, packed_more}
 use Rattle.course.proofs.index.total.Goals as goal
-
-sum_of : (c : tie.After-area invariant-loop decreases-loop) → c.before.before.before.before.loop.sum + c.area.result ≡ needed c.before.before.before.before.before.before.before.args.tiles.now (c.before.before.before.before.loop.i + 1)
-sum_of c =
-    let a = c.before.before.before.before in
-    let s = a.before.before.before in
-    omega (
-      arith,
-      needed-more s.args.tiles.now a.loop.i,
-      a.loop.invariant.1,
-      c.area.ensures,
-      ap area_of c.before.before.rect-of.ensures,
-    )
 
 pub loop-i-init : goal.loop-i-init
 loop-i-init c = (omega arith, sym (needed-none _), packed_none _ _ _)
@@ -34,14 +22,25 @@ pub overflow_add-sum : goal.overflow_add-sum
 overflow_add-sum c =
     omega (
       arith,
-      sum_of c,
+      needed-more c.args.tiles.now c.loop-i.i,
+      c.loop-i.invariant.1,
+      c.area-sum.ensures,
+      ap area_of c.rect_of-r.ensures,
       needed-small c.args.tiles.now (c.loop-i.i + 1),
     )
 
 pub loop-i-preserved : goal.loop-i-preserved
 loop-i-preserved c =
     let p = subst (λ (r : Rect). Packs c.packed.result r) c.rect_of-r.ensures c.packed.ensures in
-    (omega arith, sum_of c, packed_more c.args.tiles.now c.args.n c.loop-i.i c.args.rects.now c.loop-i.rects c.packed.result (omega arith) (omega (arith, c.loop-i.invariant.2.same, c.requires.n_in_bounds)) p c.loop-i.invariant.2)
+    let sum : c.loop-i.sum + c.area-sum.result ≡ needed c.args.tiles.now (c.loop-i.i + 1) = omega (
+      arith,
+      needed-more c.args.tiles.now c.loop-i.i,
+      c.loop-i.invariant.1,
+      c.area-sum.ensures,
+      ap area_of c.rect_of-r.ensures,
+    )
+    in
+    (omega arith, sum, packed_more c.args.tiles.now c.args.n c.loop-i.i c.args.rects.now c.loop-i.rects c.packed.result (omega arith) (omega (arith, c.loop-i.invariant.2.same, c.requires.n_in_bounds)) p c.loop-i.invariant.2)
 
 pub shape_of-rects : goal.shape_of-rects
 shape_of-rects c = c.loop-i.invariant.2.same

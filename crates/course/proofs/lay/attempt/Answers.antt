@@ -1,33 +1,10 @@
--- `course::lay::attempt` meets its contract. Assumes nothing.
-use Rattle.std.proofs.Common.{sym, arith}
-use Rattle.course.proofs.Attempts.{Wide, some, front, attempt-good, attempt-refused}
+-- `course::lay::attempt` meets its contract: what the walk and the moves leave in the columns is what `Attempts` says. Assumes nothing.
+use Rattle.std.proofs.Common.{sym}
+use Rattle.course.proofs.Attempts.{some, front, attempt-good, attempt-refused}
 use Rattle.course.proofs.lay.attempt.Goals as goal
 
--- the walk keeps the columns' lengths
-wide : (c : tie.After-walk-round) →
-    let w = c.walk-round.new in
-    Wide w.1.0 w.1.1.0 w.1.1.1.0 w.1.1.1.1.0
-wide c =
-    let s = (entry c).requires in
-    let k = c.walk-round.auto in
-    record {
-      alpha = omega (arith, k.1.0, s.0);
-      beta = omega (arith, k.1.1.0, s.1.0);
-      x = omega (arith, k.1.1.1.0, s.1.1.0);
-      y = omega (arith, k.1.1.1.1.0, s.1.1.1);
-    }
-
-pub cut-p-requires : goal.cut-p-requires
-cut-p-requires c = record { len_nonzero = (some c.walk_round-w.ensures c.if-w.true, c.walk_round-w.ensures.few); step_limit_in_bounds = ((wide c).alpha, (wide c).beta); step_limit_in_bounds_2 = ((wide c).x, (wide c).y) }
-
-pub shift-requires : goal.shift-requires
-shift-requires c = omega (arith, c.cut-p.ensures.n_bound, c.walk_round-w.ensures.few, (wide c).beta)
-
-pub shift-requires-then-w : goal.shift-requires-then-w
-shift-requires-then-w c = omega (arith, c.cut-p.ensures.n_bound, c.walk_round-w.ensures.few, (wide c).x)
-
-pub shift-requires-then-w-2 : goal.shift-requires-then-w-2
-shift-requires-then-w-2 c = omega (arith, c.cut-p.ensures.n_bound, c.walk_round-w.ensures.few, (wide c).y)
+pub cut-p-requires-clause-len_nonzero : goal.cut-p-requires-clause-len_nonzero
+cut-p-requires-clause-len_nonzero c = (some c.walk_round-w.ensures c.if-w.true, c.walk_round-w.ensures.few)
 
 pub returns-then-w : goal.returns-then-w
 returns-then-w c =

@@ -1,5 +1,5 @@
 -- `course::lay::generate_with_attempts` meets its contract. Assumes nothing.
-use Rattle.std.proofs.Common.{◌≡◌, ◌-◌}
+use Rattle.std.proofs.Common.{◌≡◌}
 use Rattle.rng.specs.Rules.SplitMix.{seeded}
 use Rattle.course.proofs.Generating.{trying-none, trying-more, reached-here, reached-ring}
 use Rattle.course.proofs.lay.generate_with_attempts.Goals as goal
@@ -9,11 +9,6 @@ loop-k-init c =
     let seeds : c.from_seed-g.result ≡ seeded c.args.seed = c.from_seed-g.ensures in
     trying-none seeds c.requires.laid_length_in_bounds c.requires.laid_length_in_bounds_2 c.requires.laid_length_in_bounds_3 c.requires.laid_length_in_bounds_4
 
-pub try_generate-t-requires : goal.try_generate-t-requires
-try_generate-t-requires c =
-    let v = c.loop-k.invariant.kept in
-    record { laid_length_in_bounds = v.alpha.long; laid_length_in_bounds_2 = v.beta.long; laid_length_in_bounds_3 = v.east.long; laid_length_in_bounds_4 = v.north.long }
-
 pub returns-then-n-gt0 : goal.returns-then-n-gt0
 returns-then-n-gt0 c =
     let m = reached-here c.loop-k.invariant c.loop-k-test.true c.try_generate-t.ensures.in_front c.if-n-gt0.true in
@@ -22,12 +17,7 @@ returns-then-n-gt0 c =
 pub loop-k-preserved : goal.loop-k-preserved
 loop-k-preserved c =
     trying-more c.loop-k.invariant c.loop-k-test.true c.try_generate-t.ensures.in_front c.try_generate-t.ensures.rng_value c.if-n-gt0.false
-    c.try_generate-t.kept.alpha c.try_generate-t.kept.beta c.try_generate-t.kept.x c.try_generate-t.kept.y
-
-pub ring_points-requires : goal.ring_points-requires
-ring_points-requires c =
-    let v = c.loop-k.invariant.kept in
-    record { laid_length_in_bounds = v.beta.long; laid_length_in_bounds_2 = v.east.long; laid_length_in_bounds_3 = v.north.long }
+    c.try_generate-t.auto.alpha c.try_generate-t.auto.beta c.try_generate-t.auto.x c.try_generate-t.auto.y
 
 pub returns : goal.returns
 returns c =

@@ -2,7 +2,7 @@
 use Rattle.course.proofs.CourseTiles.{good_none, good_more}
 use Rattle.course.specs.Grader.Points.{good_point, all_good}
 use Rattle.course.specs.Rules.Tiles.{points_of}
-use Rattle.std.proofs.Common.{◌≡◌, ℕ, ◌-◌, ◌&&◌, sym, ap, ◌∙◌, ap₂, arith}
+use Rattle.std.proofs.Common.{◌≡◌, ℕ, ◌&&◌, sym, ap, ◌∙◌, ap₂, arith}
 use Rattle.course.proofs.points.all_good.Goals as goal
 
 pub loop-i-init : goal.loop-i-init

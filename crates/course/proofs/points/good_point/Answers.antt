@@ -1,7 +1,6 @@
 -- `course::points::good_point` meets its contract. Assumes nothing.
 use Rattle.course.proofs.Literals.{sixteen, thousand}
 use Rattle.course.specs.Grader.Points.{good_point}
-use Rattle.std.proofs.Common.{◌-◌}
 use Rattle.course.proofs.points.good_point.Goals as goal
 
 pub returns : goal.returns

@@ -1,5 +1,5 @@
 -- `course::root::by_digits` meets its contract. The invariant: r is the root of n * 4 ^ i. Assumes nothing.
-use Rattle.std.proofs.Common.{◌≡◌, ℕ, ◌+◌, ◌-◌, ◌*◌, ◌^◌, ◌<◌, ◌≤◌, sym, ap, ◌∙◌, subst, mul-le-mul_left, mul-one, mul_left_comm, add-one, arith, lit<}
+use Rattle.std.proofs.Common.{◌≡◌, ℕ, ◌+◌, ◌*◌, ◌^◌, ◌<◌, ◌≤◌, sym, ap, ◌∙◌, subst, mul-le-mul_left, mul-one, mul_left_comm, add-one, arith, lit<}
 use native.Mathlib.Nat.{pow-succ', pow-le-pow_right}
 use Rattle.course.specs.Steps.Root.{Leaves}
 use Rattle.course.proofs.WholeRoot.{root_below}

@@ -1,5 +1,5 @@
 -- `course::root::root_of` meets its contract. The invariant: r is the root of the digits of n that the shift leaves. Assumes nothing.
-use Rattle.std.proofs.Common.{◌≡◌, ◌-◌, ◌/◌, ◌%◌, ◌^◌, ◌≤◌}
+use Rattle.std.proofs.Common.{◌≡◌, ◌/◌, ◌%◌, ◌^◌, ◌≤◌}
 use Rattle.course.specs.Steps.Root.{Leaves}
 use Rattle.course.proofs.root.root_of.Given as goal
 

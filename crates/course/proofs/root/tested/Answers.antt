@@ -1,6 +1,5 @@
 -- `course::root::tested` meets its contract, by the law `leaves-parts`: neither difference can have wrapped, since what is left is small. Assumes nothing.
 use Rattle.std.proofs.Common.{ℕ, ◌+◌, ◌*◌, ◌≤◌, T, sym, subst, mul-le-mul, arith, leb→le}
-use mathlib.Core.Bool.{false≢true}
 use Rattle.course.proofs.WholeRoot.{leaves-parts}
 use Rattle.course.proofs.root.tested.Goals as goal
 
@@ -10,13 +9,10 @@ product s d h k = mul-le-mul h k
 square : (d : ℕ) → d ≤ 268435456 → d * d ≤ 72057594037927936
 square d h = mul-le-mul h h
 
--- TODO returns -> returns-then-t-ge1099511627776
--- returns c h = absurd (false≢true h)
-
--- TODO returns-2 -> returns
--- returns-2 c h =
---     let a = c.before.before.before.before.before.args in
---     let t = c.before.before.before.wrapping-sub-u64.result in
---     let l = c.wrapping-sub-u642.result in
---     let k : l ≤ a.s * 8388608 + a.d * 2 = leb→le _ _ (subst T (sym h) tt) in
---     leaves-parts a.s a.e a.d t l (omega (arith, product a.s a.d (omega arith) (omega arith))) (omega (arith, square a.d (omega arith))) k
+pub returns : goal.returns
+returns c h =
+    let a = c.args in
+    let t = c.wrapping_sub_u64-t.result in
+    let l = c.wrapping_sub_u64-left.result in
+    let k : l ≤ a.s * 8388608 + a.d * 2 = leb→le _ _ (subst T (sym h) tt) in
+    leaves-parts a.s a.e a.d t l (omega (arith, product a.s a.d (omega arith) (omega arith))) (omega (arith, square a.d (omega arith))) k

@@ -1,6 +1,6 @@
 -- `course::step::turn_down` meets its contract. Assumes nothing.
 use Rattle.course.proofs.Turns.{down-left, down-stop, down-more}
-use Rattle.std.proofs.Common.{◌-◌, sym, refl, ◌∙◌}
+use Rattle.std.proofs.Common.{sym, refl, ◌∙◌}
 use Rattle.course.proofs.step.turn_down.Goals as goal
 
 pub loop-b-init : goal.loop-b-init

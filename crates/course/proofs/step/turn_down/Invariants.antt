@@ -1,5 +1,5 @@
 -- `course::step::turn_down` meets its contract. Assumes nothing.
-use Rattle.std.proofs.Common.{◌≡◌, ◌-◌}
+use Rattle.std.proofs.Common.{◌≡◌}
 use Rattle.course.specs.Rules.Step.{turn_down}
 use Rattle.course.proofs.step.turn_down.Given as goal
 

@@ -1,6 +1,6 @@
 -- `course::step::turn_up` meets its contract. Assumes nothing.
 use Rattle.course.proofs.Turns.{up_left, up-stop, up_more}
-use Rattle.std.proofs.Common.{◌-◌, sym, refl, ◌∙◌}
+use Rattle.std.proofs.Common.{sym, refl, ◌∙◌}
 use Rattle.course.proofs.step.turn_up.Goals as goal
 
 pub loop-b-init : goal.loop-b-init

@@ -1,5 +1,5 @@
 -- `course::step::turn_up` meets its contract. Assumes nothing.
-use Rattle.std.proofs.Common.{◌≡◌, ◌-◌}
+use Rattle.std.proofs.Common.{◌≡◌}
 use Rattle.course.specs.Rules.Step.{turn_up}
 use Rattle.course.proofs.step.turn_up.Given as goal
 

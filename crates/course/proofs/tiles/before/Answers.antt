@@ -1,7 +1,7 @@
 -- `course::tiles::before` meets its contract. Assumes nothing.
 use Rattle.course.proofs.CourseTiles.{before-later}
 use Rattle.course.specs.Rules.Tiles.{before_of}
-use Rattle.std.proofs.Common.{◌-◌, arith}
+use Rattle.std.proofs.Common.{arith}
 use Rattle.course.proofs.tiles.before.Goals as goal
 
 pub returns-then-i-eq0 : goal.returns-then-i-eq0

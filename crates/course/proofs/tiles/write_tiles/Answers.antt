@@ -2,7 +2,7 @@
 use Rattle.course.proofs.CourseTiles.{tiles-none, tiles_more, tile-given, edges-first, edges-kept}
 use Rattle.course.specs.Rules.Tiles.{points_of, tiles_to}
 use Rattle.course.specs.Steps.Tiles.{edges_at}
-use Rattle.std.proofs.Common.{◌≡◌, ℕ, ◌-◌, ◌*◌, ◌++◌, drop, sym, ap, ◌∙◌, arith}
+use Rattle.std.proofs.Common.{◌≡◌, ℕ, ◌*◌, ◌++◌, drop, sym, ap, ◌∙◌, arith}
 use Rattle.course.proofs.tiles.write_tiles.Goals as goal
 
 pub returns-then-n-eq0 : goal.returns-then-n-eq0

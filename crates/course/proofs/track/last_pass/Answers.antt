@@ -1,5 +1,5 @@
 -- `course::track::last_pass` meets its contract. Assumes nothing.
-use Rattle.std.proofs.Common.{◌≡◌, ◌-◌, sym, refl, ◌∙◌, arith}
+use Rattle.std.proofs.Common.{◌≡◌, sym, refl, ◌∙◌, arith}
 use Rattle.course.proofs.TrackParts.{pass-here, pass_below, pass-none}
 use Rattle.course.proofs.track.last_pass.Goals as goal
 

@@ -1,5 +1,5 @@
 -- `course::track::last_pass` meets its contract. Assumes nothing.
-use Rattle.std.proofs.Common.{◌≡◌, ◌-◌, ◌≤◌}
+use Rattle.std.proofs.Common.{◌≡◌, ◌≤◌}
 use Rattle.course.specs.Rules.Track.{last_pass}
 use Rattle.course.proofs.track.last_pass.Given as goal
 

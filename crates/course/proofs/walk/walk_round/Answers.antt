@@ -1,5 +1,5 @@
 -- `course::walk::walk_round` meets its contract. Assumes nothing.
-use Rattle.std.proofs.Common.{◌-◌, sym, refl, ap, ◌∙◌, arith}
+use Rattle.std.proofs.Common.{sym, refl, ap, ◌∙◌, arith}
 use Rattle.course.specs.Steps.Lay.{stepped_as}
 use Rattle.course.proofs.WalkSteps.{begun, walked-full, walked-refused, walked_end, walked_on}
 use Rattle.course.proofs.walk.walk_round.Goals as goal

@@ -4,7 +4,7 @@ use Rattle.form.specs.Rules.Bytes.{float_bytes}
 use Rattle.form.proofs.Filling.{begins, ends}
 use lib.Ieee.{nan, binary64, to_bits}
 use lib.ListN.{length}
-use Prim.Native.Nat.{◌-◌, ◌≤◌}
+use Prim.Native.Nat.{◌≤◌}
 use mathlib.Core.Path.{refl, sym}
 use native.Mathlib.Omega.{arith}
 use Rattle.form.proofs.float.put_floats.Goals as goal

@@ -3,7 +3,7 @@ use Rattle.form.proofs.Filling.{begins, steps, ends}
 use Rattle.form.proofs.ByteLaws.{from-none, from_all, from_more, fill-short, fill-room, from-length}
 use lib.Ieee.{binary64, of_bits}
 use lib.ListN.{length}
-use Prim.Native.Nat.{◌-◌, ◌≤◌, ◌<◌}
+use Prim.Native.Nat.{◌≤◌, ◌<◌}
 use mathlib.Core.Path.{sym, ap, ◌∙◌}
 use native.Mathlib.Omega.{arith}
 use Rattle.form.proofs.float.read_floats.Goals as goal

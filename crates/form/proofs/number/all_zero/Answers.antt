@@ -3,7 +3,7 @@ use borrow.Author.Tests.{eq-eqb, ne_eqb}
 use Rattle.form.specs.Rules.Bytes.{all_zero}
 use Rattle.form.proofs.ByteLaws.{zero-end, zero-step}
 use lib.ListN.{drop}
-use Prim.Native.Nat.{◌+◌, ◌-◌}
+use Prim.Native.Nat.{◌+◌}
 use mathlib.Core.Path.{refl, sym, ap, ◌∙◌}
 use mathlib.Core.Bool.{Bool, ◌&&◌}
 use native.Mathlib.Omega.{arith}

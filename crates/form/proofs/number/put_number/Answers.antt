@@ -3,7 +3,7 @@ use Rattle.form.proofs.ByteLaws.{low-all, stored, low-length, low-none, low-more
 use Rattle.form.specs.Rules.Bytes.{low}
 use Rattle.form.proofs.Filling.{begins, steps, ends}
 use lib.ListN.{length}
-use Prim.Native.Nat.{◌-◌, ◌≤◌}
+use Prim.Native.Nat.{◌≤◌}
 use mathlib.Core.Path.{sym}
 use native.Mathlib.Omega.{arith}
 use Rattle.form.proofs.number.put_number.Goals as goal

@@ -3,7 +3,7 @@ use Rattle.form.proofs.ByteLaws.{eight-on, each-length, each_none, stored, store
 use Rattle.form.proofs.Filling.{begins, ends}
 use Rattle.form.specs.Rules.Bytes.{word_bytes}
 use lib.ListN.{length}
-use Prim.Native.Nat.{ℕ, ◌-◌, ◌≤◌}
+use Prim.Native.Nat.{ℕ, ◌≤◌}
 use mathlib.Core.Path.{refl, sym}
 use native.Mathlib.Omega.{arith}
 use Rattle.form.proofs.number.put_words.Goals as goal

@@ -2,7 +2,7 @@
 use Rattle.form.proofs.Filling.{begins, steps, ends}
 use Rattle.form.proofs.ByteLaws.{from-none, from_all, from_more, fill-short, fill-room, from-length}
 use lib.ListN.{length}
-use Prim.Native.Nat.{ℕ, ◌-◌, ◌≤◌, ◌<◌}
+use Prim.Native.Nat.{ℕ, ◌≤◌, ◌<◌}
 use mathlib.Core.Path.{sym}
 use native.Mathlib.Omega.{arith}
 use Rattle.form.proofs.number.read_words.Goals as goal

@@ -2,7 +2,6 @@
 use Rattle.form.proofs.Filling.{ends-whole, begins, steps}
 use lib.ListN.{drop_of_length-le}
 use Rattle.form.proofs.TableLaws.{row_at}
-use Prim.Native.Nat.{◌-◌}
 use mathlib.Core.Path.{refl}
 use native.Mathlib.Omega.{arith}
 use Rattle.form.proofs.pack.copy.Goals as goal

@@ -1,6 +1,5 @@
 -- `form::table::has_room` meets its contract. Assumes nothing.
 use Rattle.form.proofs.TableLaws.{less-room, no_room, some-room}
-use Prim.Native.Nat.{◌-◌}
 use mathlib.Core.Path.{refl}
 use native.Mathlib.Omega.{arith}
 use Rattle.form.proofs.table.has_room.Goals as goal

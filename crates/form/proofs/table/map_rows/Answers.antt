@@ -2,7 +2,7 @@
 use Rattle.form.proofs.TableLaws.{end-within, map_more, map-none, gathered, gathered-all, power_small, power-more, value-small}
 use Rattle.form.specs.Rules.Form.{cut, map_of, bit}
 use lib.ListN.{drop}
-use Prim.Native.Nat.{ℕ, ◌+◌, ◌*◌, ◌-◌}
+use Prim.Native.Nat.{ℕ, ◌+◌, ◌*◌}
 use mathlib.Core.Path.{refl, sym, ap, ◌∙◌}
 use mathlib.Core.Bool.{Bool, not}
 use native.Mathlib.Omega.{arith}

@@ -2,7 +2,7 @@
 use Rattle.form.proofs.Filling.{ends-whole, begins, steps}
 use lib.ListN.{length-replicate, length}
 use Rattle.form.proofs.ByteLaws.{zeros-all, zeros-more, zeros-none}
-use Prim.Native.Nat.{ℕ, ◌-◌, ◌≤◌}
+use Prim.Native.Nat.{ℕ, ◌≤◌}
 use native.Mathlib.Omega.{arith}
 use Rattle.form.proofs.unpack.clear.Goals as goal
 

@@ -1,6 +1,5 @@
 -- `form::unpack::is_form` meets its contract. Assumes nothing.
 use Rattle.form.proofs.ReadLaws.{on-within, form-on, form-off, form-end}
-use Prim.Native.Nat.{◌-◌}
 use mathlib.Core.Path.{refl, sym, ◌∙◌}
 use native.Mathlib.Omega.{arith}
 use Rattle.form.proofs.unpack.is_form.Goals as goal

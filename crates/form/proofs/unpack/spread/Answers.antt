@@ -1,7 +1,6 @@
 -- `form::unpack::spread` meets its contract. Assumes nothing.
 use Rattle.form.proofs.ReadLaws.{spread-room, spread-enough, spread-more, joined_length, fields-none}
 use Rattle.form.proofs.Filling.{begins, ends}
-use Prim.Native.Nat.{◌-◌}
 use mathlib.Core.Path.{refl}
 use mathlib.Core.List.{[]}
 use native.Mathlib.Omega.{arith}

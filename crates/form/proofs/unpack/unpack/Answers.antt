@@ -2,7 +2,7 @@
 use Rattle.form.specs.Steps.Form.{whole, fields_in}
 use Rattle.form.specs.Rules.Form.{rows_of, parse, joined, map_in}
 use borrow.Author.Tests.{leb-true}
-use Rattle.form.proofs.ReadLaws.{parsed-short, parsed-long, not-whole, unpack-broken, unpack-short, unpack-whole, form-enough, rest-whole, not-true, not-false}
+use Rattle.form.proofs.ReadLaws.{parsed-short, parsed-long, not-whole, unpack-broken, unpack-short, unpack-whole, form-enough, rest-whole}
 use lib.ListN.{length, take, drop}
 use Prim.Native.Nat.{ℕ, ◌-◌}
 use mathlib.Core.Path.{◌≡◌, sym, ap, ◌∙◌}

@@ -1,0 +1,8 @@
+-- `abi::runs::grader_settle_parts` meets its contract. Assumes nothing.
+use Rattle.abi.proofs.FlatLaws.{settled-whole}
+use Rattle.abi.specs.Grader.InPlace.{settle_in_place}
+use Rattle.abi.proofs.runs.grader_settle_parts.Goals as goal
+
+pub returns : goal.returns
+unfolding settle_in_place
+returns c = settled-whole c.settle_cause.ensures c.settle_values-v.ensures c.settle_parts-s.ensures

@@ -1,0 +1,56 @@
+-- `certificate::replay::replay` meets its contract. Assumes nothing.
+use mathlib.Core.Path.{sym, ◌∙◌}
+use Rattle.run.specs.Grader.State.{view}
+use Rattle.course.specs.Grader.Outcome.{laid_answer}
+use Rattle.run.specs.Grader.Start.{start_answer}
+use Rattle.run.specs.Grader.Sheet.{sheet_answer}
+use Rattle.certificate.specs.Grader.Replay.{replay_of}
+use Rattle.certificate.proofs.ReplayLaws.{room-each, replayed}
+use Rattle.certificate.proofs.replay.replay.Goals as goal
+
+pub returns-then-not-room_for : goal.returns-then-not-room_for
+unfolding replay_of laid_answer start_answer sheet_answer
+returns-then-not-room_for c = rw (sym c.room_for.ensures ∙ c.if-not-room_for.true)
+
+pub replies-last-requires : goal.replies-last-requires
+replies-last-requires c =
+    let r = room-each (sym c.room_for.ensures ∙ c.if-not-room_for.false) in
+    record { many_in_bounds = r.calls; many_in_bounds_2 = r.given; many_in_bounds_3 = r.words; many_in_bounds_4 = r.numbers }
+
+pub shape_of-alpha : goal.shape_of-alpha
+shape_of-alpha c = c.lay-laid.auto.alpha
+
+pub shape_of-beta : goal.shape_of-beta
+shape_of-beta c = c.lay-laid.auto.beta
+
+pub shape_of-x : goal.shape_of-x
+shape_of-x c = c.lay-laid.auto.x
+
+pub shape_of-y : goal.shape_of-y
+shape_of-y c = c.lay-laid.auto.y
+
+pub shape_of-tiles : goal.shape_of-tiles
+shape_of-tiles c = c.lay-laid.auto.tiles
+
+pub shape_of-offsets : goal.shape_of-offsets
+shape_of-offsets c = c.lay-laid.auto.offsets
+
+pub shape_of-list : goal.shape_of-list
+shape_of-list c = c.lay-laid.auto.list
+
+pub returns : goal.returns
+unfolding view
+returns c =
+    replayed
+    (record {
+      room = sym c.room_for.ensures ∙ c.if-not-room_for.false;
+      laid = c.lay-laid.ensures;
+      tiles = c.lay-laid.auto.tiles;
+      offsets = c.lay-laid.auto.offsets;
+      values = c.laid_values-course.ensures;
+      start = c.start-s.ensures;
+      state = c.replies-last.ensures.result_value;
+      answered = c.replies-last.ensures.words_after;
+      numbered = c.replies-last.ensures.numbers_after;
+      sheet = c.sheet.ensures;
+    })

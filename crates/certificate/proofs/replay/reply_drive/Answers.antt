@@ -1,0 +1,10 @@
+-- `certificate::replay::reply_drive` meets its contract. Assumes nothing.
+use Rattle.run.specs.Grader.State.{view}
+use Rattle.certificate.proofs.CallColumnLaws.{answered-drive}
+use Rattle.run.specs.Grader.Widths.{full_words, most_tiles}
+use Rattle.certificate.proofs.replay.reply_drive.Goals as goal
+
+pub returns : goal.returns
+returns c =
+    let whole = answered-drive full_words most_tiles (view c.args.run) c.args.action c.motions.result c.args.given.now c.drive-d.result.answer c.drive-d.result.forces (view c.drive-d.result.run) _ _ c.motions.ensures c.drive-d.ensures c.put_drive.ensures.words_after c.put_drive.ensures.numbers_after in
+    record { result_value = whole.0; words_after = whole.1.0; numbers_after = whole.1.1 }

@@ -1,0 +1,10 @@
+-- `certificate::replay::reply_settle` meets its contract. Assumes nothing.
+use Rattle.run.specs.Grader.State.{view}
+use Rattle.certificate.proofs.CallColumnLaws.{answered-settle}
+use Rattle.run.specs.Grader.Widths.{full_words, most_tiles}
+use Rattle.certificate.proofs.replay.reply_settle.Goals as goal
+
+pub returns : goal.returns
+returns c =
+    let whole = answered-settle full_words most_tiles (view c.args.run) _ _ _ _ c.args.given.now c.settle-d.result.answer (view c.settle-d.result.run) _ _ c.poses.ensures c.settle-d.ensures c.put_settle.ensures.words_after c.put_settle.ensures.numbers_after in
+    record { result_value = whole.0; words_after = whole.1.0; numbers_after = whole.1.1 }

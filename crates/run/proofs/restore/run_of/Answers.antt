@@ -1,0 +1,34 @@
+-- `run::restore::run_of` meets its contract. Assumes nothing.
+use Rattle.run.specs.Steps.Load.{fields_as}
+use Rattle.run.specs.Grader.State.{view}
+use Rattle.run.proofs.NumberLaws.{car-parts}
+use lib.ListN.{length}
+use mathlib.Core.List.{[], ◌∷◌, ◌++◌}
+use mathlib.Core.Path.{◌≡◌, ap, ◌∙◌}
+use Rattle.run.specs.Grader.Restore.{bit_count, run_from}
+use Rattle.run.specs.Grader.Numbers.{car_from}
+use mathlib.Core.Bool.{false}
+use borrow.Author.Rules.{rules}
+use Rattle.run.proofs.restore.run_of.Goals as goal
+
+pub returns : goal.returns
+unfolding view bit_count
+returns c =
+    let car-long : length c.args.f.car ≡ 21 =
+    search rules
+    in
+    let f = fields_as c.args.f in
+    let credited = c.args.credited in
+    let wheels = c.args.wheels in
+    let count : c.count-count.result ≡ bit_count credited = c.count-count.ensures in
+    let car : c.car_from-car.result ≡ car_from (f.controls ++ (f.fuel ∷ [])) = c.car_from-car.ensures.value ∙ ap car_from (car-parts c.args.f.car car-long) in
+    let all = run_from f credited wheels in
+    λ i. record {
+      setup = all.setup;
+      progress = record { visited_count = count i; tick = f.tick; lap = f.lap; ended = f.ended; driven = false };
+      car = car i;
+      credited = credited;
+      wheels = wheels;
+      poses = f.poses;
+      seed = f.seed;
+    }

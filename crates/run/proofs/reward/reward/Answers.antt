@@ -1,0 +1,12 @@
+-- `run::reward::reward` meets its contract. Assumes nothing.
+use Rattle.course.specs.Rules.Arithmetic.{natural}
+use Rattle.run.specs.Rules.Reward.{reward_of}
+use Rattle.run.proofs.reward.reward.Goals as goal
+
+pub returns-then-off : goal.returns-then-off
+unfolding reward_of
+returns-then-off c = rw c.if-off.true
+
+pub returns : goal.returns
+unfolding reward_of natural
+returns c = simp (← c.at_least_one-m.ensures, c.if-off.false)

@@ -1,0 +1,53 @@
+-- `run::start::start_cause` meets its contract. Assumes nothing.
+use Rattle.run.specs.Grader.Start.{start_cause, start_short}
+use Rattle.run.specs.Grader.State.{columns, short_of}
+use mathlib.Core.Bool.{cond, not}
+use mathlib.Core.Path.{◌≡◌, sym, ◌∙◌}
+use Rattle.run.proofs.CellLaws.{cells-sound-is}
+use Rattle.run.proofs.start.start_cause.Goals as goal
+
+pub returns-then-not-settings_ok : goal.returns-then-not-settings_ok
+unfolding start_cause
+returns-then-not-settings_ok c = simp (← c.settings_ok.ensures, c.if-not-settings_ok.true)
+
+pub returns-then-is_short-n : goal.returns-then-is_short-n
+unfolding start_cause start_short short_of
+returns-then-is_short-n c = simp (← c.settings_ok.ensures, c.if-not-settings_ok.false, ← c.is_short.ensures, c.if-is_short-n.true)
+
+pub returns-then-not-poses_ok : goal.returns-then-not-poses_ok
+unfolding start_cause start_short short_of
+returns-then-not-poses_ok c = simp (← c.settings_ok.ensures, c.if-not-settings_ok.false, ← c.is_short.ensures, c.if-is_short-n.false, ← c.poses_ok.ensures, c.if-not-poses_ok.true)
+
+pub returns-then-not-cells_sound : goal.returns-then-not-cells_sound
+unfolding start_cause start_short short_of
+returns-then-not-cells_sound c =
+    let past-poses : (let a = c.args in start_cause a.most (columns a.tiles.now a.offsets.now a.list.now) (record { n = a.n; fallback = a.fallback; seed = a.seed; share = a.share; limit = a.limit; poses = a.poses })) ≡ cond (not c.cells_sound.result) 10 0 =
+    let a = c.args in
+    simp (
+      ← c.settings_ok.ensures,
+      c.if-not-settings_ok.false,
+      ← c.is_short.ensures,
+      c.if-is_short-n.false,
+      ← c.poses_ok.ensures,
+      c.if-not-poses_ok.false,
+      ← cells-sound-is a.offsets.now a.list.now a.n a.poses c.requires c.cells_sound.ensures,
+    )
+    in
+    sym (past-poses ∙ simp c.if-not-cells_sound.true)
+
+pub returns : goal.returns
+unfolding start_cause start_short short_of
+returns c =
+    let past-poses : (let a = c.args in start_cause a.most (columns a.tiles.now a.offsets.now a.list.now) (record { n = a.n; fallback = a.fallback; seed = a.seed; share = a.share; limit = a.limit; poses = a.poses })) ≡ cond (not c.cells_sound.result) 10 0 =
+    let a = c.args in
+    simp (
+      ← c.settings_ok.ensures,
+      c.if-not-settings_ok.false,
+      ← c.is_short.ensures,
+      c.if-is_short-n.false,
+      ← c.poses_ok.ensures,
+      c.if-not-poses_ok.false,
+      ← cells-sound-is a.offsets.now a.list.now a.n a.poses c.requires c.cells_sound.ensures,
+    )
+    in
+    sym (past-poses ∙ simp c.if-not-cells_sound.false)
