@@ -1,4 +1,4 @@
-/* The grader's C boundary: target/staticlib/libabi.a, which `rt staticlib abi` writes. x86-64 Linux; link it alone. C99 or later, or C++.
+/* The grader's C boundary: crates/abi/out/libabi.a, which `rt lib` in crates/abi writes. Linux on x86-64-v2; link it alone. C99 or later, or C++.
  *
  * Columns. `IN(T, p)` is lent for reading, `OUT(T, p)` for writing: a pointer, then a length in elements. The pointer is
  * aligned and not null, even where the length is 0; a column lent for writing overlaps no other argument. The same goes for

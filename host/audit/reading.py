@@ -29,7 +29,7 @@ ROWS = {"the certificate, with the contract of `replay`": "certificate", "the pl
 ROOMS = ("Rules", "Claim", "Grader", "Laws", "Steps")
 COUNTED = (*ROOMS[:3], "src")
 # what Rattle and its proof language have of their own
-WORDS = set("record let in where do module Type now λ → ← ∀ = : _ ⌜ ⌝ ⊥ ⊤ × | Self".split())
+WORDS = set("record let in where module Type λ → ∀ = : _ ⊥ ⊤ × | Self".split())
 SIMPLE = set("self u8 u16 u32 u64 usize i8 i16 i32 i64 isize f32 f64 bool mut a Self as static".split())
 NUMBER = re.compile(r"^(0x[0-9A-Fa-f_]+|[0-9][0-9_]*)$")
 INDENT = re.compile(r"^ *")
@@ -75,7 +75,7 @@ class File:
 # ---- definitions: the files of specs/ and proofs/
 
 HEAD = re.compile(r"^(?:(?:abbrev|unfoldable|opaque|private|pub) )*(?:(?P<kind>record|data) (?P<type>[^\s(]+)|(?P<name>[^\s(){}]+) :(?= |$))")
-USE = re.compile(r"^(?:pub )?(?:ghost )?use ([^{]+)\.\{(.*)\};?$")
+USE = re.compile(r"^(?:pub )?(?:ghost )?use ([^{ ;]+)(?:\.\{(.*)\}| as ([^ ;]+));?$")
 FIXITY = re.compile(r"^infix[lr]? \d+ (\S+)$")
 SECTION = re.compile(r"^module _ .*where$")
 
@@ -86,11 +86,11 @@ def plain(text):
 
 
 def tokens(text):
-    """Names as they stand, but not what follows a dot (a field) or stands before '=' in a record."""
+    """Names as they stand, but not what follows a dot (a field, or a case of a type) or stands before '=' in a record."""
     text = re.sub(r"([{;]\s*)([^\s={};()]+)(\s*=\s)", r"\1\3", text)
-    for token in re.split(r"[\s(){}\[\];,⌜⌝]+", text):
-        token = token.rstrip(".")
-        if token and not token.startswith("."):
+    for token in re.split(r"[\s(){}\[\];,]+", text):
+        token = token.split(".")[0]
+        if token:
             yield token
 
 
@@ -99,7 +99,10 @@ def take_names(file, line):
     m = USE.match(line)
     if not m:
         return
-    path, names = m.groups()
+    path, names, alias = m.groups()
+    if alias:
+        file.taken.setdefault(alias, (path, alias))
+        return
     for part in filter(None, (p.strip() for p in names.split(","))):
         there, _, here = part.partition(" as ")
         file.taken[here or there] = (path, there)
@@ -178,9 +181,29 @@ def clauses(item):
 
 # ---- declarations and contracts: the files of src/
 
+USED = re.compile(r"(?m)^(?:pub(?:\(crate\))? )?use ([^;]+);")
 DECLARED = re.compile(r"^(?:pub(?:\(crate\))? )?(struct|enum|const) (\w+)")
 CALL = re.compile(r'^( *)pub (?:extern "C" )?fn (\w+)')
 IMPL = re.compile(r"^impl (\w+)")
+
+
+def used_paths(tree):
+    """The paths that a `use` item of src/ names, as lists of their parts."""
+    front, brace, inner = tree.strip().partition("{")
+    front = [p for p in front.split("::") if p]
+    if not brace:
+        yield front
+        return
+    parts, depth = [""], 0
+    for c in inner[:inner.rindex("}")]:
+        depth += (c == "{") - (c == "}")
+        if c == "," and depth == 0:
+            parts.append("")
+        else:
+            parts[-1] += c
+    for part in filter(str.strip, parts):
+        for path in used_paths(part):
+            yield front + path
 
 
 def read_source(path, crate, root):
@@ -188,11 +211,11 @@ def read_source(path, crate, root):
     parts = list(path.relative_to(root).with_suffix("").parts)
     file.module = [] if parts in (["lib"], ["main"]) else [p for p in parts if p != "mod"]
     file.used, file.calls, of = {}, [], None
+    for m in USED.finditer("\n".join(file.text)):
+        for path in used_paths(m[1]):
+            file.used[path[-1]] = path
     for at, line in enumerate(file.text):
         take_names(file, line)
-        m = re.match(r"^(?:pub )?use ([\w:]+);", line)
-        if m:
-            file.used[m[1].split("::")[-1]] = m[1].split("::")
         m = IMPL.match(line)
         of = m[1] if m else (None if line.startswith("}") else of)
         m = DECLARED.match(line)
@@ -201,7 +224,7 @@ def read_source(path, crate, root):
             item.private = not line.startswith("pub ")
             end = at + 1
             if not line.rstrip().endswith(";"):
-                while file.text[end - 1].rstrip() != "}":
+                while file.text[end - 1].rstrip() not in ("}", "};") and not (m[1] == "const" and file.text[end - 1].rstrip().endswith(";")):
                     end += 1
             file.close(item, "//", end)
             file.own[m[2]] = item
@@ -227,8 +250,8 @@ def read_contract(file, at, m, of):
     text = "\n".join(file.text[at:])
     begin = text.index("(", m.end())
     place = closing(text, begin)
-    clause = re.compile(r"\s*(requires|ensures|decreases)\s*\{")
-    bare = re.compile(r"[^{]*?(?=\s*(?:requires|ensures|decreases)\s*\{|\s*\{)", re.S)
+    clause = re.compile(r"\s*(?:requires|ensures|decreases)\b\*?(?:\s+\w+)?\s*\{")
+    bare = re.compile(r"[^{]*?(?=\s*(?:requires|ensures|decreases)\b\*?(?:\s+\w+)?\s*\{|\s*\{)", re.S)
     place = bare.match(text, place).end()
     name = "::".join([file.crate, *file.module, *([of] if of else []), m[2]])
     item = Item(file, name, "contract", at)
@@ -237,7 +260,7 @@ def read_contract(file, at, m, of):
         end = closing(text, c.end() - 1)
         item.clauses.append(text[c.end():end - 1])
         place = end
-    item.bound = set(re.findall(r"(\w+)\s*:(?!:)", item.types)) | {"self"}
+    item.bound = set(re.findall(r"(\w+)\s*:(?!:)", item.types)) | {"self", "result"}
     file.close(item, "//", at + text.count("\n", 0, place) + 1)
     file.calls.append(item)
 
@@ -247,6 +270,7 @@ def read_contract(file, at, m, of):
 class Tree:
     def __init__(self):
         self.specs, self.proofs, self.source, self.calls = {}, {}, {}, []
+        self.crates = {p.parent.name for p in CRATES.glob("*/src")}
         for root in sorted(p.parent for p in CRATES.glob("*/specs") if p.is_dir()):
             crate = root.name
             for path in sorted((root / "specs").rglob("*.antt")):
@@ -269,16 +293,15 @@ class Tree:
 
     # where a name leads: an item, ("kit", library), ("proofs", path) or None
     def follow(self, path, name):
-        head, *rest = path.split(".")
-        if not head.startswith("Rattle·"):
+        head, crate, part, *rest = [*path.split("."), "", ""]
+        rest = [p for p in rest if p]
+        if head != "Rattle" or crate not in self.crates:
             return "kit", path
-        crate = head.split("·")[1]
-        if rest[:1] == ["proofs"]:
+        if part == "proofs":
             return "proofs", path + "." + name
-        rest = rest[1:]
         if rest[:1] == ["declared"]:
             rest = rest[1:]
-            if rest[-1] == "the-variants":
+            if rest[-1] == "TheVariants":
                 rest = rest[:-1]
             file = self.source.get((crate, tuple(rest[:-1])))
             return file and file.own.get(rest[-1])
@@ -296,7 +319,7 @@ class Tree:
             return self.follow(*file.taken[name])
         # an operator is cited by its sign
         for full in (*file.own, *file.taken):
-            if "_" in full and len(full) > 1 and name in full.split("_"):
+            if "◌" in full and name in full.split("◌"):
                 return self.find(file, full)
         return None
 
@@ -305,8 +328,6 @@ class Tree:
             if token in bound or token in WORDS or NUMBER.match(token):
                 continue
             there = self.find(file, token)
-            if there is None and "." in token:
-                there = self.find(file, token.split(".")[0])
             if there is None:
                 item.lost.append(token)
             elif isinstance(there, tuple):
@@ -363,7 +384,7 @@ class Tree:
     def cite_contract(self, file, item):
         self.cite_types(file, item, item.types.replace("->", " "))
         for text in item.clauses:
-            text = re.sub(r"⟦[^⟧]*⟧", " ", plain(text))
+            text = plain(text)
             self.cite(file, item, tokens(text), item.bound | binders(text))
 
 

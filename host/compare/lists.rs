@@ -18,7 +18,7 @@ struct Stored {
     answers: String,
 }
 
-/// What a program may print, in bytes: `rt` stops it there.
+/// What a program may print, in bytes: past it `rt try` gives no answer.
 const PRINTED: usize = 1 << 20;
 
 impl Stored {
