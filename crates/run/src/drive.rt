@@ -201,6 +201,7 @@ fn motions_ok(m: [Motion; 4]) -> bool
 }
 
 // The number of the first cause that holds, or 0.
+#[tactic(auto, unfolding(crate::specs::Grader::Drive::drive_cause))]
 fn drive_cause(most: u32, setup: Setup, progress: Progress, action: u32, motion: [Motion; 4]) -> u32
     ensures { result ≡ drive_cause most setup progress action motion }
 {

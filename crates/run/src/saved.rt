@@ -24,6 +24,7 @@ pub(crate) fn field_bytes() -> [usize; FIELDS]
 }
 
 // A seed in its field, and 0 in the other.
+#[tactic(auto, unfolding(crate::specs::Steps::Save::seed_parts, crate::specs::Grader::Saved::narrow_part, crate::specs::Grader::Saved::wide_part))]
 pub(crate) fn seed_parts(seed: u64) -> SeedParts
     ensures { result ≡ seed_parts seed }
 {
