@@ -42,12 +42,11 @@ pub fn wrapping_mul64(a: u64, b: u64) -> u64
     std::num::wrapping_add_u64(a0 * b0, high)
 }
 
-// The draw shifted right by 11, over 2^53: times 2^-53, which is the same number and takes no division.
+// The draw shifted right 11, over 2^53: times 2^-53, which is the same number and takes no division.
 pub fn unit_of(draw: u64) -> f64
     ensures { result ≡ unit_of draw }
 {
-    let shifted = draw >> 11;
-    shifted as f64 * 1.1102230246251565e-16
+    (draw >> 11) as f64 * 1.1102230246251565e-16
 }
 
 // From lo to hi by u, a number from 0 to 1.

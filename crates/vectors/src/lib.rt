@@ -7,6 +7,8 @@
 // A lent column is a part of a longer one, which holds numbers before the call that no call writes: its hash
 // afterwards, of the whole, shows what was written, and that nothing else was.
 //
+// What prints a line takes the writer first. Its error, where a write fails, is the answer.
+//
 // Every function here is proved safe and ending. No public function has a `requires`.
 #![tactic(auto)]
 
@@ -26,7 +28,8 @@ const INFINITY: u64 = 0x7ff0_0000_0000_0000;
 
 const SIGN: u64 = 0x8000_0000_0000_0000;
 
-// Reads the list into buf until it ends or buf is full, and answers how many bytes came.
+// Reads the list into buf until it ends or buf is full, and answers how many bytes came. Where a read fails, its error is
+// the answer, and nothing is said of buf.
 pub fn read_list<R: Read>(input: &mut R, buf: &mut [u8]) -> io::Result<usize>
     ensures { ReadsAtMost result buf.new }
 {
