@@ -41,7 +41,8 @@ fn reply_drive(run: Run, action: u32, given: &[f64], words: &mut [u32], numbers:
     requires in_bounds { 20 ≤ length given.now }
     requires words_len { length words.old ≡ 4 }
     requires numbers_len { length numbers.old ≡ 12 }
-    ensures result_value { view result ≡ (reply_of full_words most_tiles (view run) (Call.drive action (motions_from given.now))).state }
+    ensures result_value { view result
+        ≡ (reply_of full_words most_tiles (view run) (Call.drive action (motions_from given.now))).state }
     ensures words_after { words.new
         ≡ words_of
         (reply_of full_words most_tiles (view run) (Call.drive action (motions_from given.now))).answer }

@@ -214,7 +214,8 @@ fn place_rect(o: &mut [u32], l: &mut [u32], id: u32, r: Rect)
     requires small { Small (rect_as r) }
     requires o_len { length o.old ≡ offset_count }
     requires l_len_bound { length l.old ≤ most_points * cell_count }
-    requires by_index { (c : ℕ) → c < cell_count → holds (rect_as r) c ≡ true → slice_index o.old (c + 1) < length l.old }
+    requires by_index { (c : ℕ) → c < cell_count → holds (rect_as r) c ≡ true
+        → slice_index o.old (c + 1) < length l.old }
     ensures { RectPlaced o.old l.old o.new l.new id (rect_as r) }
 {
     let x0 = r.x0;

@@ -158,7 +158,8 @@ fn tested(s: u64, e: u64, d: u64) -> Verdict
 
 // The root of n * 4^27 where s * 2^22 + d is not it: one of the neighbours, or else by digits.
 fn mended(n: u64, s: u64, e: u64, d: u64) -> Root
-    requires { (n < 18014398509481984) × (s * s + e ≡ n * 1024) × (s < 4294967296) × (e < 137438953472) × (d < 268435456) }
+    requires { (n < 18014398509481984) × (s * s + e ≡ n * 1024) × (s < 4294967296)
+        × (e < 137438953472) × (d < 268435456) }
     ensures { Leaves (n * 18014398509481984) result.whole result.left }
 {
     let below = std::num::wrapping_sub_u64(d, 1) % 0x1000_0000;
@@ -237,7 +238,8 @@ fn scaled(b: u64) -> Normal
 // which the last rounds the others.
 fn root_bits(b: u64, k: u64) -> u64
     requires { (4503599627370496 ≤ b) × (b < 9218868437227405312) × (k ≤ 27) × (2 * k ≤ 51 + b / 4503599627370496) }
-    ensures { (from_bits binary64 result ≡ nearest_root (significand b * 2 ^ power b k)) × (result < 9218868437227405312) }
+    ensures { (from_bits binary64 result ≡ nearest_root (significand b * 2 ^ power b k))
+        × (result < 9218868437227405312) }
 {
     let l = (b + LEAD) % (2 * LEAD);
     let n = (LEAD + b % LEAD) << (l / LEAD);

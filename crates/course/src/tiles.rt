@@ -78,7 +78,8 @@ fn put(l: &mut [f64], i: usize, v: f64)
 // A corner's two numbers stand from number `at` on.
 fn put_corner(tiles: &mut [f64], at: usize, c: [f64; 2])
     requires { at + 2 ≤ length tiles.old }
-    ensures { tiles.new ≡ slice_set (slice_set tiles.old at (slice_index_or c 0 nan)) (at + 1) (slice_index_or c 1 nan) }
+    ensures { tiles.new
+        ≡ slice_set (slice_set tiles.old at (slice_index_or c 0 nan)) (at + 1) (slice_index_or c 1 nan) }
 {
     put(tiles, at, c[0]);
     let b = at + 1;

@@ -13,7 +13,7 @@ use course::curbs::CurbAnswer;
 use course::points::Laid;
 use course::{curbs, index, points};
 use std::io;
-use std::io::{BufWriter, Write};
+use std::io::Write;
 use vectors::{front, hash};
 
 // First place, number of points, and each point's beta, x and y: into the given columns.
@@ -297,15 +297,14 @@ fn replay<W: Write>(
 }
 
 fn main(rt: HostRuntime) -> io::Result<()> {
-    let mut list = vec![in rt.alloc(); 0u8; 524288]?;
-    let space = list.as_mut_slice();
+    let mut space = [0u8; 524288];
     let mut pbeta = [0.0f64; 2600];
     let mut px = [0.0f64; 2600];
     let mut py = [0.0f64; 2600];
     let mut offsets = [0u32; 4600];
-    let mut ids = vec![in rt.alloc(); 0u32; 450000]?;
-    let n = vectors::read_list(&mut rt.stdin(), space)?;
-    let mut out = BufWriter::new(rt.alloc(), io::writer(&rt))?;
+    let mut ids = [0u32; 450000];
+    let n = vectors::read_list(&mut rt.stdin(), &mut space)?;
+    let mut out = io::writer(&rt);
     replay(
         &mut out,
         &space[..n],
@@ -313,7 +312,6 @@ fn main(rt: HostRuntime) -> io::Result<()> {
         &mut px,
         &mut py,
         &mut offsets,
-        ids.as_mut_slice(),
-    )?;
-    out.flush()
+        &mut ids,
+    )
 }

@@ -13,7 +13,7 @@ use course::checkpoints::Checkpoint;
 use course::lay;
 use course::points::Laid;
 use std::io;
-use std::io::{BufWriter, Write};
+use std::io::Write;
 use vectors::front;
 
 // Seed.
@@ -168,12 +168,10 @@ fn replay<W: Write>(
 }
 
 fn main(rt: HostRuntime) -> io::Result<()> {
-    let mut list = vec![in rt.alloc(); 0u8; 262144]?;
-    let space = list.as_mut_slice();
+    let mut space = [0u8; 262144];
     let mut offsets = [0u32; 4600];
-    let mut ids = vec![in rt.alloc(); 0u32; 30000]?;
-    let n = vectors::read_list(&mut rt.stdin(), space)?;
-    let mut out = BufWriter::new(rt.alloc(), io::writer(&rt))?;
-    replay(&mut out, &space[..n], &mut offsets, ids.as_mut_slice())?;
-    out.flush()
+    let mut ids = [0u32; 30000];
+    let n = vectors::read_list(&mut rt.stdin(), &mut space)?;
+    let mut out = io::writer(&rt);
+    replay(&mut out, &space[..n], &mut offsets, &mut ids)
 }

@@ -12,7 +12,7 @@ ghost use Rattle.std.specs.Prelude.{◌≤◌};
 use course::trig::Angle;
 use course::{cell, numeric, root, trig};
 use std::io;
-use std::io::{BufWriter, Write};
+use std::io::Write;
 
 const SINE: u64 = 1;
 
@@ -93,10 +93,8 @@ fn replay<W: Write>(out: &mut W, list: &[u8]) -> io::Result<()> {
 }
 
 fn main(rt: HostRuntime) -> io::Result<()> {
-    let mut list = vec![in rt.alloc(); 0u8; 262144]?;
-    let space = list.as_mut_slice();
-    let n = vectors::read_list(&mut rt.stdin(), space)?;
-    let mut out = BufWriter::new(rt.alloc(), io::writer(&rt))?;
-    replay(&mut out, &space[..n])?;
-    out.flush()
+    let mut space = [0u8; 262144];
+    let n = vectors::read_list(&mut rt.stdin(), &mut space)?;
+    let mut out = io::writer(&rt);
+    replay(&mut out, &space[..n])
 }

@@ -16,7 +16,7 @@ mod read;
 use certificate::replay;
 use certificate::replay::Replayed;
 use std::io;
-use std::io::{BufWriter, Read, Write};
+use std::io::{Read, Write};
 use vectors::front;
 
 // What stands in each place of a column before a call.
@@ -220,8 +220,7 @@ fn replay_blocks<R: Read, W: Write>(
 }
 
 fn main(rt: HostRuntime) -> io::Result<()> {
-    let mut space = vec![in rt.alloc(); 0u8; 262144]?;
-    let mut out = BufWriter::new(rt.alloc(), io::writer(&rt))?;
-    replay_blocks(&mut rt.stdin(), &mut out, space.as_mut_slice())?;
-    out.flush()
+    let mut space = [0u8; 262144];
+    let mut out = io::writer(&rt);
+    replay_blocks(&mut rt.stdin(), &mut out, &mut space)
 }

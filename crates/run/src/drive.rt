@@ -278,7 +278,8 @@ pub fn drive_parts(
 
 // Forces for the host, or the number of a cause and the state as it was.
 pub fn drive(run: Run, action: u32, motion: [Motion; 4]) -> Drove
-    ensures { driven result.answer result.forces (view result.run) ≡ drive_of full_words most_tiles (view run) action motion }
+    ensures { driven result.answer result.forces (view result.run)
+        ≡ drive_of full_words most_tiles (view run) action motion }
 {
     let setup = run.setup;
     let credited = run.credited;

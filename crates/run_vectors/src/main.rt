@@ -27,7 +27,7 @@ use run::start::StartAnswer;
 use run::state::Run;
 use run::{drive, dynamics, quad, reward, settle, sheet, start};
 use std::io;
-use std::io::{BufWriter, Read, Write};
+use std::io::{Read, Write};
 
 // The state but for its sets, last poses and seed, in the order that read::setup says.
 const CORE: u64 = 5;
@@ -460,18 +460,17 @@ fn replay_blocks<R: Read, W: Write>(
 }
 
 fn main(rt: HostRuntime) -> io::Result<()> {
-    let mut space = vec![in rt.alloc(); 0u8; 262144]?;
-    let mut tiles = vec![in rt.alloc(); 0.0f64; 20100]?;
+    let mut space = [0u8; 262144];
+    let mut tiles = [0.0f64; 20100];
     let mut offsets = [0u32; 4600];
-    let mut ids = vec![in rt.alloc(); 0u32; 60000]?;
-    let mut out = BufWriter::new(rt.alloc(), io::writer(&rt))?;
+    let mut ids = [0u32; 60000];
+    let mut out = io::writer(&rt);
     replay_blocks(
         &mut rt.stdin(),
         &mut out,
-        space.as_mut_slice(),
-        tiles.as_mut_slice(),
+        &mut space,
+        &mut tiles,
         &mut offsets,
-        ids.as_mut_slice(),
-    )?;
-    out.flush()
+        &mut ids,
+    )
 }
