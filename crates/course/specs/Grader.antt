@@ -1,4 +1,6 @@
 -- The grader's own, in the order in which to read it: the look-up, what the calls answer and what they leave in the lent columns.
+-- the number of each cause of a refusal
+pub mod Cause
 -- what the calls of sine, cosine and atan2 answer
 pub mod Angle
 -- which ids each cell lists, and the look-up

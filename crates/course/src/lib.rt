@@ -4,6 +4,7 @@
 // `requires`. The definitions that the contracts cite stand in specs/, a file for each heading of document 01.
 #![tactic(auto)]
 
+pub mod cause;
 pub mod cell;
 pub mod checkpoints;
 mod columns;

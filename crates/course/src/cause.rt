@@ -1,0 +1,40 @@
+// Why a call is refused (document 01, "Refusals by cause"; document 02, order 1, adds the last two). Cause 3, a short index list, is told with a
+// length: see points.rt.
+ghost use Rattle.std.specs.Prelude.{◌≡◌};
+ghost use Rattle.course.specs.Grader.Cause.{number_of};
+
+#[derive(Clone, Copy, Debug, PartialEq, Eq)]
+pub enum Cause {
+    // lap share or tick limit out of range
+    Settings = 1,
+    // a lent column or output that is too short, or a start's n outside its range
+    Length = 2,
+    // counts of no run, or a run that has ended
+    State = 4,
+    // out of turn
+    Turn = 5,
+    // the tick limit is met
+    Limit = 6,
+    // no such action
+    Action = 7,
+    // a number that is not finite or out of range
+    Range = 8,
+    // given points: none, or too many
+    Count = 9,
+    // a cell that cannot be looked up
+    Index = 10,
+    // bytes that are no saved form
+    Form = 11,
+    // a saved run of another course
+    Course = 12,
+}
+
+impl Cause {
+    // The cause's number.
+    #[tactic(auto, unfolding(crate::specs::Grader::Cause::number_of))]
+    pub fn number(self) -> u32
+        ensures { result ≡ number_of self }
+    {
+        self as u32
+    }
+}

@@ -1,0 +1,141 @@
+#!/usr/bin/env python3
+"""Counts, in crates/*/src, the places of each point of docs/DESIGN-PASS.md.
+
+usage: tools/places.py [COMMIT]
+Without a commit it reads the files as they stand; with one, those of the commit. With -v it lists the places, one a line.
+"""
+import re
+import subprocess
+import sys
+
+verbose = '-v' in sys.argv
+args = [a for a in sys.argv[1:] if not a.startswith('-')]
+commit = args[0] if args else None
+
+
+def sh(*a):
+    return subprocess.run(a, capture_output=True, text=True, check=True).stdout
+
+
+def files():
+    if commit:
+        names = sh('git', 'ls-tree', '-r', '--name-only', commit, 'crates').split()
+    else:
+        names = sh('git', 'ls-files', 'crates').split()
+    for name in sorted(n for n in names if re.fullmatch(r'crates/[a-z_]+/src/.*\.rt', n)):
+        yield name, sh('git', 'show', f'{commit}:{name}') if commit else open(name).read()
+
+
+def code(text):
+    return re.sub(r'//[^\n]*', '', text)
+
+
+found = {}
+
+
+def add(point, name, text, at, what):
+    line = text.count('\n', 0, at) + 1
+    found.setdefault(point, []).append(f'{name}:{line}: {what}')
+
+
+def functions(text):
+    # (name, head, body, at) of each function; a body ends at a line of a single brace at the function's own depth
+    for m in re.finditer(r'^( *)(?:pub(?:\([a-z]+\))? )?(?:extern "C" )?fn (\w+)', text, re.M):
+        end = re.search(r'^' + m.group(1) + r'\}', text[m.end():], re.M)
+        whole = text[m.start():m.end() + end.end()] if end else text[m.start():]
+        cut = re.search(r'^' + m.group(1) + r'\{', whole, re.M)
+        at = cut.start() if cut else whole.find('{')
+        yield m.group(2), whole[:at], whole[at:], m.start()
+
+
+for name, raw in files():
+    text = code(raw)
+    # 1
+    for m in re.finditer(r'\benum (\w+) \{(.*?)\n\}', text, re.S):
+        variants = [v.strip() for v in re.split(r',\n', m.group(2)) if v.strip()]
+        if any(re.match(r'Refused\b|None\b', v) for v in variants):
+            add('1 own enums shaped as Option or Result', name, text, m.start(), m.group(1))
+    for m in re.finditer(r'\bstruct (\w+)(?:<[^>]*>)? \{(.*?)\n\}', text, re.S):
+        if re.search(r'\b(ok|short|answer|cause): ', m.group(2)) and not re.search(r'Flat', m.group(1)):
+            add('1 a flag or an answer with values beside it', name, text, m.start(), m.group(1))
+        elif re.search(r'\b(ok|short|cause): ', m.group(2)):
+            add('1 a flag or an answer with values beside it', name, text, m.start(), m.group(1) + ' (C)')
+    for m in re.finditer(r'const ([A-Z_0-9]+): (u64|u32) = \d+;', text):
+        if '_vectors' in name and m.group(1) not in ('UNTOUCHED_ID', 'MOST'):
+            add('1 numbers for kinds', name, text, m.start(), m.group(1))
+    for f, head, body, at in functions(text):
+        if re.search(r'_cause$|^cause', f) and '-> u32' in head or f in ('given_cause',):
+            add('1 numbers for refusals', name, text, at, f)
+        elif re.search(r'-> u32', head) and re.search(r'return \d+;', body) and '_cause' in f:
+            add('1 numbers for refusals', name, text, at, f)
+    for m in re.finditer(r'Refused\((\d+|k|number|cause)\)', text):
+        if '=>' not in text[m.end():m.end() + 4]:
+            add('1 numbers for refusals', name, text, m.start(), m.group(0))
+    # 3
+    for f, head, body, at in functions(text):
+        for m in re.finditer(r'\bwhile\b([^{]*)\{', body):
+            add('3 loops by while', name, text, at + len(head) + m.start(), f + ': while' + m.group(1).rstrip())
+    # 4
+    for f, head, body, at in functions(text):
+        if re.fullmatch(r'wide|wide_mark|narrow|as_number|bit|indicator|copy|spot|spots|corners|flag', f):
+            add('4 conversions and copies by hand', name, text, at, f)
+        elif 'abi/src/flat' in name and re.search(r'-> (Flat|u32|StartValues|SettleValues)', head):
+            add('4 conversions and copies by hand', name, text, at, f)
+        elif re.search(r'\b(lines?_|more|figures)', f) and 'Write' in head:
+            add('4 printing by hand', name, text, at, f)
+    # 5
+    for f, head, body, at in functions(text):
+        params = re.findall(r'\b(alpha|beta|x|y|tiles|offsets|list): &(?:\'a )?(?:mut )?\[', head)
+        if len(params) >= 3:
+            add('5 columns that travel together', name, text, at, f + ' (' + ', '.join(params) + ')')
+        if re.search(r'cells\.now ≡ sixteen_cells', head):
+            add('5 cells of the poses handed beside them', name, text, at, f)
+        n = len(re.findall(r'(?:laid_length|step_limit) ≤ length', head))
+        if n:
+            add('5 lengths of columns in contracts', name, text, at, f'{f}: {n}')
+    # 6
+    for f, head, body, at in functions(text):
+        if re.search(r'read_list\(', body):
+            add('6 buffers with a length beside', name, text, at, f)
+        if re.search(r'widths: &\[usize\], zeros: &\[bool\]', head):
+            add('6 parallel arrays', name, text, at, f)
+    # 7
+    for m in re.finditer(r'match (vectors::word\(rest, 0\)|code|word_at\(words, k\)) \{', text):
+        add('7 switches by code', name, text, m.start(), m.group(0))
+    for m in re.finditer(r'if asked\[0\] == 0', text):
+        add('7 switches by code', name, text, m.start(), m.group(0))
+
+
+def shape(head, body):
+    # a function with its own name, types, sizes and constants blotted out
+    s = head + body
+    s = re.sub(r'\b(f64|f32|u8|u16|u32|u64|usize|i64|bool)\b', 'T', s)
+    s = re.sub(r'\b0x[0-9a-fA-F_]+\b|\b\d[\d_.]*(e\d+)?\b', 'N', s)
+    s = re.sub(r'\b[A-Z][A-Z0-9_]+\b', 'C', s)
+    return re.sub(r'\s+', ' ', s)
+
+
+# 2: functions that are alike once types, sizes and constants are blotted out; names of callees and locals are numbered by first use
+groups = {}
+for name, raw in files():
+    text = code(raw)
+    for f, head, body, at in functions(text):
+        if 'extern' in head:
+            continue
+        head = re.sub(r'(requires|ensures)\b.*', '', head, flags=re.S)
+        s = shape(head, body)
+        names = {}
+        s = re.sub(r'\b[a-z_][a-zA-Z0-9_]*\b', lambda m: names.setdefault(m.group(0), f'n{len(names)}')
+                   if m.group(0) not in ('let', 'mut', 'if', 'else', 'while', 'return', 'fn', 'pub', 'match', 'as', 'for', 'in', 'true', 'false', 'self', 'usize', 'len') else m.group(0), s)
+        groups.setdefault(s, []).append((name, text, at, f))
+for s, g in groups.items():
+    if len(g) > 1 and len(s) > 60:
+        for name, text, at, f in g:
+            add('2 functions of one shape', name, text, at, f + ' ~ ' + ', '.join(x[3] for x in g if x[3] != f or x[0] != name))
+
+for point in sorted(found):
+    places = found[point]
+    print(f'{len(places):5}  {point}')
+    if verbose:
+        for p in places:
+            print('         ' + p)
