@@ -1,7 +1,7 @@
 // Why a call is refused (document 01, "Refusals by cause"; document 02, order 1, adds the last two). Cause 3, a short index list, is told with a
 // length: see points.rt.
 ghost use Rattle.std.specs.Prelude.{◌≡◌};
-ghost use Rattle.course.specs.Grader.Cause.{number_of};
+ghost use Rattle.course.specs.Grader.Cause.{number_of, cause_number};
 
 #[derive(Clone, Copy, Debug, PartialEq, Eq)]
 pub enum Cause {
@@ -36,5 +36,16 @@ impl Cause {
         ensures { result ≡ number_of self }
     {
         self as u32
+    }
+}
+
+// The number of an answer's cause, 0 where it was not refused.
+#[tactic(auto, unfolding(crate::specs::Grader::Cause::cause_number))]
+pub fn cause_number<T>(answer: &Result<T, Cause>) -> u32
+    ensures { result ≡ cause_number answer.now }
+{
+    match answer {
+        Ok(_) => 0,
+        Err(cause) => cause.number(),
     }
 }

@@ -1,6 +1,6 @@
 -- Document 01, "Refusals by cause", and document 02, order 1 (11 and 12): the number of each cause. Cause 3 is lay's and points' alone, and comes with a length
 -- (Outcome). Assumes nothing.
-use Rattle.std.specs.Prelude.{ℕ}
+use Rattle.std.specs.Prelude.{ℕ, Result, Ok, Err}
 use Rattle.course.specs.declared.cause.Cause.{Cause}
 use Rattle.course.specs.declared.cause.Cause.TheVariants.{Settings, Length, State, Turn, Limit, Action, Range, Count, Index, Form, Course}
 
@@ -16,3 +16,8 @@ number_of Count = 9
 number_of Index = 10
 number_of Form = 11
 number_of Course = 12
+
+-- the number of an answer's cause, 0 where it was not refused
+unfoldable pub cause_number : {A : Type 0} → Result A Cause → ℕ
+cause_number (Ok values) = 0
+cause_number (Err c) = number_of c
