@@ -56,12 +56,10 @@ pub extern "C" fn grader_cell(v: f64) -> u32
 pub extern "C" fn grader_draw(state: u64) -> Draw
     ensures { result ≡ flat_draw (draw_of (at_state state)) }
 {
-    let g = SplitMix64::new(state);
-    let d = g.next_u64();
-    let value = d.value;
-    let next = d.rng;
+    let mut g = SplitMix64::new(state);
+    let value = g.next_u64();
     Draw {
         value,
-        state: next.state(),
+        state: g.state(),
     }
 }

@@ -1,5 +1,5 @@
 -- An attempt's columns: the walk, then its track moved to the front. Assumes nothing.
-use Rattle.std.proofs.Common.{◌≡◌, ℕ, suc, ◌+◌, ◌-◌, ◌<◌, ◌≤◌, Bool, true, false, List, [], ◌∷◌, ◌++◌, map, length, take, drop, sym, refl, ap, ◌∙◌, subst, arith, length-drop, take_at}
+use Rattle.std.proofs.Common.{◌≡◌, ℕ, suc, ◌+◌, ◌-◌, ◌<◌, ◌≤◌, Bool, true, false, List, [], ◌∷◌, ◌++◌, map, length, take, drop, sym, refl, ap, ◌∙◌, arith, length-drop, take_at}
 use lib.ListN.{length-map}
 use lib.Seq.{drop-append-le, take-append-le}
 use lib.Ieee.{Float}
@@ -9,10 +9,7 @@ use Rattle.course.specs.Rules.Track.{step_betas, step_xs, step_ys, track_of}
 use Rattle.course.specs.Rules.Walk.{Trail, follow, onward, walk_from, walk_start, walk_of}
 use Rattle.course.specs.Rules.Tiles.{betas, xs, ys}
 use Rattle.course.specs.Rules.Lay.{point_of, accepted, attempt_on}
-use Rattle.course.specs.Steps.Lay.{drawn_of, Trod, Before, Front, Cut, InFront}
-use Rattle.course.specs.Rules.Checkpoints.{checkpoints_of}
-use Rattle.course.specs.declared.checkpoints.Drawn.{Drawn}
-use Rattle.rng.specs.declared.SplitMix64.{SplitMix64}
+use Rattle.course.specs.Steps.Lay.{Trod, Before, Front, Cut, InFront}
 use Rattle.course.specs.declared.checkpoints.Checkpoint.{Checkpoint}
 use Rattle.course.specs.declared.tiles.TrackPoint.{TrackPoint}
 use Rattle.course.proofs.ColumnLaws.{drop_past}
@@ -141,9 +138,3 @@ module _ {cs : List Checkpoint} {a b x y a₁ b₁ x₁ y₁ : List Float} {w : 
         kept-x = moved-kept laid_length (λ (p : TrackStep). p.x) (steps_of cs) x₁ x w d.x d.count fits-laid x₂ from n mx fits cut;
         kept-y = moved-kept laid_length (λ (p : TrackStep). p.y) (steps_of cs) y₁ y w d.y d.count fits-laid y₂ from n my fits cut;
       }
-
--- the attempt with drawn checkpoints
-pub drawn-front : (g : SplitMix64) {d : Drawn} {a b x y a' b' x' y' : List Float} {n : ℕ} → d ≡ drawn_of g → InFront (attempt_on d.checkpoints) a b x y a' b' x' y' n
-    → InFront (attempt_on (checkpoints_of 12 g)) a b x y a' b' x' y' n
-unfolding drawn_of
-drawn-front g {a = a} {b} {x} {y} {a'} {b'} {x'} {y'} {n} e h = subst (λ (z : Drawn). InFront (attempt_on z.checkpoints) a b x y a' b' x' y' n) e h

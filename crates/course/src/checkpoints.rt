@@ -1,7 +1,7 @@
 // The twelve checkpoints of an attempt (document 01, "Lay": `try_generate`), from 24 draws.
 ghost use Rattle.std.specs.Prelude.{◌≡◌};
-ghost use Rattle.course.specs.Rules.Checkpoints.{spot_of, checkpoint_of};
-ghost use Rattle.course.specs.Steps.Lay.{drawn_of};
+ghost use Rattle.rng.specs.Rules.SplitMix.{after};
+ghost use Rattle.course.specs.Rules.Checkpoints.{spot_of, checkpoint_of, checkpoints_of};
 
 use crate::constants::{FAR_RAD, TAU, TRACK_RAD};
 use crate::trig;
@@ -17,13 +17,6 @@ pub struct Checkpoint {
     pub angle: f64,
     pub x: f64,
     pub y: f64,
-}
-
-// An attempt's checkpoints, and the generator for the next attempt.
-#[derive(Clone, Copy)]
-pub(crate) struct Drawn {
-    pub checkpoints: [Checkpoint; 12],
-    pub rng: SplitMix64,
 }
 
 // The checkpoint at an angle and a radius.
@@ -53,28 +46,19 @@ fn one_checkpoint(c: u32, noise: f64, rad: f64) -> Checkpoint
 }
 
 // The checkpoints of an attempt: two draws for each, the noise first.
-pub(crate) fn checkpoints(g: SplitMix64) -> Drawn
-    ensures { result ≡ drawn_of g }
+pub(crate) fn checkpoints(g: &mut SplitMix64) -> [Checkpoint; 12]
+    ensures value { result ≡ checkpoints_of 12 g.old }
+    ensures state { g.new ≡ after 24 g.old }
 {
-    let mut r = g;
     let mut cs = [Checkpoint {
         angle: 0.0,
         x: 0.0,
         y: 0.0,
     }; 12];
-    let mut c: u32 = 0;
-    while c < 12 {
-        let d = r.uniform(0.0, TWELFTH);
-        let s = d.rng;
-        let e = s.uniform(LEAST_RAD, TRACK_RAD);
-        let p = one_checkpoint(c, d.value, e.value);
-        let i = c as usize;
-        cs[i] = p;
-        r = e.rng;
-        c += 1;
+    for (c, place) in cs.iter_mut().enumerate() {
+        let noise = g.uniform(0.0, TWELFTH);
+        let rad = g.uniform(LEAST_RAD, TRACK_RAD);
+        *place = one_checkpoint(c as u32, noise, rad);
     }
-    Drawn {
-        checkpoints: cs,
-        rng: r,
-    }
+    cs
 }

@@ -17,13 +17,6 @@ use crate::tiles::TrackPoint;
 use crate::{checkpoints, columns, points, track, trig, walk};
 use rng::SplitMix64;
 
-// The size of an attempt's track, 0 where it is refused, and the generator for the next attempt.
-#[derive(Clone, Copy)]
-pub(crate) struct Tried {
-    pub n: usize,
-    pub rng: SplitMix64,
-}
-
 // How many points were generated, and whether they are the ring's.
 #[derive(Clone, Copy)]
 pub(crate) struct Generated {
@@ -60,27 +53,24 @@ fn attempt(
     0
 }
 
-// An attempt with the next 24 draws.
+// An attempt with the next 24 draws: the size of its track, 0 where it is refused.
 fn try_generate(
-    g: SplitMix64,
+    g: &mut SplitMix64,
     alpha: &mut [f64],
     beta: &mut [f64],
     x: &mut [f64],
     y: &mut [f64],
-) -> Tried
+) -> usize
     requires laid_length_in_bounds { laid_length ≤ length alpha.old }
     requires laid_length_in_bounds_2 { laid_length ≤ length beta.old }
     requires laid_length_in_bounds_3 { laid_length ≤ length x.old }
     requires laid_length_in_bounds_4 { laid_length ≤ length y.old }
-    ensures in_front { InFront (attempt_on (checkpoints_of 12 g)) alpha.old beta.old x.old
-        y.old alpha.new beta.new x.new y.new result.n }
-    ensures rng_value { result.rng ≡ after 24 g }
+    ensures in_front { InFront (attempt_on (checkpoints_of 12 g.old)) alpha.old beta.old x.old
+        y.old alpha.new beta.new x.new y.new result }
+    ensures rng_value { g.new ≡ after 24 g.old }
 {
-    let d = checkpoints::checkpoints(g);
-    let rng = d.rng;
-    let cs = d.checkpoints;
-    let n = attempt(cs, alpha, beta, x, y);
-    Tried { n, rng }
+    let cs = checkpoints::checkpoints(g);
+    attempt(cs, alpha, beta, x, y)
 }
 
 // Point i of the ring.
@@ -136,12 +126,10 @@ fn generate_with_attempts(
     let mut g = SplitMix64::from_seed(seed);
     let mut k: u32 = 0;
     while k < attempts {
-        let t = try_generate(g, alpha, beta, x, y);
-        let n = t.n;
+        let n = try_generate(&mut g, alpha, beta, x, y);
         if 0 < n {
             return Generated { n, fallback: false };
         }
-        g = t.rng;
         k += 1;
     }
     ring_points(beta, x, y);

@@ -1,5 +1,3 @@
-pub mod Product
-pub mod Halves
 pub mod Units
 pub mod Draws
 pub mod Examples

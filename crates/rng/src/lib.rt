@@ -14,32 +14,11 @@ pub struct SplitMix64 {
     state: u64,
 }
 
-// A draw: the value, and the generator to go on with.
-#[derive(Clone, Copy)]
-pub struct Draw {
-    pub value: u64,
-    pub rng: SplitMix64,
-}
-
-// A draw as a float.
-#[derive(Clone, Copy)]
-pub struct UnitDraw {
-    pub value: f64,
-    pub rng: SplitMix64,
-}
-
-// The low 64 bits of a * b, by halves of 32 bits: of the four products of halves the highest adds
-// nothing below 2^64, and of the two middle ones only the low half of their sum counts.
+// The low 64 bits of a * b.
 pub fn wrapping_mul64(a: u64, b: u64) -> u64
     ensures { result ≡ product64 a b }
 {
-    let a0 = a % 0x1_0000_0000;
-    let a1 = a / 0x1_0000_0000;
-    let b0 = b % 0x1_0000_0000;
-    let b1 = b / 0x1_0000_0000;
-    let middle = std::num::wrapping_add_u64(a1 * b0, a0 * b1);
-    let high = (middle % 0x1_0000_0000) * 0x1_0000_0000;
-    std::num::wrapping_add_u64(a0 * b0, high)
+    a.wrapping_mul(b)
 }
 
 // The draw shifted right 11, over 2^53: times 2^-53, which is the same number and takes no division.
@@ -79,39 +58,33 @@ impl SplitMix64 {
     }
 
     // The next draw: 64 bits.
-    pub fn next_u64(self) -> Draw
-        ensures { result ≡ draw_of self }
+    #[tactic(auto, unfolding(crate::specs::Rules::SplitMix::draw_of, crate::specs::Rules::SplitMix::next_state, crate::specs::Rules::SplitMix::mix64, crate::specs::Rules::SplitMix::xor_shift))]
+    pub fn next_u64(&mut self) -> u64
+        ensures value { result ≡ (draw_of self.old).value }
+        ensures state { self.new ≡ (draw_of self.old).rng }
     {
-        let s = std::num::wrapping_add_u64(self.state, 0x9E37_79B9_7F4A_7C15);
-        let y = wrapping_mul64(s ^ (s >> 30), 0xBF58_476D_1CE4_E5B9);
-        let z = wrapping_mul64(y ^ (y >> 27), 0x94D0_49BB_1331_11EB);
-        Draw {
-            value: z ^ (z >> 31),
-            rng: SplitMix64 { state: s },
-        }
+        self.state = self.state.wrapping_add(0x9E37_79B9_7F4A_7C15);
+        let s = self.state;
+        let y = (s ^ (s >> 30)).wrapping_mul(0xBF58_476D_1CE4_E5B9);
+        let z = (y ^ (y >> 27)).wrapping_mul(0x94D0_49BB_1331_11EB);
+        z ^ (z >> 31)
     }
 
     // The next draw as a number from 0 to below 1.
-    pub fn unit(self) -> UnitDraw
-        ensures { result ≡ unit_draw_of self }
+    #[tactic(auto, unfolding(crate::specs::Rules::Unit::unit_draw_of))]
+    pub fn unit(&mut self) -> f64
+        ensures value { result ≡ (unit_draw_of self.old).value }
+        ensures state { self.new ≡ (unit_draw_of self.old).rng }
     {
-        let d = self.next_u64();
-        let rng = d.rng;
-        UnitDraw {
-            value: unit_of(d.value),
-            rng,
-        }
+        unit_of(self.next_u64())
     }
 
     // The next draw as a number from lo to hi.
-    pub fn uniform(self, lo: f64, hi: f64) -> UnitDraw
-        ensures { result ≡ uniform_draw_of self lo hi }
+    #[tactic(auto, unfolding(crate::specs::Rules::Unit::uniform_draw_of))]
+    pub fn uniform(&mut self, lo: f64, hi: f64) -> f64
+        ensures value { result ≡ (uniform_draw_of self.old lo hi).value }
+        ensures state { self.new ≡ (uniform_draw_of self.old lo hi).rng }
     {
-        let d = self.unit();
-        let rng = d.rng;
-        UnitDraw {
-            value: scaled(lo, hi, d.value),
-            rng,
-        }
+        scaled(lo, hi, self.unit())
     }
 }

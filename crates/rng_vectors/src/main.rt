@@ -15,35 +15,26 @@ fn hex_line(rt: &impl Print, n: u64) -> io::Result<()> {
 }
 
 // Five draws of a generator.
-fn draws(rt: &impl Print, g: SplitMix64) -> io::Result<()> {
-    let mut r = g;
-    let mut i: u32 = 0;
-    while i < 5 {
-        let d = r.next_u64();
-        line(rt, d.value)?;
-        r = d.rng;
-        i += 1;
+fn draws(rt: &impl Print, mut g: SplitMix64) -> io::Result<()> {
+    for _ in 0..5 {
+        line(rt, g.next_u64())?;
     }
     Ok(())
 }
 
 // The 48 units that two attempts at a course take.
 fn units(rt: &impl Print, seed: u64) -> io::Result<()> {
-    let mut r = SplitMix64::from_seed(seed);
-    let mut i: u32 = 0;
-    while i < 48 {
-        let d = r.unit();
-        hex_line(rt, f64::to_bits(d.value))?;
-        r = d.rng;
-        i += 1;
+    let mut g = SplitMix64::from_seed(seed);
+    for _ in 0..48 {
+        let u = g.unit();
+        hex_line(rt, f64::to_bits(u))?;
     }
     Ok(())
 }
 
 // The first draw of a course's seed.
 fn first_draw(rt: &impl Print, seed: u64) -> io::Result<()> {
-    let d = SplitMix64::from_seed(seed).next_u64();
-    line(rt, d.value)
+    line(rt, SplitMix64::from_seed(seed).next_u64())
 }
 
 // The unit of a draw.
@@ -52,9 +43,8 @@ fn unit(rt: &impl Print, draw: u64) -> io::Result<()> {
 }
 
 // A draw from lo to hi, where it is a number.
-fn uniform(rt: &impl Print, g: SplitMix64, lo: f64, hi: f64) -> io::Result<()> {
-    let d = g.uniform(lo, hi);
-    let v = d.value;
+fn uniform(rt: &impl Print, mut g: SplitMix64, lo: f64, hi: f64) -> io::Result<()> {
+    let v = g.uniform(lo, hi);
     if v == v {
         hex_line(rt, f64::to_bits(v))?;
     }

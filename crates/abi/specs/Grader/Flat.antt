@@ -1,7 +1,7 @@
 -- Each answer as the numbers that cross the C boundary: those that the crates below define for each case. Assumes nothing.
 use Rattle.std.specs.Prelude.{List, [], ◌∷◌, ℕ, get_or, Float}
 use Rattle.std.specs.Float.{nan}
-use Rattle.rng.specs.declared.Draw.{Draw as Drawn}
+use Rattle.rng.specs.Rules.SplitMix.{Drawn}
 use Rattle.course.specs.Grader.Outcome.{CourseColumns, laid_cause_of, laid_values_of}
 use Rattle.course.specs.Grader.Curbs.{curb_cause_of, curb_count_of}
 use Rattle.course.specs.Grader.Angle.{angle_cause_of, value_of}
@@ -61,7 +61,7 @@ unfoldable pub flat_angle : Angle → FlatAngle
 flat_angle a = record { cause = angle_cause_of a; value = value_of a }
 
 -- a draw, the generator by its state
-unfoldable pub flat_draw : Drawn → Draw
+unfoldable pub flat_draw : Drawn ℕ → Draw
 flat_draw d = record { value = d.value; state = d.rng.state }
 
 -- a checkpoint of the caller's, and the twelve of an attempt

@@ -1,18 +1,13 @@
 -- Definitions that only private functions of `checkpoints`, `finder`, `step`, `walk`, `track` and `lay` cite. Assumes nothing.
-use Rattle.std.specs.Prelude.{◌≡◌, ℕ, ◌*◌, ◌≤◌, Bool, List, ◌++◌, length, take, drop, slice_index_or, Float}
+use Rattle.std.specs.Prelude.{◌≡◌, ℕ, ◌≤◌, Bool, List, ◌++◌, length, take, drop, slice_index_or, Float}
 use Rattle.std.specs.Float.{nan}
-use Rattle.rng.specs.declared.SplitMix64.{SplitMix64}
-use Rattle.rng.specs.Rules.SplitMix.{after}
-use Rattle.course.specs.Rules.Constants.{checkpoint_count}
 use Rattle.course.specs.Rules.Lengths.{step_limit, laid_length}
-use Rattle.course.specs.Rules.Checkpoints.{checkpoints_of}
 use Rattle.course.specs.Rules.Finder.{Destination, Going, NotFound}
 use Rattle.course.specs.Rules.Step.{Walk, TrackStep, Stepped, On, Refused, Sight, Turned, To, TooFar}
 use Rattle.course.specs.Rules.Walk.{walk_of}
 use Rattle.course.specs.Rules.Track.{step_alphas, step_betas, step_xs, step_ys, track_of}
 use Rattle.course.specs.Rules.Tiles.{betas, xs, ys}
 use Rattle.course.specs.declared.checkpoints.Checkpoint.{Checkpoint}
-use Rattle.course.specs.declared.checkpoints.Drawn.{Drawn}
 use Rattle.course.specs.declared.finder.Found.{Found as CodeFound}
 use Rattle.course.specs.declared.finder.Dest.{Dest as CodeDest}
 use Rattle.course.specs.declared.step.Walk.{Walk as CodeWalk}
@@ -21,10 +16,6 @@ use Rattle.course.specs.declared.step.Stepped.{Stepped as CodeStepped}
 use Rattle.course.specs.declared.step.Sight.{Sight as CodeSight}
 use Rattle.course.specs.declared.step.Turned.{Turned as CodeTurned}
 use Rattle.course.specs.declared.tiles.TrackPoint.{TrackPoint}
-
--- an attempt's checkpoints, and the generator after their 24 draws
-unfoldable pub drawn_of : SplitMix64 → Drawn
-drawn_of g = record { checkpoints = checkpoints_of checkpoint_count g; rng = after (2 * checkpoint_count) g }
 
 -- ---- the code's structs and enums as the definitions' own
 -- what stands past the end of a list of checkpoints

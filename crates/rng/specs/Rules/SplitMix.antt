@@ -2,7 +2,6 @@
 -- their low 64 bits. Assumes nothing.
 use Rattle.std.specs.Prelude.{ℕ, zero, suc, ◌+◌, ◌*◌, ◌/◌, ◌%◌, ◌^◌, bit_xor}
 use Rattle.rng.specs.declared.SplitMix64.{SplitMix64}
-use Rattle.rng.specs.declared.Draw.{Draw}
 
 -- the low 64 bits of a sum and of a product
 abbrev pub sum64 : ℕ → ℕ → ℕ
@@ -34,8 +33,13 @@ unfoldable pub mix64 : ℕ → ℕ
 mix64 z =
     xor_shift 31 (product64 (xor_shift 27 (product64 (xor_shift 30 z) 0xBF58_476D_1CE4_E5B9)) 0x94D0_49BB_1331_11EB)
 
+-- what is drawn, and the generator to go on with
+pub record Drawn (A : Type 0) : Type 0 where
+  pub value : A
+  pub rng : SplitMix64
+
 -- a draw of a generator: the output of its next state, and the generator at that state
-unfoldable pub draw_of : SplitMix64 → Draw
+unfoldable pub draw_of : SplitMix64 → Drawn ℕ
 draw_of g = record { value = mix64 (next_state g.state); rng = record { state = next_state g.state } }
 
 -- the generator after n draws, and what its draw number n gives, counted from 0

@@ -13,4 +13,4 @@ number (inf s) h = tt
 number (fin s m e) h = tt
 
 pub float_to_bits-v : goal.float_to_bits-v
-float_to_bits-v g c = number c.uniform-d.result.value c.if-v.true
+float_to_bits-v g c = number c.uniform-v.result c.if-v.true

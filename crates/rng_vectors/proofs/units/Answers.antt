@@ -2,5 +2,5 @@
 use Rattle.rng.proofs.Draws.{unit-draw-not-nan}
 use Rattle.rng_vectors.proofs.units.Goals as goal
 
-pub float_to_bits-d : goal.float_to_bits-d
-float_to_bits-d g c = rw c.unit-d.ensures (unit-draw-not-nan _)
+pub float_to_bits-u : goal.float_to_bits-u
+float_to_bits-u g c = rw c.unit-u.ensures.value (unit-draw-not-nan _)

@@ -11,13 +11,13 @@ loop-k-init c =
 
 pub returns-then-n-gt0 : goal.returns-then-n-gt0
 returns-then-n-gt0 c =
-    let m = reached-here c.loop-k.invariant c.loop-k-test.true c.try_generate-t.ensures.in_front c.if-n-gt0.true in
+    let m = reached-here c.loop-k.invariant c.loop-k-test.true c.try_generate-n.ensures.in_front c.if-n-gt0.true in
     record { in_front = m.front; fallback_value = m.ring }
 
 pub loop-k-preserved : goal.loop-k-preserved
 loop-k-preserved c =
-    trying-more c.loop-k.invariant c.loop-k-test.true c.try_generate-t.ensures.in_front c.try_generate-t.ensures.rng_value c.if-n-gt0.false
-    c.try_generate-t.auto.alpha c.try_generate-t.auto.beta c.try_generate-t.auto.x c.try_generate-t.auto.y
+    trying-more c.loop-k.invariant c.loop-k-test.true c.try_generate-n.ensures.in_front c.try_generate-n.ensures.rng_value c.if-n-gt0.false
+    c.try_generate-n.auto.alpha c.try_generate-n.auto.beta c.try_generate-n.auto.x c.try_generate-n.auto.y
 
 pub returns : goal.returns
 returns c =
