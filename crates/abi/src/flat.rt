@@ -8,10 +8,10 @@ ghost use Rattle.run.specs.Grader.Restore.{restore_cause_of};
 ghost use Rattle.abi.specs.Grader.Flat.{flat_laid, flat_curbs, flat_sheet, flat_saved, flat_saved_for, flat_angle, flat_answers};
 
 use certificate::replay::Replayed;
+use course::cause::Cause;
 use course::curbs::CurbAnswer;
-use course::points;
 use course::points::Laid;
-use course::trig::Angle;
+use course::{cause, points};
 use run::drive::DriveAnswer;
 use run::restore::{RestoreAnswer, SavedCourse};
 use run::save::SaveAnswer;
@@ -328,13 +328,15 @@ pub(crate) fn saved_for(answer: SavedCourse) -> FlatSavedFor
     }
 }
 
-// The answer of sine, cosine or atan2.
-pub(crate) fn angle(answer: Angle) -> FlatAngle
-    ensures { result ≡ flat_angle answer }
-{
-    match answer {
-        Angle::Value(value) => FlatAngle { cause: 0, value },
-        Angle::Refused(cause) => FlatAngle { cause, value: 0.0 },
+impl From<Result<f64, Cause>> for FlatAngle {
+    ghost from_gives = { λ answer flat. flat ≡ flat_angle answer };
+
+    // The answer of sine, cosine or atan2.
+    fn from(answer: Result<f64, Cause>) -> FlatAngle {
+        FlatAngle {
+            cause: cause::cause_number(&answer),
+            value: answer.unwrap_or(0.0),
+        }
     }
 }
 

@@ -6,7 +6,6 @@ ghost use Rattle.course.specs.Rules.Root.{sqrt_of};
 ghost use Rattle.course.specs.Rules.Cell.{cell_of};
 ghost use Rattle.abi.specs.Grader.Flat.{flat_angle, flat_draw};
 
-use crate::flat;
 use crate::flat::{Draw, FlatAngle};
 use course::{cell, root, trig};
 use rng::SplitMix64;
@@ -16,7 +15,7 @@ use rng::SplitMix64;
 pub extern "C" fn grader_sine(a: f64) -> FlatAngle
     ensures { result ≡ flat_angle (sine_call a) }
 {
-    flat::angle(trig::sine(a))
+    FlatAngle::from(trig::sine(a))
 }
 
 // The cosine of a, |a| at most 16.
@@ -24,7 +23,7 @@ pub extern "C" fn grader_sine(a: f64) -> FlatAngle
 pub extern "C" fn grader_cosine(a: f64) -> FlatAngle
     ensures { result ≡ flat_angle (cosine_call a) }
 {
-    flat::angle(trig::cosine(a))
+    FlatAngle::from(trig::cosine(a))
 }
 
 // The angle of (x, y), each at most 1,000,000 in size.
@@ -32,7 +31,7 @@ pub extern "C" fn grader_cosine(a: f64) -> FlatAngle
 pub extern "C" fn grader_atan2(y: f64, x: f64) -> FlatAngle
     ensures { result ≡ flat_angle (atan2_call y x) }
 {
-    flat::angle(trig::atan2(y, x))
+    FlatAngle::from(trig::atan2(y, x))
 }
 
 // The square root, as IEEE 754 has it.

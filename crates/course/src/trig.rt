@@ -4,9 +4,10 @@ ghost use Rattle.std.specs.Prelude.{◌≡◌, ◌^◌, true, false, T, pos};
 ghost use Rattle.std.specs.Float.{fin};
 ghost use Rattle.std.specs.Float.Ieee.{lt, to_unsigned};
 ghost use Rattle.course.specs.Rules.Trig.{sine_poly, cosine_poly, atan_poly, floor, whole_below, turns_of, sin_cos_of, arc, arc_of, ratio_of, steep_of, leftward, downward, direction_of, atan2_of};
-ghost use Rattle.course.specs.Grader.Angle.{sine_call, cosine_call, atan2_call};
+ghost use Rattle.course.specs.Grader.Angle.{angle_cause, sine_call, cosine_call, atan2_call};
 ghost use Rattle.course.specs.Steps.Numbers.{Bounded, whole_at, turns_at, OfAngle, sin_cos_as};
 
+use crate::cause::Cause;
 use crate::constants::HALF_PI;
 use crate::numeric;
 
@@ -39,13 +40,6 @@ const C12: f64 = 1.0 / 479001600.0;
 const C14: f64 = -1.0 / 87178291200.0;
 
 const C16: f64 = 1.0 / 20922789888000.0;
-
-// What a public call answers: the value, or the number of the cause.
-#[derive(Clone, Copy)]
-pub enum Angle {
-    Value(f64),
-    Refused(u32),
-}
 
 // A whole number as a float, and modulo 4.
 #[derive(Clone, Copy)]
@@ -215,26 +209,31 @@ pub(crate) fn sin_cos(a: f64) -> SinCos
     turned(a, quarter_turns(a))
 }
 
-// The sine of a, |a| at most 16.
-pub fn sine(a: f64) -> Angle
-    ensures { result ≡ sine_call a }
+// Cause 8 of an angle: |a| at most 16.
+
+fn angle_check(a: f64) -> Result<(), Cause>
+    ensures { result ≡ angle_cause a }
 {
     if numeric::inside(a, 16.0) {
-        let t = sin_cos(a);
-        return Angle::Value(t.sin);
+        return Ok(());
     }
-    Angle::Refused(8)
+    Err(Cause::Range)
+}
+
+// The sine of a, |a| at most 16.
+pub fn sine(a: f64) -> Result<f64, Cause>
+    ensures { result ≡ sine_call a }
+{
+    angle_check(a)?;
+    Ok(sin_cos(a).sin)
 }
 
 // The cosine of a, |a| at most 16.
-pub fn cosine(a: f64) -> Angle
+pub fn cosine(a: f64) -> Result<f64, Cause>
     ensures { result ≡ cosine_call a }
 {
-    if numeric::inside(a, 16.0) {
-        let t = sin_cos(a);
-        return Angle::Value(t.cos);
-    }
-    Angle::Refused(8)
+    angle_check(a)?;
+    Ok(sin_cos(a).cos)
 }
 
 // base + w * p, p the series of the arc tangent of w.
@@ -316,11 +315,11 @@ pub(crate) fn angle_of(y: f64, x: f64) -> f64
 }
 
 // The angle of (x, y), each at most 1,000,000 in size.
-pub fn atan2(y: f64, x: f64) -> Angle
+pub fn atan2(y: f64, x: f64) -> Result<f64, Cause>
     ensures { result ≡ atan2_call y x }
 {
     if numeric::inside(y, 1000000.0) & numeric::inside(x, 1000000.0) {
-        return Angle::Value(angle_of(y, x));
+        return Ok(angle_of(y, x));
     }
-    Angle::Refused(8)
+    Err(Cause::Range)
 }

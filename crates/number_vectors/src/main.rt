@@ -9,7 +9,7 @@
 
 ghost use Rattle.std.specs.Prelude.{◌≤◌};
 
-use course::trig::Angle;
+use course::cause::Cause;
 use course::{cell, numeric, root, trig};
 use std::io;
 use std::io::Write;
@@ -49,10 +49,10 @@ fn words(code: u64) -> usize
 }
 
 // What a call answers that may refuse.
-fn line_angle<W: Write>(out: &mut W, answer: Angle) -> io::Result<()> {
+fn line_angle<W: Write>(out: &mut W, answer: Result<f64, Cause>) -> io::Result<()> {
     match answer {
-        Angle::Value(x) => vectors::line_float(out, x),
-        Angle::Refused(cause) => vectors::line_refused(out, cause),
+        Ok(x) => vectors::line_float(out, x),
+        Err(cause) => vectors::line_refused(out, cause.number()),
     }
 }
 

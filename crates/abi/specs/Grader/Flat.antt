@@ -1,14 +1,14 @@
 -- Each answer as the numbers that cross the C boundary: those that the crates below define for each case. Assumes nothing.
-use Rattle.std.specs.Prelude.{List, [], ◌∷◌, ℕ, get_or, Float}
+use Rattle.std.specs.Prelude.{List, [], ◌∷◌, ℕ, get_or, Result, Float}
 use Rattle.std.specs.Float.{nan}
 use Rattle.rng.specs.Rules.SplitMix.{Drawn}
 use Rattle.course.specs.Grader.Outcome.{CourseColumns, laid_cause_of, laid_values_of}
 use Rattle.course.specs.Grader.Curbs.{curb_cause_of, curb_count_of}
 use Rattle.course.specs.Grader.Angle.{angle_cause_of, value_of}
+use Rattle.course.specs.declared.cause.Cause.{Cause}
 use Rattle.course.specs.declared.checkpoints.Checkpoint.{Checkpoint}
 use Rattle.course.specs.declared.points.Laid.{Laid}
 use Rattle.course.specs.declared.curbs.CurbAnswer.{CurbAnswer}
-use Rattle.course.specs.declared.trig.Angle.{Angle}
 use Rattle.run.specs.Grader.State.{State}
 use Rattle.run.specs.Grader.Start.{Begun, start_cause_of, start_values_of}
 use Rattle.run.specs.Grader.Drive.{drive_cause_of}
@@ -57,7 +57,7 @@ flat_laid a =
 unfoldable pub flat_curbs : CurbAnswer → FlatCurbs
 flat_curbs a = record { cause = curb_cause_of a; count = curb_count_of a }
 
-unfoldable pub flat_angle : Angle → FlatAngle
+unfoldable pub flat_angle : Result Float Cause → FlatAngle
 flat_angle a = record { cause = angle_cause_of a; value = value_of a }
 
 -- a draw, the generator by its state

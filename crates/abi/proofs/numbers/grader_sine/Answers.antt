@@ -1,7 +1,0 @@
--- `abi::numbers::grader_sine` meets its contract. Assumes nothing.
-use mathlib.Core.Path.{ap, ◌∙◌}
-use Rattle.abi.specs.Grader.Flat.{flat_angle}
-use Rattle.abi.proofs.numbers.grader_sine.Goals as goal
-
-pub returns : goal.returns
-returns c = c.angle.ensures ∙ ap flat_angle c.sine.ensures
