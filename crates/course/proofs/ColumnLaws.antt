@@ -1,6 +1,5 @@
 -- A column that is written from the front: the entries so far, and the rest as it was. Assumes nothing.
-use Rattle.std.proofs.Common.{◌≡◌, ℕ, suc, ◌+◌, ◌-◌, ◌<◌, ◌≤◌, List, [], ◌∷◌, ◌++◌, length, get_or, take, drop, set, replicate, sym, refl, ap, ◌∙◌, subst, append_assoc, append-nil, add_comm, add-one, arith, length-append, length-drop, length-set, take-append-drop, length-take-le, get_or-drop, drop-cons, take-suc, drop-drop, get_or-append-add}
-use lib.ListN.{replicate-append-replicate}
+use Rattle.std.proofs.Common.{◌≡◌, ℕ, suc, ◌+◌, ◌-◌, ◌<◌, ◌≤◌, List, [], ◌∷◌, ◌++◌, length, get_or, take, drop, set, replicate, sym, refl, ap, ap₂, ◌∙◌, subst, append-nil, add-one, arith, length-append, length-drop, length-set, length-take-le, drop-cons, drop-drop}
 use lib.Seq.{drop-append-add, set_at, append_snoc}
 use lib.Ieee.{Float}
 use Rattle.course.specs.Steps.Tiles.{puts}
@@ -27,48 +26,13 @@ module _ {A : Type 0} where
     same = length-set c i v ∙ g.same;
   }
 
-  -- ---- copying the front of another column
-  pub copied : (s c l : List A) (i : ℕ) (d : A) → i < length s → i < length l → Grown (take i s) c l i → Grown (take (i + 1) s) (set c i (get_or s i d)) l (i + 1)
-  copied s c l i d h k g = grown-more _ _ c l i _ g k (rw (add-one, take-suc s i d h))
-
-  -- ---- moving a part to the front: an entry that is not replaced yet, and then one more
-  grown-at : (p c l : List A) (i k : ℕ) (d : A) → Grown p c l i → get_or c (k + i) d ≡ get_or l (k + i) d
-  grown-at p c l i k d g =
-      ap (λ (y : List A). get_or y (k + i) d) g.is
-      ∙ ap (λ (n : ℕ). get_or (p ++ drop i l) n d) (add_comm k i ∙ ap (λ (n : ℕ). n + k) (sym g.long))
-      ∙ get_or-append-add p (drop i l) k d ∙ get_or-drop i l k d ∙ ap (λ (n : ℕ). get_or l n d) (add_comm i k)
-
-  pub shifted : (l c : List A) (from i : ℕ) (d : A) → from + i < length l → Grown (take i (drop from l)) c l i
-      → Grown (take (i + 1) (drop from l)) (set c i (get_or c (from + i) d)) l (i + 1)
-  shifted l c from i d h g =
-      let k : i < length (drop from l) = rw (length-drop from l) (omega arith) in
-      grown-more _ _ c l i _ g (omega arith)
-      (rw (grown-at _ c l i from d g, add-one, take-suc (drop from l) i d k, get_or-drop from l i d))
-
-  -- ---- zeros from n on
-  pub cleared-none : (l : List A) (n : ℕ) (z : A) → n ≤ length l → Grown (take n l ++ replicate (n - n) z) l l n
-  cleared-none l n z h = record {
-    is = sym (rw (self n) (ap (λ (y : List A). y ++ drop n l) (append-none (take n l)) ∙ take-append-drop n l));
-    long = rw (self n) (ap length (append-none (take n l)) ∙ length-take-le n l h);
-    bound = h;
-    same = refl;
-  }
-    where
-      self : (m : ℕ) → m - m ≡ 0
-      self m = omega arith
-
-      append-none : (y : List A) → y ++ [] ≡ y
-      append-none y = append-nil y
-
-  replicate_more : (n : ℕ) (v : A) → replicate n v ++ (v ∷ []) ≡ replicate (n + 1) v
-  replicate_more n v = replicate-append-replicate n 1 v
-
-  pub cleared : (l c : List A) (n i : ℕ) (z : A) → n ≤ i → i < length l → Grown (take n l ++ replicate (i - n) z) c l i
-      → Grown (take n l ++ replicate (i + 1 - n) z) (set c i z) l (i + 1)
-  cleared l c n i z e h g =
-      let k : i - n + 1 ≡ i + 1 - n = omega arith in
-      grown-more _ _ c l i z g h
-      (append_assoc (take n l) (replicate (i - n) z) (z ∷ []) ∙ ap (λ (y : List A). take n l ++ y) (replicate_more (i - n) z ∙ ap (λ (m : ℕ). replicate m z) k))
+  -- ---- one value from n up to m
+  pub part-filled : (l r : List A) {n m : ℕ} (v : A) → n ≤ m → m ≤ length l → r ≡ replicate (length (take (m - n) (drop n l))) v
+      → take n l ++ (r ++ drop (m - n) (drop n l)) ≡ take n l ++ (replicate (m - n) v ++ drop m l)
+  part-filled l r {n} {m} v few room e =
+      let long : length (take (m - n) (drop n l)) ≡ m - n = length-take-le (m - n) (drop n l) (omega (arith, length-drop n l)) in
+      let rest : n + (m - n) ≡ m = omega arith in
+      ap₂ (λ (y z : List A). take n l ++ (y ++ z)) (e ∙ ap (λ (k : ℕ). replicate k v) long) (drop-drop (m - n) n l ∙ ap (λ (k : ℕ). drop k l) rest)
 
 -- ---- several numbers in a row
 none-on : (i : ℕ) → i ≡ i + 0

@@ -1,4 +1,4 @@
-// Loops over one lent column: copies, moves and zeros.
+// Copies, moves and zeros in one lent column.
 ghost use Rattle.std.specs.Prelude.{◌≡◌, ◌+◌, ◌-◌, ◌<◌, ◌≤◌, ◌++◌, length, take, drop, replicate};
 ghost use Rattle.course.specs.Rules.Arithmetic.{nought};
 
@@ -7,11 +7,7 @@ pub(crate) fn copy_front(from: &[f64], n: usize, col: &mut [f64])
     requires { (n ≤ length from.now) × (n ≤ length col.old) }
     ensures { col.new ≡ take n from.now ++ drop n col.old }
 {
-    let mut i: usize = 0;
-    while i < n {
-        col[i] = from[i];
-        i += 1;
-    }
+    col[..n].copy_from_slice(&from[..n]);
 }
 
 // The n entries from number `from` on go to the front.
@@ -19,11 +15,7 @@ pub(crate) fn shift(col: &mut [f64], from: usize, n: usize)
     requires { from + n ≤ length col.old }
     ensures { col.new ≡ take n (drop from col.old) ++ drop n col.old }
 {
-    let mut i: usize = 0;
-    while i < n {
-        col[i] = col[from + i];
-        i += 1;
-    }
+    col.copy_within(from..from + n, 0);
 }
 
 // 0 from number n up to `end`.
@@ -31,21 +23,5 @@ pub(crate) fn clear_from(col: &mut [f64], n: usize, end: usize)
     requires { (n ≤ end) × (end ≤ length col.old) }
     ensures { col.new ≡ take n col.old ++ (replicate (end - n) nought ++ drop end col.old) }
 {
-    let mut i = n;
-    while i < end {
-        col[i] = 0.0;
-        i += 1;
-    }
-}
-
-// The same for marks.
-pub(crate) fn clear_marks(col: &mut [u8], n: usize, end: usize)
-    requires { (n ≤ end) × (end ≤ length col.old) }
-    ensures { col.new ≡ take n col.old ++ (replicate (end - n) 0 ++ drop end col.old) }
-{
-    let mut i = n;
-    while i < end {
-        col[i] = 0;
-        i += 1;
-    }
+    col[n..end].fill(0.0);
 }

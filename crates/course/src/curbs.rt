@@ -224,6 +224,6 @@ pub fn curbs(
     }
     let found = write_curbs(pbeta, px, py, n, quads, white);
     columns::clear_from(quads, found * 8, 8 * m);
-    columns::clear_marks(white, found, m);
+    white[found..m].fill(0);
     CurbAnswer::Count(found as u32)
 }

@@ -1,7 +1,8 @@
 -- `course::curbs::curbs` meets its contract. Assumes nothing.
 use Rattle.course.proofs.LaidColumns.{no-cause}
 use Rattle.course.proofs.CurbLaws.{fits, turned-down, all-edged}
-use Rattle.std.proofs.Common.{arith}
+use Rattle.course.proofs.ColumnLaws.{part-filled}
+use Rattle.std.proofs.Common.{◌≤◌, length, arith, rules}
 use Rattle.course.proofs.curbs.curbs.Goals as goal
 
 pub returns-then-k-gt0 : goal.returns-then-k-gt0
@@ -22,14 +23,18 @@ clear_from-requires c =
     let f = fits _ _ _ _ _ _ _ c.column_length-m.ensures.value z in
     (omega (arith, c.write_curbs-found.ensures.few, f.few), omega (arith, c.write_curbs-found.ensures.same-quads, f.quads))
 
-pub clear_marks-requires : goal.clear_marks-requires
-clear_marks-requires c =
+pub slice_bounds-fill-end : goal.slice_bounds-fill-end
+slice_bounds-fill-end c =
     let z = no-cause _ _ _ _ _ _ _ c.given_cause-k.ensures c.curb_room-room.ensures c.if-k-gt0.false in
     let f = fits _ _ _ _ _ _ _ c.column_length-m.ensures.value z in
-    (omega (arith, c.write_curbs-found.ensures.few, f.few), omega (arith, c.write_curbs-found.ensures.same-white, f.white))
+    let few : c.write_curbs-found.result ≤ c.column_length-m.result = omega (arith, c.write_curbs-found.ensures.few, f.few) in
+    let room : c.column_length-m.result ≤ length c.write_curbs-found.new.white = omega (arith, c.write_curbs-found.ensures.same-white, f.white) in
+    search rules
 
 pub returns : goal.returns
 returns c =
     let z = no-cause _ _ _ _ _ _ _ c.given_cause-k.ensures c.curb_room-room.ensures c.if-k-gt0.false in
     let f = fits _ _ _ _ _ _ _ c.column_length-m.ensures.value z in
-    all-edged _ _ _ _ _ _ _ _ _ _ _ _ c.column_length-m.ensures.value z c.write_curbs-found.ensures c.clear_from.ensures c.clear_marks.ensures
+    let few : c.write_curbs-found.result ≤ c.column_length-m.result = omega (arith, c.write_curbs-found.ensures.few, f.few) in
+    let room : c.column_length-m.result ≤ length c.write_curbs-found.new.white = omega (arith, c.write_curbs-found.ensures.same-white, f.white) in
+    all-edged _ _ _ _ _ _ _ _ _ _ _ _ c.column_length-m.ensures.value z c.write_curbs-found.ensures c.clear_from.ensures (part-filled _ _ 0 few room (c.fill.ensures.after (λ y h. h)))
