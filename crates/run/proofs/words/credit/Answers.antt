@@ -13,29 +13,29 @@ within : (n m i : ℕ) → n ≤ 64 * m → i < (n + 63) / 64 → i < m
 within n m i h b = omega arith
 
 pub loop-i-init : goal.loop-i-init
-loop-i-init c = (omega arith, record { bound = omega arith; long = refl; small = λ j h. absurd (omega arith); done = λ j h. absurd (omega arith); kept = λ j h. refl; count = sym (how_many-none _) })
+loop-i-init c = record { bound = omega arith; long = refl; small = λ j h. absurd (omega arith); done = λ j h. absurd (omega arith); kept = λ j h. refl; count = sym (how_many-none _) }
 
 pub offset_bounds-cur-i : goal.offset_bounds-cur-i
-offset_bounds-cur-i c = omega (arith, within _ _ _ c.requires.creditable.few c.loop-i-test.true, c.requires.creditable.last, c.requires.creditable.long, c.loop-i.invariant.1.long, c.requires.creditable.small)
+offset_bounds-cur-i c = omega (arith, within _ _ _ c.requires.creditable.few c.loop-i-test.true, c.requires.creditable.last, c.requires.creditable.long, c.loop-i.invariant.long, c.requires.creditable.small)
 
 pub bounds-cur-i : goal.bounds-cur-i
-bounds-cur-i c = omega (arith, within _ _ _ c.requires.creditable.few c.loop-i-test.true, c.requires.creditable.last, c.requires.creditable.long, c.loop-i.invariant.1.long, c.requires.creditable.small)
+bounds-cur-i c = omega (arith, within _ _ _ c.requires.creditable.few c.loop-i-test.true, c.requires.creditable.last, c.requires.creditable.long, c.loop-i.invariant.long, c.requires.creditable.small)
 
 pub offset_bounds-last-i : goal.offset_bounds-last-i
-offset_bounds-last-i c = omega (arith, within _ _ _ c.requires.creditable.few c.loop-i-test.true, c.requires.creditable.last, c.requires.creditable.long, c.loop-i.invariant.1.long, c.requires.creditable.small)
+offset_bounds-last-i c = omega (arith, within _ _ _ c.requires.creditable.few c.loop-i-test.true, c.requires.creditable.last, c.requires.creditable.long, c.loop-i.invariant.long, c.requires.creditable.small)
 
 pub bounds-last-i : goal.bounds-last-i
-bounds-last-i c = omega (arith, within _ _ _ c.requires.creditable.few c.loop-i-test.true, c.requires.creditable.last, c.requires.creditable.long, c.loop-i.invariant.1.long, c.requires.creditable.small)
+bounds-last-i c = omega (arith, within _ _ _ c.requires.creditable.few c.loop-i-test.true, c.requires.creditable.last, c.requires.creditable.long, c.loop-i.invariant.long, c.requires.creditable.small)
 
 pub offset_bounds-credited-i : goal.offset_bounds-credited-i
-offset_bounds-credited-i c = omega (arith, within _ _ _ c.requires.creditable.few c.loop-i-test.true, c.requires.creditable.last, c.requires.creditable.long, c.loop-i.invariant.1.long, c.requires.creditable.small)
+offset_bounds-credited-i c = omega (arith, within _ _ _ c.requires.creditable.few c.loop-i-test.true, c.requires.creditable.last, c.requires.creditable.long, c.loop-i.invariant.long, c.requires.creditable.small)
 
 pub bounds-credited-i : goal.bounds-credited-i
-bounds-credited-i c = omega (arith, within _ _ _ c.requires.creditable.few c.loop-i-test.true, c.requires.creditable.last, c.requires.creditable.long, c.loop-i.invariant.1.long, c.requires.creditable.small)
+bounds-credited-i c = omega (arith, within _ _ _ c.requires.creditable.few c.loop-i-test.true, c.requires.creditable.last, c.requires.creditable.long, c.loop-i.invariant.long, c.requires.creditable.small)
 
 pub overflow_add-fresh : goal.overflow_add-fresh
 overflow_add-fresh c =
-    let n = c.loop-i.invariant.1 in
+    let n = c.loop-i.invariant in
     let a = c.args in
     record {
       fits = omega (
@@ -49,10 +49,10 @@ overflow_add-fresh c =
     }
 
 pub offset_bounds-credited-i-then-entered-ne0 : goal.offset_bounds-credited-i-then-entered-ne0
-offset_bounds-credited-i-then-entered-ne0 c = omega (arith, within _ _ _ c.requires.creditable.few c.loop-i-test.true, c.requires.creditable.last, c.requires.creditable.long, c.loop-i.invariant.1.long, c.requires.creditable.small)
+offset_bounds-credited-i-then-entered-ne0 c = omega (arith, within _ _ _ c.requires.creditable.few c.loop-i-test.true, c.requires.creditable.last, c.requires.creditable.long, c.loop-i.invariant.long, c.requires.creditable.small)
 
 pub bounds-credited-i-then-entered-ne0 : goal.bounds-credited-i-then-entered-ne0
-bounds-credited-i-then-entered-ne0 c = omega (arith, within _ _ _ c.requires.creditable.few c.loop-i-test.true, c.requires.creditable.last, c.requires.creditable.long, c.loop-i.invariant.1.long, c.requires.creditable.small)
+bounds-credited-i-then-entered-ne0 c = omega (arith, within _ _ _ c.requires.creditable.few c.loop-i-test.true, c.requires.creditable.last, c.requires.creditable.long, c.loop-i.invariant.long, c.requires.creditable.small)
 
 pub loop-i-preserved : goal.loop-i-preserved
 loop-i-preserved c =
@@ -60,22 +60,20 @@ loop-i-preserved c =
     let fc = (c.slice_known-1.given i).fits in
     let fl = (c.shared_slice_known-in-loop-i-1.given i).fits in
     let fe = (c.shared_slice_known-1.given i).fits in
-    let n = c.loop-i.invariant.1 in
+    let n = c.loop-i.invariant in
     let t = c.loop-i-test.true in
-    let b : i < length c.loop-i.credited = omega (arith, within _ _ _ c.requires.creditable.few t, n.long) in (
-      omega arith,
-      elim c.if-entered-ne0.branch [
-        | then-entered-ne0 w ↦ credited-is _ _ _ w.credited-is w.fresh-is (one_more _ _ _ _ _ _ n b fc fl fe)
-        | else-entered-ne0 w ↦ credited-is _ _ _ w.credited-is w.fresh-is (none_more _ _ _ _ _ _ n b fc fl fe w.if-entered-ne0.false)
-      ],
-    )
+    let b : i < length c.loop-i.credited = omega (arith, within _ _ _ c.requires.creditable.few t, n.long) in
+    elim c.if-entered-ne0.branch [
+      | then-entered-ne0 w ↦ credited-is _ _ _ w.credited-is w.fresh-is (one_more _ _ _ _ _ _ n b fc fl fe)
+      | else-entered-ne0 w ↦ credited-is _ _ _ w.credited-is w.fresh-is (none_more _ _ _ _ _ _ n b fc fl fe w.if-entered-ne0.false)
+    ]
 
 pub shape_of-credited : goal.shape_of-credited
-shape_of-credited c = c.loop-i.invariant.1.long
+shape_of-credited c = c.loop-i.invariant.long
 
 pub returns : goal.returns
 returns c =
-    let n = c.loop-i.invariant.1 in
+    let n = c.loop-i.invariant in
     let past : (t : ℕ) → 64 * c.loop-i.i ≤ t → c.args.n ≤ t = λ t b. omega (arith, c.loop-i-test.false) in
     let r = rest-credited _ _ _ _ _ _ c.requires.by_index c.requires.creditable.long (λ t b u. c.requires.creditable.past t (past t b) (omega (arith, u, c.requires.creditable.long))) n in
     record { credited_after = all-credited _ _ _ _ _ _ refl r; value = all-counted _ _ _ _ _ _ refl r }
