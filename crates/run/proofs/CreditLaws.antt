@@ -24,6 +24,10 @@ flipped w = 2 ^ 64 - 1 - w
 pub ones-bits : (w : ℕ) → w < 2 ^ 64 → ones w ≡ how_many 64 (bit_of w)
 ones-bits w h = ap ones (word-ext 64 w (word_of 64 (bit_of w)) h (word_lt 64 (bit_of w)) (λ i l. sym (word-bit 64 i (bit_of w) l))) ∙ ones-word 64 (bit_of w)
 
+-- a word that is gone through is one of the set's
+pub within : (n m i : ℕ) → n ≤ 64 * m → i < (n + 63) / 64 → i < m
+within n m i h b = omega arith
+
 pub few : (n : ℕ) (p : ℕ → Bool) → how_many n p ≤ n
 unfolding how_many
 few zero p = omega arith

@@ -32,6 +32,7 @@ pub(crate) fn clear(set: &mut [u64])
 
 // What is in `cur` and not in `last` is credited; how many of these tiles were not credited before. A
 // course has few tiles for the words at hand: those after the word of tile n - 1 are not gone through.
+#[tactic(auto, using(crate::proofs::CreditLaws::within))]
 pub(crate) fn credit(credited: &mut [u64], last: &[u64], cur: &[u64], n: usize) -> u32
     requires creditable { Creditable (length credited.old) n last.now cur.now }
     requires by_index { (j : ℕ) → get_or credited.old j 0 < 2 ^ 64 }
