@@ -6,7 +6,7 @@ use Prim.Native.Nat.{ℕ, zero, suc, ◌+◌, ◌-◌, ◌*◌, ◌/◌, ◌%◌
 use native.Mathlib.Nat.{lt_of_le_of_lt}
 use native.Mathlib.Omega.{arith}
 use native.Mathlib.Decide.{dec_lt}
-use lib.ListN.{length, get_or, set, length-set, get_or-eq_default}
+use lib.ListN.{length, get_or, set, replicate, length-replicate, length-set, get_or-eq_default}
 use lib.Seq.{get_or-set_same, get_or-set_other, set-get_or}
 use lib.Bits.{bit_or, bit_and, and_le_l, or_lt, or_zero_r, and_zero_l}
 use lib.Count.{ones}
@@ -14,7 +14,7 @@ use lib.Dec.{lit<}
 use borrow.Author.Count.{below_more}
 use Rattle.run.specs.Grader.Words.{bit_of, member, word_of, set_of}
 use Rattle.course.specs.Rules.Counting.{digit, how_many}
-use Rattle.run.proofs.WordLaws.{Fit, word-bit, word_lt, word-ext, ones-word, member-at, is-set_of, bit-none, bit-or, bit-and, bit_not, how_many-add, how_many-cong}
+use Rattle.run.proofs.WordLaws.{Fit, word-bit, word_lt, word-ext, ones-word, member-at, is-set_of, get_d-zeros, bit-none, bit-or, bit-and, bit_not, how_many-add, how_many-cong}
 
 -- the bits of the other value
 abbrev pub flipped : ℕ → ℕ
@@ -23,6 +23,10 @@ flipped w = 2 ^ 64 - 1 - w
 -- a word has as many ones as numbers below 64 are its bits
 pub ones-bits : (w : ℕ) → w < 2 ^ 64 → ones w ≡ how_many 64 (bit_of w)
 ones-bits w h = ap ones (word-ext 64 w (word_of 64 (bit_of w)) h (word_lt 64 (bit_of w)) (λ i l. sym (word-bit 64 i (bit_of w) l))) ∙ ones-word 64 (bit_of w)
+
+-- a word that is gone through is one of the set's
+pub within : (n m i : ℕ) → n ≤ 64 * m → i < (n + 63) / 64 → i < m
+within n m i h b = omega arith
 
 pub few : (n : ℕ) (p : ℕ → Bool) → how_many n p ≤ n
 unfolding how_many
@@ -44,6 +48,10 @@ empty-words m ws el h = is-set_of m ws (λ t. false) el fit (λ t b. ap (λ (w :
           | yes b ↦ subst (λ (x : ℕ). x < 2 ^ 64) (sym (h j b)) (lit< tt)
           | no b ↦ subst (λ (x : ℕ). x < 2 ^ 64) (sym (get_or-eq_default ws 0 {n = j} (omega (arith, el)))) (lit< tt)
         ]
+
+-- zeros hold nothing
+pub zeros-empty : (m : ℕ) → replicate m 0 ≡ set_of m (λ t. false)
+zeros-empty m = empty-words m (replicate m 0) (length-replicate m 0) (λ j h. get_d-zeros m j)
 
 pub ones-few : (w : ℕ) → w < 2 ^ 64 → ones w ≤ 64
 ones-few w h = subst (λ (x : ℕ). x ≤ 64) (sym (ones-bits w h)) (few 64 (bit_of w))

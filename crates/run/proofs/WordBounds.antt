@@ -1,33 +1,49 @@
 -- A set's tiles word by word: how many there are, and whether all are below n. For sets of any number of words. Assumes nothing.
 use mathlib.Core.Bool.{Bool, true, false, not, ◌&&◌, ◌||◌}
-use mathlib.Core.List.{List}
+use mathlib.Core.List.{List, [], ◌∷◌}
 use mathlib.Core.Path.{◌≡◌, refl, sym, ap, ap₂, ◌∙◌, subst}
 use mathlib.Mathlib.Data.Bool.Basic.{eq-false_of_not-eq-true}
 use Prim.Native.Nat.{ℕ, zero, suc, ◌+◌, ◌-◌, ◌*◌, ◌/◌, ◌%◌, ◌^◌, ◌≤◌, ◌<◌}
-use native.Mathlib.Nat.{div-eq_of_lt}
+use native.Mathlib.Nat.{div-eq_of_lt, div-one}
+use Rattle.std.proofs.Common.{add-one}
+use Rattle.std.proofs.lemmas.List.Sums.{sum_by-cons}
 use native.Mathlib.Omega.{arith}
-use native.Mathlib.Decide.{dec_lt}
+use native.Mathlib.Decide.{dec_lt, ℕ_discrete}
 use lib.Count.{ones}
 use lib.Dec.{ltb, eqb, lit<}
-use lib.ListN.{length, get_or}
+use lib.ListN.{length, get_or, drop, length-drop}
+use lib.Seq.{drop-cons}
+use Rattle.std.specs.List.{sum_by, list_all}
 use lib.Pow.{shr-shr, shr_le}
-use borrow.Author.Tests.{lt-ltb, le-ltb, not-true}
+use borrow.Author.Tests.{lt-ltb, le-ltb, not-true, eq-eqb, ne_eqb}
 use Rattle.course.proofs.BoolLaws.{and_left, and_right}
 use Rattle.run.specs.Rules.Below.{every_below, how_many}
 use Rattle.run.specs.Grader.Words.{bit_of, member}
 use Rattle.run.specs.Grader.Saved.{all_below}
-use Rattle.run.proofs.WordLaws.{word-ext, member-at, bit-none, how_many-add, how_many-cong}
+use Rattle.run.proofs.WordLaws.{Fit, how_many-none, word-ext, member-at, bit-none, how_many-add, how_many-cong}
 use Rattle.run.proofs.BelowLaws.{by_side}
 use Rattle.run.proofs.CreditLaws.{ones-bits}
 
 -- ---- a set's tiles are counted word by word
-pub one-counted : (ws : List ℕ) (i n : ℕ) → get_or ws i 0 < 2 ^ 64 → n ≡ how_many (64 * i) (member ws) → n + ones (get_or ws i 0) ≡ how_many (64 * (i + 1)) (member ws)
-one-counted ws i n f e =
-    ap₂ ◌+◌ e (ones-bits (get_or ws i 0) f ∙ how_many-cong 64 (bit_of (get_or ws i 0)) (λ k. member ws (64 * i + k)) (λ k h. sym (member-at ws i k h)))
-    ∙ sym (how_many-add (64 * i) 64 (member ws)) ∙ ap (λ (x : ℕ). how_many x (member ws)) step
+pub all-counted : (ws : List ℕ) → Fit ws → sum_by ones ws ≡ how_many (64 * length ws) (member ws)
+all-counted ws f = counted ws (member ws) f (λ i k h. member-at ws i k h)
   where
-    step : 64 * i + 64 ≡ 64 * (i + 1)
-    step = omega arith
+    counted : (vs : List ℕ) (p : ℕ → Bool) → Fit vs → ((i k : ℕ) → k < 64 → p (64 * i + k) ≡ bit_of (get_or vs i 0) k) → sum_by ones vs ≡ how_many (64 * length vs) p
+    counted [] p f e = sym (how_many-none p)
+    counted (v ∷ vs) p f e =
+        sum_by-cons ones v vs
+        ∙ ap₂ ◌+◌ (ones-bits v (f 0) ∙ how_many-cong 64 (bit_of v) p (λ k h. sym (e 0 k h) ∙ ap p (first k)))
+        (counted vs (λ t. p (64 + t)) (λ i. f (suc i)) (λ i k h. ap p (next i k) ∙ e (suc i) k h))
+        ∙ sym (how_many-add 64 (64 * length vs) p) ∙ ap (λ (x : ℕ). how_many x p) (whole (length vs))
+      where
+        first : (k : ℕ) → 64 * 0 + k ≡ k
+        first k = omega arith
+
+        next : (i k : ℕ) → 64 + (64 * i + k) ≡ 64 * suc i + k
+        next i k = omega arith
+
+        whole : (m : ℕ) → 64 + 64 * m ≡ 64 * suc m
+        whole m = omega arith
 
 -- ---- tests that all numbers below n pass
 every_true : (n : ℕ) (p : ℕ → Bool) → ((t : ℕ) → t < n → p t ≡ true) → every_below n p ≡ true
@@ -79,10 +95,10 @@ module _ (ws : List ℕ) (n : ℕ) where
     pub some : free < 64
     pub pass : (t : ℕ) → t < 64 * i → n ≤ t → member ws t ≡ false
 
-  pub first-passed : Passed (n / 64) (n % 64)
+  first-passed : Passed (n / 64) (n % 64)
   first-passed = record { left = omega arith; some = omega arith; pass = λ t h l. absurd (omega arith) }
 
-  pub next-passed : (i free : ℕ) → Passed i free → get_or ws i 0 / 2 ^ free ≡ 0 → Passed (i + 1) 0
+  next-passed : (i free : ℕ) → Passed i free → get_or ws i 0 / 2 ^ free ≡ 0 → Passed (i + 1) 0
   next-passed i free h e =
       record { left = omega (arith, h.left, h.some); some = lit< tt; pass = λ t l b. elim (dec_lt t (64 * i)) [ yes a ↦ h.pass t a b | no a ↦ here t a l b ] }
     where
@@ -92,10 +108,10 @@ module _ (ws : List ℕ) (n : ℕ) where
           let s : t ≡ 64 * i + k = omega arith in
           ap (member ws) s ∙ member-at ws i k (omega arith) ∙ bit_past (get_or ws i 0) free k e (omega (arith, h.left))
 
-  pub all-passed : (i free : ℕ) → Passed i free → length ws ≤ i → all_below n ws ≡ true
+  all-passed : (i free : ℕ) → Passed i free → length ws ≤ i → all_below n ws ≡ true
   all-passed i free h l = all-below (λ t b c. h.pass t (omega arith) c)
 
-  pub not-passed : (i free : ℕ) → Passed i free → i < length ws → get_or ws i 0 < 2 ^ 64 → (get_or ws i 0 / 2 ^ free ≡ 0 → ⊥) → all_below n ws ≡ false
+  not-passed : (i free : ℕ) → Passed i free → i < length ws → get_or ws i 0 < 2 ^ 64 → (get_or ws i 0 / 2 ^ free ≡ 0 → ⊥) → all_below n ws ≡ false
   unfolding all_below
   not-passed i free h l f e =
       eq-false_of_not-eq-true {b = every_below (64 * length ws) Passes}
@@ -110,3 +126,32 @@ module _ (ws : List ℕ) (n : ℕ) where
                 ∙ past-member (64 * i + k) (omega (arith, h.left)) (every-at (64 * length ws) (64 * i + k) Passes a (omega arith))
             | no c ↦ bit_past (get_or ws i 0) 64 k (div-eq_of_lt f) (omega arith)
           ]
+
+  -- no word from i on has a tile
+  rest-passed : (vs : List ℕ) (i : ℕ) → Passed i 0 → drop i ws ≡ vs → Fit ws → list_all (λ w. eqb w 0) vs ≡ all_below n ws
+  rest-passed [] i h e f = sym (all-passed i 0 h (omega (arith, length-drop i ws, ap length e)))
+  rest-passed (x ∷ vs) i h e f =
+      let b : i < length ws = omega (arith, length-drop i ws, ap length e) in
+      let parts : ◌≡◌ {A = List ℕ} (get_or ws i 0 ∷ drop (suc i) ws) (x ∷ vs) = sym (drop-cons ws i 0 b) ∙ e in
+      let here : get_or ws i 0 ≡ x = cc in
+      let rest : drop (suc i) ws ≡ vs = cc in
+      elim (ℕ_discrete x 0) [
+        | yes z ↦
+            ap (λ (t : Bool). t && list_all (λ w. eqb w 0) vs) (eq-eqb x 0 z)
+            ∙ rest-passed vs (i + 1) (next-passed i 0 h (div-one (get_or ws i 0) ∙ here ∙ z)) (rw add-one rest) f
+        | no z ↦
+            ap (λ (t : Bool). t && list_all (λ w. eqb w 0) vs) (ne_eqb x 0 z)
+            ∙ sym (not-passed i 0 h b (f i) (λ q. z (sym here ∙ sym (div-one (get_or ws i 0)) ∙ q)))
+      ]
+
+  -- where the word of tile n has none from it on
+  pub below-free : Fit ws → get_or ws (n / 64) 0 / 2 ^ (n % 64) ≡ 0 → list_all (λ w. eqb w 0) (drop (n / 64 + 1) ws) ≡ all_below n ws
+  below-free f e = rest-passed (drop (n / 64 + 1) ws) (n / 64 + 1) (next-passed (n / 64) (n % 64) first-passed e) refl f
+
+  -- where it has one
+  pub above-free : Fit ws → n / 64 < length ws → (get_or ws (n / 64) 0 / 2 ^ (n % 64) ≡ 0 → ⊥) → all_below n ws ≡ false
+  above-free f b e = not-passed (n / 64) (n % 64) first-passed b (f (n / 64)) e
+
+  -- where there is no such word
+  pub short-set : length ws ≤ n / 64 → all_below n ws ≡ true
+  short-set l = all-passed (n / 64) (n % 64) first-passed l

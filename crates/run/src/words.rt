@@ -2,6 +2,7 @@
 // slices of any number of words, so that states of several widths share it.
 ghost use Rattle.std.specs.Prelude.{◌≡◌, false, not, ◌&&◌, ◌||◌, ℕ, ◌*◌, ◌^◌, ◌<◌, eqb, length, get_or};
 ghost use Rattle.run.specs.Rules.Below.{how_many};
+ghost use Rattle.std.specs.List.{list_all};
 ghost use Rattle.run.specs.Grader.Words.{member, set_of};
 ghost use Rattle.run.specs.Grader.Saved.{all_below};
 ghost use Rattle.run.specs.Steps.Touch.{Creditable};
@@ -26,15 +27,12 @@ pub(crate) fn put(set: &mut [u64], id: usize)
 pub(crate) fn clear(set: &mut [u64])
     ensures { set.new ≡ set_of (length set.old) (λ t. false) }
 {
-    let mut i: usize = 0;
-    while i < set.len() {
-        set[i] = 0;
-        i += 1;
-    }
+    set.fill(0);
 }
 
 // What is in `cur` and not in `last` is credited; how many of these tiles were not credited before. A
 // course has few tiles for the words at hand: those after the word of tile n - 1 are not gone through.
+#[tactic(auto, using(crate::proofs::CreditLaws::within))]
 pub(crate) fn credit(credited: &mut [u64], last: &[u64], cur: &[u64], n: usize) -> u32
     requires creditable { Creditable (length credited.old) n last.now cur.now }
     requires by_index { (j : ℕ) → get_or credited.old j 0 < 2 ^ 64 }
@@ -48,8 +46,7 @@ pub(crate) fn credit(credited: &mut [u64], last: &[u64], cur: &[u64], n: usize) 
 {
     let end = (n + 63) / 64;
     let mut fresh: u32 = 0;
-    let mut i: usize = 0;
-    while i < end {
+    for i in 0..end {
         let entered = cur[i] & !last[i];
         let before = credited[i];
         // Mostly nothing was entered, and the count is dear where the processor has no instruction for it.
@@ -57,7 +54,6 @@ pub(crate) fn credit(credited: &mut [u64], last: &[u64], cur: &[u64], n: usize) 
             fresh += u64::count_ones(entered & !before);
             credited[i] = before | entered;
         }
-        i += 1;
     }
     fresh
 }
@@ -67,28 +63,23 @@ pub(crate) fn count(set: &[u64]) -> u32
     requires { 64 * length set.now < 2 ^ 32 }
     ensures { result ≡ how_many (64 * length set.now) (member set.now) }
 {
-    let mut n: u32 = 0;
-    let mut i: usize = 0;
-    while i < set.len() {
-        n += u64::count_ones(set[i]);
-        i += 1;
-    }
-    n
+    set.iter().map(|word| word.count_ones()).sum()
 }
 
-// No tile of the set is n or more. The words of lesser tiles are not gone through; `free` is how many
-// of the next word's tiles are below n.
+// No word has a tile.
+fn is_empty(words: &[u64]) -> bool
+    ensures { result ≡ list_all (λ w. eqb w 0) words.now }
+{
+    words.iter().all(|word| *word == 0)
+}
+
+// No tile of the set is n or more. The words of lesser tiles are not gone through; n % 64 is how many of the next word's tiles are below n.
 pub(crate) fn all_below(set: &[u64], n: usize) -> bool
     ensures { result ≡ all_below n set.now }
 {
-    let mut i = n / 64;
-    let mut free = n % 64;
-    while i < set.len() {
-        if set[i] >> free != 0 {
-            return false;
-        }
-        free = 0;
-        i += 1;
+    let first = n / 64;
+    if set.len() <= first {
+        return true;
     }
-    true
+    set[first] >> (n % 64) == 0 && is_empty(&set[first + 1..])
 }

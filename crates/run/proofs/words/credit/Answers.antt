@@ -1,81 +1,52 @@
 -- `run::words::credit` meets its contract. Assumes nothing.
 use Rattle.run.proofs.WordLaws.{how_many-none}
-use Rattle.run.proofs.CreditLaws.{New, one_more, none_more, credited-is, rest-credited, all-credited, all-counted, few, ones-few, new-lt}
-use lib.ListN.{length}
-use Prim.Native.Nat.{ℕ, ◌+◌, ◌*◌, ◌/◌, ◌≤◌, ◌<◌}
+use Rattle.run.proofs.CreditLaws.{within, New, one_more, none_more, credited-is, rest-credited, all-credited, all-counted, few, ones-few, new-lt}
+use lib.ListN.{length, get_or}
+use Prim.Native.Nat.{ℕ, ◌+◌, ◌*◌, ◌/◌, ◌^◌, ◌≤◌, ◌<◌}
 use mathlib.Core.Path.{refl, sym}
 use native.Mathlib.Omega.{arith}
 use Rattle.run.proofs.words.credit.Goals as goal
 use Rattle.run.proofs.words.credit.Goals.{then-entered-ne0, else-entered-ne0}
 
--- a word that is gone through is one of the set's
-within : (n m i : ℕ) → n ≤ 64 * m → i < (n + 63) / 64 → i < m
-within n m i h b = omega arith
-
 pub loop-i-init : goal.loop-i-init
-loop-i-init c = (omega arith, record { bound = omega arith; long = refl; small = λ j h. absurd (omega arith); done = λ j h. absurd (omega arith); kept = λ j h. refl; count = sym (how_many-none _) })
-
-pub offset_bounds-cur-i : goal.offset_bounds-cur-i
-offset_bounds-cur-i c = omega (arith, within _ _ _ c.requires.creditable.few c.loop-i-test.true, c.requires.creditable.last, c.requires.creditable.long, c.loop-i.invariant.1.long, c.requires.creditable.small)
-
-pub bounds-cur-i : goal.bounds-cur-i
-bounds-cur-i c = omega (arith, within _ _ _ c.requires.creditable.few c.loop-i-test.true, c.requires.creditable.last, c.requires.creditable.long, c.loop-i.invariant.1.long, c.requires.creditable.small)
-
-pub offset_bounds-last-i : goal.offset_bounds-last-i
-offset_bounds-last-i c = omega (arith, within _ _ _ c.requires.creditable.few c.loop-i-test.true, c.requires.creditable.last, c.requires.creditable.long, c.loop-i.invariant.1.long, c.requires.creditable.small)
-
-pub bounds-last-i : goal.bounds-last-i
-bounds-last-i c = omega (arith, within _ _ _ c.requires.creditable.few c.loop-i-test.true, c.requires.creditable.last, c.requires.creditable.long, c.loop-i.invariant.1.long, c.requires.creditable.small)
-
-pub offset_bounds-credited-i : goal.offset_bounds-credited-i
-offset_bounds-credited-i c = omega (arith, within _ _ _ c.requires.creditable.few c.loop-i-test.true, c.requires.creditable.last, c.requires.creditable.long, c.loop-i.invariant.1.long, c.requires.creditable.small)
-
-pub bounds-credited-i : goal.bounds-credited-i
-bounds-credited-i c = omega (arith, within _ _ _ c.requires.creditable.few c.loop-i-test.true, c.requires.creditable.last, c.requires.creditable.long, c.loop-i.invariant.1.long, c.requires.creditable.small)
+loop-i-init c = record { bound = omega arith; long = refl; small = λ j h. absurd (omega arith); done = λ j h. absurd (omega arith); kept = λ j h. refl; count = sym (how_many-none _) }
 
 pub overflow_add-fresh : goal.overflow_add-fresh
 overflow_add-fresh c =
-    let n = c.loop-i.invariant.1 in
+    let n = c.loop-i.invariant in
     let a = c.args in
+    let fc : get_or c.loop-i.credited c.loop-i.i 0 < 2 ^ 64 = omega (arith, n.kept c.loop-i.i (omega arith), c.requires.by_index c.loop-i.i) in
     record {
       fits = omega (
         arith,
         n.count,
         few (64 * c.loop-i.i) (New a.credited.now a.last.now a.cur.now),
-        ones-few _ (new-lt _ _ _ (c.slice_known-1.given c.loop-i.i).fits (c.shared_slice_known-in-loop-i-1.given c.loop-i.i).fits (c.shared_slice_known-1.given c.loop-i.i).fits),
+        ones-few _ (new-lt _ _ _ fc (c.type_inv.last c.loop-i.i).fits (c.type_inv.cur c.loop-i.i).fits),
         c.requires.creditable.small,
         within _ _ _ c.requires.creditable.few c.loop-i-test.true,
       );
     }
 
-pub offset_bounds-credited-i-then-entered-ne0 : goal.offset_bounds-credited-i-then-entered-ne0
-offset_bounds-credited-i-then-entered-ne0 c = omega (arith, within _ _ _ c.requires.creditable.few c.loop-i-test.true, c.requires.creditable.last, c.requires.creditable.long, c.loop-i.invariant.1.long, c.requires.creditable.small)
-
-pub bounds-credited-i-then-entered-ne0 : goal.bounds-credited-i-then-entered-ne0
-bounds-credited-i-then-entered-ne0 c = omega (arith, within _ _ _ c.requires.creditable.few c.loop-i-test.true, c.requires.creditable.last, c.requires.creditable.long, c.loop-i.invariant.1.long, c.requires.creditable.small)
-
 pub loop-i-preserved : goal.loop-i-preserved
 loop-i-preserved c =
     let i = c.loop-i.i in
-    let fc = (c.slice_known-1.given i).fits in
-    let fl = (c.shared_slice_known-in-loop-i-1.given i).fits in
-    let fe = (c.shared_slice_known-1.given i).fits in
-    let n = c.loop-i.invariant.1 in
+    let fl = (c.type_inv.last i).fits in
+    let fe = (c.type_inv.cur i).fits in
+    let n = c.loop-i.invariant in
+    let fc : get_or c.loop-i.credited i 0 < 2 ^ 64 = omega (arith, n.kept i (omega arith), c.requires.by_index i) in
     let t = c.loop-i-test.true in
-    let b : i < length c.loop-i.credited = omega (arith, within _ _ _ c.requires.creditable.few t, n.long) in (
-      omega arith,
-      elim c.if-entered-ne0.branch [
-        | then-entered-ne0 w ↦ credited-is _ _ _ w.credited-is w.fresh-is (one_more _ _ _ _ _ _ n b fc fl fe)
-        | else-entered-ne0 w ↦ credited-is _ _ _ w.credited-is w.fresh-is (none_more _ _ _ _ _ _ n b fc fl fe w.if-entered-ne0.false)
-      ],
-    )
+    let b : i < length c.loop-i.credited = omega (arith, within _ _ _ c.requires.creditable.few t, n.long) in
+    elim c.if-entered-ne0.branch [
+      | then-entered-ne0 w ↦ credited-is _ _ _ w.credited-is w.fresh-is (one_more _ _ _ _ _ _ n b fc fl fe)
+      | else-entered-ne0 w ↦ credited-is _ _ _ w.credited-is w.fresh-is (none_more _ _ _ _ _ _ n b fc fl fe w.if-entered-ne0.false)
+    ]
 
 pub shape_of-credited : goal.shape_of-credited
-shape_of-credited c = c.loop-i.invariant.1.long
+shape_of-credited c = c.loop-i.invariant.long
 
 pub returns : goal.returns
 returns c =
-    let n = c.loop-i.invariant.1 in
+    let n = c.loop-i.invariant in
     let past : (t : ℕ) → 64 * c.loop-i.i ≤ t → c.args.n ≤ t = λ t b. omega (arith, c.loop-i-test.false) in
     let r = rest-credited _ _ _ _ _ _ c.requires.by_index c.requires.creditable.long (λ t b u. c.requires.creditable.past t (past t b) (omega (arith, u, c.requires.creditable.long))) n in
     record { credited_after = all-credited _ _ _ _ _ _ refl r; value = all-counted _ _ _ _ _ _ refl r }
