@@ -3,12 +3,14 @@ use mathlib.Core.Bool.{Bool, cond}
 use mathlib.Core.List.{List}
 use mathlib.Core.Path.{◌≡◌, sym, ap, ◌∙◌}
 use Prim.Native.Nat.{ℕ}
+use Rattle.std.specs.Prelude.{Result}
 use lib.Dec.{eqb}
 use lib.Ieee.{Float}
 use borrow.Author.Tests.{eq-eqb, ne_eqb}
 use Rattle.course.specs.Grader.Outcome.{CourseColumns, Outcome, outcome}
 use Rattle.course.specs.Grader.LayCall.{lay_on_call}
 use Rattle.course.specs.Grader.Curbs.{Edged, edged}
+use Rattle.course.specs.declared.cause.Cause.{Cause}
 use Rattle.course.specs.declared.checkpoints.Checkpoint.{Checkpoint}
 use Rattle.course.specs.declared.points.Laid.{Laid}
 use Rattle.course.specs.declared.curbs.CurbAnswer.{CurbAnswer}
@@ -30,7 +32,7 @@ use Rattle.run.specs.declared.start.StartValues.{StartValues}
 use Rattle.run.specs.declared.drive.DroveParts.{DroveParts}
 use Rattle.run.specs.declared.settle.SettleAnswer.{SettleAnswer}
 use Rattle.run.specs.declared.settle.SettleValues.{SettleValues}
-use Rattle.run.specs.declared.sheet.SheetAnswer.{SheetAnswer}
+use Rattle.run.specs.declared.sheet.RunSheet.{RunSheet}
 use Rattle.run.specs.declared.save.SaveAnswer.{SaveAnswer}
 use Rattle.run.specs.declared.restore.RestoreAnswer.{RestoreAnswer}
 use Rattle.run.proofs.DriveLaws.{refused-keeps}
@@ -120,13 +122,13 @@ restored-whole a r d k e p = (λ i. record { cause = e i; run = r }) ∙ ap flat
 
 -- ---- a whole replay
 
-pub answers-whole : (fl : FlatLaid) (k : ℕ) (v : StartValues) (fs : FlatSheet) (l : Laid) (b : StartAnswer) (s : SheetAnswer)
+pub answers-whole : (fl : FlatLaid) (k : ℕ) (v : StartValues) (fs : FlatSheet) (l : Laid) (b : StartAnswer) (s : Result RunSheet Cause)
     → fl ≡ flat_laid l → k ≡ start_cause_of b → v ≡ start_values_of b → fs ≡ flat_sheet s
     → record { laid = fl; start_cause = k; start_count = v.count; start_lap = v.lap; sheet = fs } ≡ flat_answers l b s
 unfolding flat_answers
 answers-whole fl k v fs l b s el ek ev es = λ i. record { laid = el i; start_cause = ek i; start_count = (ev i).count; start_lap = (ev i).lap; sheet = es i }
 
-pub replayed-whole : (f : FlatReplayed) (a : Laid) (b : StartAnswer) (s : SheetAnswer) (l : CourseColumns) (ws : List ℕ) (ns : List Float) (q : Replay)
+pub replayed-whole : (f : FlatReplayed) (a : Laid) (b : StartAnswer) (s : Result RunSheet Cause) (l : CourseColumns) (ws : List ℕ) (ns : List Float) (q : Replay)
     → f ≡ flat_answers a b s → replay a b s l ws ns ≡ q → (f ≡ flat_replayed q) × (replay_columns l ws ns ≡ columns_after q)
 unfolding flat_replayed columns_after
 replayed-whole f a b s l ws ns q e p =

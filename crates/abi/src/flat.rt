@@ -16,7 +16,7 @@ use run::drive::DriveAnswer;
 use run::restore::{RestoreAnswer, SavedCourse};
 use run::save::SaveAnswer;
 use run::settle::{SettleAnswer, SettleValues};
-use run::sheet::SheetAnswer;
+use run::sheet::RunSheet;
 use run::start::{StartAnswer, StartValues};
 use run::state::{Pose, Progress, Run};
 
@@ -263,12 +263,22 @@ pub(crate) fn settle_values(answer: SettleAnswer) -> SettleValues
 }
 
 // The answer of sheet.
-pub(crate) fn sheet(answer: SheetAnswer) -> FlatSheet
-    ensures { result ≡ flat_sheet answer }
-{
-    match answer {
-        SheetAnswer::Sheet(f) => FlatSheet {
-            cause: 0,
+impl From<Result<RunSheet, Cause>> for FlatSheet {
+    ghost from_gives = { λ a f. f ≡ flat_sheet a };
+
+    #[tactic(auto, unfolding(crate::specs::Grader::Flat::flat_sheet))]
+    fn from(answer: Result<RunSheet, Cause>) -> FlatSheet {
+        let f = answer.unwrap_or(RunSheet {
+            tick: 0,
+            credited: 0,
+            n: 0,
+            lap: false,
+            ended: false,
+            fallback: false,
+            share: 0,
+        });
+        FlatSheet {
+            cause: cause::cause_number(&answer),
             tick: f.tick,
             credited: f.credited,
             n: f.n,
@@ -276,17 +286,7 @@ pub(crate) fn sheet(answer: SheetAnswer) -> FlatSheet
             lap: f.lap,
             ended: f.ended,
             fallback: f.fallback,
-        },
-        SheetAnswer::Refused(cause) => FlatSheet {
-            cause,
-            tick: 0,
-            credited: 0,
-            n: 0,
-            share: 0,
-            lap: false,
-            ended: false,
-            fallback: false,
-        },
+        }
     }
 }
 
@@ -353,6 +353,6 @@ pub(crate) fn replayed(r: Replayed) -> FlatReplayed
         start_cause: start_cause(start),
         start_count: v.count,
         start_lap: v.lap,
-        sheet: sheet(last),
+        sheet: FlatSheet::from(last),
     }
 }

@@ -26,7 +26,7 @@ use run::{drive, numbers, reward, settle, sheet, start};
 pub extern "C" fn grader_sheet_parts(setup: Setup, progress: Progress) -> FlatSheet
     ensures { result ≡ flat_sheet (sheet_of most_tiles setup progress) }
 {
-    flat::sheet(sheet::sheet(setup, progress))
+    FlatSheet::from(sheet::sheet(setup, progress))
 }
 
 // tile * new_tiles / max(n, 1) + step, or the off value alone.

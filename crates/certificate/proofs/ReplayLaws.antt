@@ -2,6 +2,7 @@
 use mathlib.Core.Bool.{Bool, true, false, cond, not, ◌&&◌, or-true}
 use mathlib.Core.List.{List, [], ◌∷◌, ◌++◌, map-append}
 use mathlib.Core.Path.{◌≡◌, refl, sym, ap, ap₂, ◌∙◌, subst}
+use Rattle.std.specs.Prelude.{Result, Err}
 use Prim.Native.Nat.{ℕ, zero, suc, ◌*◌, ◌≤◌, ◌<◌, min}
 use native.Mathlib.Numerals.{add-one}
 use native.Mathlib.Omega.{arith}
@@ -17,6 +18,7 @@ use Rattle.course.specs.Grader.Outcome as course
 use Rattle.course.specs.Grader.Outcome.{Outcome, lay_into, laid_figures, laid_answer, laid_cause_of, laid_values_of}
 use Rattle.course.specs.Rules.Lay.{CoursePoints, course_of}
 use Rattle.course.specs.Grader.LayCall.{lay_call}
+use Rattle.course.specs.declared.cause.Cause.{Cause}
 use Rattle.course.specs.declared.tiles.TrackPoint.{TrackPoint}
 use Rattle.course.specs.declared.points.Laid.{Laid}
 use Rattle.course.specs.declared.points.LaidCourse.{LaidCourse}
@@ -28,7 +30,7 @@ use Rattle.run.specs.Rules.Arguments.{settings_ok, short_columns}
 use Rattle.run.specs.Grader.Widths.{full_words, most_tiles}
 use Rattle.run.specs.Grader.State.{State, Columns, columns, short_of, unfit}
 use Rattle.run.specs.Grader.Start.{Settings, start_short, start_cause, start_answer, setup_of, first_progress, zero_state, Begun, begun, start_at, start_of}
-use Rattle.run.specs.Grader.Sheet.{figures_of, sheet_answer, no_figures, sheet_cause, sheet_of}
+use Rattle.run.specs.Grader.Sheet.{figures_of, sheet_of}
 use Rattle.certificate.specs.Grader.Calls.{Call, replies_of, state_after}
 use Rattle.certificate.specs.Rules.Answers.{Answer}
 use Rattle.certificate.specs.Rules.Answers.Answer.{refused}
@@ -42,7 +44,7 @@ use Rattle.certificate.specs.Grader.CallColumns.{call_words, call_numbers, answe
 use Rattle.certificate.specs.Steps.Replay.{lent_to, call_from, calls_to}
 use Rattle.certificate.specs.Grader.Replay.{told_from, tolds_to, plain_start, plain_answers, sheet_on, plain_sheet, laid_course, replay_on, room_for, replay_of}
 use Rattle.run.specs.declared.start.StartAnswer.{StartAnswer}
-use Rattle.run.specs.declared.sheet.SheetAnswer.{SheetAnswer}
+use Rattle.run.specs.declared.sheet.RunSheet.{RunSheet}
 use Rattle.certificate.proofs.LentColumns.{laid-whole, count, own_length}
 use Rattle.certificate.proofs.Simulation.{HoldsCourse, history_state, fits-state}
 use Rattle.certificate.proofs.Certificate.{zeros-stay, zeros-after, replies-are, after_is, begins, start-same, start-accepted, lent-holds, no-cause}
@@ -139,7 +141,7 @@ tolds-many k ws ns (suc n) = length-append (tolds_to k ws ns n) _ ∙ add-one (l
 -- ---- a start and the calls after it, by the number of start's cause
 
 -- the sheet of a state
-abbrev pub sheet_in : State → SheetAnswer
+abbrev pub sheet_in : State → Result RunSheet Cause
 sheet_in s = sheet_of most_tiles s.setup s.progress
 
 -- start is told the fallback that laying answered, and the seed
@@ -157,8 +159,8 @@ module _ (b : Opening) (k : LentLengths) (n : ℕ) (calls : List ℕ) (given : L
     pub sheet : sheet_in (state_after full_words most_tiles s (calls_to l calls given n)) ≡ plain_sheet j c b ts
 
   -- a refused start
-  no-sheet : sheet_in (zero_state full_words) ≡ sheet_answer 4 no_figures
-  unfolding sheet_of sheet_cause sheet_answer unfit zero_state first_progress
+  no-sheet : sheet_in (zero_state full_words) ≡ Err Cause.State
+  unfolding sheet_of unfit zero_state first_progress
   no-sheet = refl
 
   refused-plain : (j : ℕ) (c : CoursePoints) (l l' : Columns) (a : Settings) (sa : StartAnswer) (s : State) → begun sa s ≡ start_at full_words (suc j) l' a → Plain (suc j) c l sa s
@@ -237,7 +239,7 @@ module _ (b : Opening) (k : LentLengths) (n : ℕ) (calls : List ℕ) (given : L
         (p.0, p.1 ∙ (λ i. columns (take-length o.lent.tiles i) (take-length o.lent.offsets i) o.lent.list))
 
     figures : (h : History) → sheet_in (history_state full_words most_tiles c room some fits label h) ≡ sheet_on c fallback h
-    unfolding sheet_of sheet_cause figures_of setup_of sheet_on
+    unfolding sheet_of figures_of setup_of sheet_on
     figures h = rw (fits-state full_words most_tiles c room some fits label h)
 
     module _ (same-tiles : length o.lent.tiles ≡ k.tiles) (same-offsets : length o.lent.offsets ≡ k.offsets) where
@@ -329,7 +331,7 @@ module _ (seed : ℕ) (l : course.CourseColumns) (b : Opening) (n : ℕ) (calls 
 
 -- what each call of a replay leaves, where there is room for the calls told and their answers
 pub record ReplayCalls (seed : ℕ) (l : course.CourseColumns) (b : Opening) (n : ℕ) (calls : List ℕ) (given : List Float) (words : List ℕ) (numbers : List Float)
-    (o : Outcome) (v : LaidCourse) (sa : StartAnswer) (s last : State) (sh : SheetAnswer) (words' : List ℕ) (numbers' : List Float) : Type 0 where
+    (o : Outcome) (v : LaidCourse) (sa : StartAnswer) (s last : State) (sh : Result RunSheet Cause) (words' : List ℕ) (numbers' : List Float) : Type 0 where
   pub room : room_for n (length calls) (length given) (length words) (length numbers) ≡ true
   pub laid : o ≡ lay_call max_attempts seed l
   pub tiles : length o.lent.tiles ≡ length l.tiles
@@ -343,7 +345,7 @@ pub record ReplayCalls (seed : ℕ) (l : course.CourseColumns) (b : Opening) (n 
 
 -- all that the replay leaves
 pub replayed : {seed : ℕ} {l : course.CourseColumns} {b : Opening} {n : ℕ} {calls : List ℕ} {given : List Float} {words : List ℕ} {numbers : List Float}
-    {o : Outcome} {v : LaidCourse} {sa : StartAnswer} {s last : State} {sh : SheetAnswer} {words' : List ℕ} {numbers' : List Float}
+    {o : Outcome} {v : LaidCourse} {sa : StartAnswer} {s last : State} {sh : Result RunSheet Cause} {words' : List ℕ} {numbers' : List Float}
     → ReplayCalls seed l b n calls given words numbers o v sa s last sh words' numbers'
     → record { laid = o.answer; start = sa; sheet = sh; lent = o.lent; words = words'; numbers = numbers' } ≡ replay_of seed l b n calls given words numbers
 unfolding replay_of replay_on

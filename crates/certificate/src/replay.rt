@@ -12,9 +12,10 @@ ghost use Rattle.certificate.specs.Grader.Replay.{room_for, replay, replay_of};
 ghost use Rattle.course.specs.Grader.Outcome.{lent};
 
 use crate::{answer, call};
+use course::cause::Cause;
 use course::points::Laid;
 use course::{lay, points};
-use run::sheet::SheetAnswer;
+use run::sheet::RunSheet;
 use run::start::StartAnswer;
 use run::state::{Pose, Run};
 use run::{drive, settle, sheet, start};
@@ -33,7 +34,7 @@ pub const ANSWER_NUMBERS: usize = 12;
 pub struct Replayed {
     pub laid: Laid,
     pub start: StartAnswer,
-    pub sheet: SheetAnswer,
+    pub sheet: Result<RunSheet, Cause>,
 }
 
 // A drive from the numbers of its call, and its answer.
@@ -239,7 +240,7 @@ pub fn replay(
         return Replayed {
             laid: Laid::Refused(2),
             start: StartAnswer::Refused(2),
-            sheet: SheetAnswer::Refused(4),
+            sheet: Err(Cause::State),
         };
     }
     let laid = lay::lay(seed, alpha, beta, x, y, tiles, offsets, list);

@@ -2,8 +2,9 @@
 ghost use Rattle.std.specs.Prelude.{◌≤◌};
 
 use certificate::replay::{ANSWER_NUMBERS, ANSWER_WORDS};
+use course::cause::Cause;
 use course::points::Laid;
-use run::sheet::{RunSheet, SheetAnswer};
+use run::sheet::RunSheet;
 use run::start::StartAnswer;
 use std::io;
 use std::io::Write;
@@ -82,10 +83,10 @@ fn figures<W: Write>(out: &mut W, s: RunSheet) -> io::Result<()> {
     end(out)
 }
 
-pub fn sheet<W: Write>(out: &mut W, answer: SheetAnswer) -> io::Result<()> {
+pub fn sheet<W: Write>(out: &mut W, answer: Result<RunSheet, Cause>) -> io::Result<()> {
     match answer {
-        SheetAnswer::Sheet(s) => figures(out, s),
-        SheetAnswer::Refused(cause) => vectors::line_refused(out, cause),
+        Ok(s) => figures(out, s),
+        Err(cause) => vectors::line_refused(out, cause.number()),
     }
 }
 

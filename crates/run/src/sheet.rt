@@ -6,6 +6,7 @@ ghost use Rattle.run.specs.Grader.Sheet.{share_of, sheet_of};
 use crate::state;
 use crate::state::{Progress, Setup};
 use crate::widths::MOST_TILES;
+use course::cause::Cause;
 
 #[repr(C)]
 #[derive(Clone, Copy)]
@@ -20,13 +21,6 @@ pub struct RunSheet {
     pub share: u32,
 }
 
-// How a sheet is answered: with its figures, or refused by a cause's number.
-#[derive(Clone, Copy)]
-pub enum SheetAnswer {
-    Sheet(RunSheet),
-    Refused(u32),
-}
-
 // 1000 * credited / n, rounded down. In 64 bits no count is too great for the product.
 fn share(credited: u32, n: u32) -> u32
     requires { (0 < n) × (credited ≤ n) }
@@ -37,13 +31,13 @@ fn share(credited: u32, n: u32) -> u32
 
 // The figures of a run, ended or not; refused where its counts are not those of a run. They are read from what start fixed and what
 // settle changed.
-pub fn sheet(setup: Setup, progress: Progress) -> SheetAnswer
+pub fn sheet(setup: Setup, progress: Progress) -> Result<RunSheet, Cause>
     ensures { result ≡ sheet_of most_tiles setup progress }
 {
     if state::is_unfit(MOST_TILES, setup, progress) {
-        return SheetAnswer::Refused(4);
+        return Err(Cause::State);
     }
-    SheetAnswer::Sheet(RunSheet {
+    Ok(RunSheet {
         tick: progress.tick,
         credited: progress.visited_count,
         n: setup.n,

@@ -22,7 +22,7 @@ use run::drive::{DriveAnswer, Drove};
 use run::dynamics::Force;
 use run::reward::Weights;
 use run::settle::SettleAnswer;
-use run::sheet::{RunSheet, SheetAnswer};
+use run::sheet::RunSheet;
 use run::start::StartAnswer;
 use run::state::Run;
 use run::{drive, dynamics, quad, reward, settle, sheet, start};
@@ -287,8 +287,8 @@ fn line_sheet<W: Write>(out: &mut W, s: RunSheet) -> io::Result<()> {
 
 fn replay_sheet<W: Write>(out: &mut W, run: Run) -> io::Result<()> {
     match sheet::sheet(run.setup, run.progress) {
-        SheetAnswer::Sheet(s) => line_sheet(out, s),
-        SheetAnswer::Refused(cause) => vectors::line_refused(out, cause),
+        Ok(s) => line_sheet(out, s),
+        Err(cause) => vectors::line_refused(out, cause.number()),
     }
 }
 

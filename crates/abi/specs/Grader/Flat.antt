@@ -1,10 +1,12 @@
 -- Each answer as the numbers that cross the C boundary: those that the crates below define for each case. Assumes nothing.
 use Rattle.std.specs.Prelude.{List, [], ◌∷◌, ℕ, get_or, Result, Float}
+use Rattle.std.specs.Result.{result_unwrap_or}
 use Rattle.std.specs.Float.{nan}
 use Rattle.rng.specs.Rules.SplitMix.{Drawn}
 use Rattle.course.specs.Grader.Outcome.{CourseColumns, laid_cause_of, laid_values_of}
 use Rattle.course.specs.Grader.Curbs.{curb_cause_of, curb_count_of}
 use Rattle.course.specs.Grader.Angle.{angle_cause_of, value_of}
+use Rattle.course.specs.Grader.Cause.{cause_number}
 use Rattle.course.specs.declared.cause.Cause.{Cause}
 use Rattle.course.specs.declared.checkpoints.Checkpoint.{Checkpoint}
 use Rattle.course.specs.declared.points.Laid.{Laid}
@@ -13,7 +15,7 @@ use Rattle.run.specs.Grader.State.{State}
 use Rattle.run.specs.Grader.Start.{Begun, start_cause_of, start_values_of}
 use Rattle.run.specs.Grader.Drive.{drive_cause_of}
 use Rattle.run.specs.Grader.Settle.{settle_cause_of, settle_values_of}
-use Rattle.run.specs.Grader.Sheet.{sheet_cause_of, sheet_figures_of}
+use Rattle.run.specs.Grader.Sheet.{no_figures}
 use Rattle.run.specs.Grader.Save.{AfterSave, save_cause_of, save_length_of}
 use Rattle.run.specs.Grader.Restore.{AfterRestore, restore_cause_of, saved_cause_of, saved_for_of}
 use Rattle.certificate.specs.Grader.Replay.{Replay}
@@ -22,7 +24,7 @@ use Rattle.run.specs.declared.start.StartAnswer.{StartAnswer}
 use Rattle.run.specs.declared.state.Progress.{Progress}
 use Rattle.run.specs.declared.drive.DriveAnswer.{DriveAnswer}
 use Rattle.run.specs.declared.settle.SettleAnswer.{SettleAnswer}
-use Rattle.run.specs.declared.sheet.SheetAnswer.{SheetAnswer}
+use Rattle.run.specs.declared.sheet.RunSheet.{RunSheet}
 use Rattle.run.specs.declared.save.SaveAnswer.{SaveAnswer}
 use Rattle.run.specs.declared.restore.SavedCourse.{SavedCourse}
 use Rattle.abi.specs.declared.flat.FlatLaid.{FlatLaid}
@@ -133,17 +135,17 @@ flat_settled a p =
       progress = p;
     }
 
-unfoldable pub flat_sheet : SheetAnswer → FlatSheet
+unfoldable pub flat_sheet : Result RunSheet Cause → FlatSheet
 flat_sheet a =
     record {
-      cause = sheet_cause_of a;
-      tick = (sheet_figures_of a).tick;
-      credited = (sheet_figures_of a).credited;
-      n = (sheet_figures_of a).n;
-      share = (sheet_figures_of a).share;
-      lap = (sheet_figures_of a).lap;
-      ended = (sheet_figures_of a).ended;
-      fallback = (sheet_figures_of a).fallback;
+      cause = cause_number a;
+      tick = (result_unwrap_or a no_figures).tick;
+      credited = (result_unwrap_or a no_figures).credited;
+      n = (result_unwrap_or a no_figures).n;
+      share = (result_unwrap_or a no_figures).share;
+      lap = (result_unwrap_or a no_figures).lap;
+      ended = (result_unwrap_or a no_figures).ended;
+      fallback = (result_unwrap_or a no_figures).fallback;
     }
 
 -- ---- saves
@@ -170,7 +172,7 @@ flat_saved_for a = record { cause = saved_cause_of a; n = (saved_for_of a).n; se
 
 -- ---- a whole replay: its three answers, and the columns that it is lent
 
-unfoldable pub flat_answers : Laid → StartAnswer → SheetAnswer → FlatReplayed
+unfoldable pub flat_answers : Laid → StartAnswer → Result RunSheet Cause → FlatReplayed
 flat_answers l b s =
     record {
       laid = flat_laid l;

@@ -1,15 +1,16 @@
 -- The batch grader: a seed's course is laid, a run is started on it, and a whole list of calls is answered from lent columns. What it writes and
 -- answers is said by the plain scorer (document 01, "The plain scorer") on the definition's course. Assumes nothing.
-use Rattle.std.specs.Prelude.{Bool, false, cond, ◌&&◌, List, [], ◌∷◌, ◌++◌, ℕ, zero, suc, ◌*◌, min, leb, eqb, length, get_or, drop, replicate, Float}
+use Rattle.std.specs.Prelude.{Bool, false, cond, ◌&&◌, List, [], ◌∷◌, ◌++◌, ℕ, zero, suc, ◌*◌, min, leb, eqb, length, get_or, drop, replicate, Float, Result, Ok, Err}
 use Rattle.course.specs.Rules.Constants.{max_attempts}
 use Rattle.course.specs.Grader.Outcome.{CourseColumns, no_values, laid_answer}
 use Rattle.course.specs.Rules.Lay.{CoursePoints, course_of}
 use Rattle.course.specs.Grader.LayCall.{lay_call}
+use Rattle.course.specs.declared.cause.Cause.{Cause}
 use Rattle.course.specs.declared.tiles.TrackPoint.{TrackPoint}
 use Rattle.course.specs.declared.points.Laid.{Laid}
 use Rattle.run.specs.Grader.Widths.{most_tiles}
 use Rattle.run.specs.Grader.Start.{start_answer, no_start}
-use Rattle.run.specs.Grader.Sheet.{share_of, sheet_answer, no_figures}
+use Rattle.run.specs.Grader.Sheet.{share_of}
 use Rattle.certificate.specs.Rules.Answers.{Answer}
 use Rattle.certificate.specs.Rules.Answers.Answer.{refused}
 use Rattle.certificate.specs.Claim.Scorer.{LentLengths, Opening, Told, History, settles, touched_count, lap_done, ended, start_number, scores, kept_of}
@@ -19,7 +20,7 @@ use Rattle.course.specs.Rules.Tiles.{number_at}
 use Rattle.run.specs.Grader.Numbers.{motions_from, poses_from}
 use Rattle.certificate.specs.Grader.CallColumns.{call_words, call_numbers, answer_words, answer_numbers, part_at, all_words, all_numbers}
 use Rattle.run.specs.declared.start.StartAnswer.{StartAnswer}
-use Rattle.run.specs.declared.sheet.SheetAnswer.{SheetAnswer}
+use Rattle.run.specs.declared.sheet.RunSheet.{RunSheet}
 
 -- ---- the calls, as the plain scorer is told of them
 
@@ -44,9 +45,9 @@ plain_answers zero c b ts = scores c (begun b) ts
 plain_answers (suc k) c b ts = replicate (length ts) (refused 4)
 
 -- the sheet of the calls kept; the state of zeros has none
-unfoldable pub sheet_on : List TrackPoint → Bool → History → SheetAnswer
+unfoldable pub sheet_on : List TrackPoint → Bool → History → Result RunSheet Cause
 sheet_on c fallback h =
-    sheet_answer zero (record {
+    Ok (record {
       tick = settles h;
       credited = touched_count c h;
       n = length c;
@@ -56,9 +57,9 @@ sheet_on c fallback h =
       share = share_of (touched_count c h) (length c);
     })
 
-unfoldable pub plain_sheet : ℕ → CoursePoints → Opening → List Told → SheetAnswer
+unfoldable pub plain_sheet : ℕ → CoursePoints → Opening → List Told → Result RunSheet Cause
 plain_sheet zero c b ts = sheet_on c.points c.fallback (kept_of c.points (begun b) ts)
-plain_sheet (suc k) c b ts = sheet_answer 4 no_figures
+plain_sheet (suc k) c b ts = Err Cause.State
 
 -- ---- the call
 
@@ -71,12 +72,12 @@ laid_course (suc k) seed = record { points = []; fallback = false }
 pub record Replay : Type 0 where
   pub laid : Laid
   pub start : StartAnswer
-  pub sheet : SheetAnswer
+  pub sheet : Result RunSheet Cause
   pub lent : CourseColumns
   pub words : List ℕ
   pub numbers : List Float
 
-abbrev pub replay : Laid → StartAnswer → SheetAnswer → CourseColumns → List ℕ → List Float → Replay
+abbrev pub replay : Laid → StartAnswer → Result RunSheet Cause → CourseColumns → List ℕ → List Float → Replay
 replay laid start sheet l words numbers = record { laid = laid; start = start; sheet = sheet; lent = l; words = words; numbers = numbers }
 
 -- on the course c, with start's cause k and n calls
@@ -107,4 +108,4 @@ replay_of seed l b n calls given words numbers =
     let c = laid_course (lay_number seed l) seed in
     cond (room_for n (length calls) (length given) (length words) (length numbers))
     (replay_on l seed c (start_number c.points most_tiles k b) b n (tolds_to k calls given n) words numbers)
-    (record { laid = laid_answer 2 no_values; start = start_answer 2 no_start; sheet = sheet_answer 4 no_figures; lent = l; words = words; numbers = numbers })
+    (record { laid = laid_answer 2 no_values; start = start_answer 2 no_start; sheet = Err Cause.State; lent = l; words = words; numbers = numbers })

@@ -4,4 +4,4 @@ use mathlib.Core.Path.{ap, ◌∙◌}
 use Rattle.abi.proofs.runs.grader_sheet_parts.Goals as goal
 
 pub returns : goal.returns
-returns c = c.sheet-2.ensures ∙ ap flat_sheet c.sheet.ensures
+returns c = c.from.ensures ∙ ap flat_sheet c.sheet.ensures

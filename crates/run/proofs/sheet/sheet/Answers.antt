@@ -1,11 +1,11 @@
 -- `run::sheet::sheet` meets its contract. Assumes nothing.
 use Rattle.run.proofs.SheetLaws.{fit-some, fit-credited}
-use Rattle.run.specs.Grader.Sheet.{sheet_of, sheet_cause, sheet_answer, figures_of}
+use Rattle.run.specs.Grader.Sheet.{sheet_of, figures_of}
 use mathlib.Core.Path.{sym, ◌∙◌}
 use Rattle.run.proofs.sheet.sheet.Goals as goal
 
 pub returns-then-is_unfit : goal.returns-then-is_unfit
-unfolding sheet_of sheet_cause sheet_answer
+unfolding sheet_of
 returns-then-is_unfit c = simp (← c.is_unfit.ensures, c.if-is_unfit.true)
 
 pub share-requires : goal.share-requires
@@ -14,5 +14,5 @@ share-requires c =
     (fit-some _ _ _ f, fit-credited _ _ _ f)
 
 pub returns : goal.returns
-unfolding sheet_of sheet_cause sheet_answer figures_of
+unfolding sheet_of figures_of
 returns c = simp (← c.is_unfit.ensures, c.if-is_unfit.false, c.share.ensures)
