@@ -1,0 +1,90 @@
+// A stored list and its records. A list is 64-bit words, the low byte first; a float stands there by its bits. A record
+// is the code of its kind and its arguments, a word each.
+ghost use Rattle.std.specs.Prelude.{◌≤◌, length};
+ghost use Rattle.std.specs.Iterator.{at_most};
+
+use std::marker::PhantomData;
+
+// A code that is no kind of record: it ends the list.
+#[derive(Clone, Copy, Debug, PartialEq, Eq)]
+pub struct UnknownCode(pub u64);
+
+// A kind of record, by its code.
+pub trait Kind: Copy + TryFrom<u64, Error = UnknownCode> {
+    // How many words such a record has after its code.
+    fn arguments(self, record: Record<'_>) -> usize;
+}
+
+// A list from one of its records on.
+#[derive(Clone, Copy)]
+pub struct Record<'a> {
+    words: &'a [[u8; 8]],
+}
+
+impl<'a> Record<'a> {
+    // Word number `at`, from 0; 0 past the list's end.
+    pub fn word(self, at: usize) -> u64 {
+        self.words
+            .get(at)
+            .map_or(0, |word| u64::from_le_bytes(*word))
+    }
+
+    // The float whose bits are the word.
+    pub fn float(self, at: usize) -> f64 {
+        crate::number(self.word(at))
+    }
+
+    // The low half of the word.
+    pub fn low(self, at: usize) -> u32 {
+        (self.word(at) & 0xffff_ffff) as u32
+    }
+
+    // The low bit of the word.
+    pub fn flag(self, at: usize) -> bool {
+        self.word(at) % 2 == 1
+    }
+
+    // The word as a number, but at most `most`.
+    pub fn upto(self, at: usize, most: usize) -> usize
+        ensures { result ≤ most }
+    {
+        (self.word(at) as usize).min(most)
+    }
+
+    // The n bytes from word `at` on; none where the list ends before them.
+    pub fn bytes(self, at: usize, n: usize) -> &'a [u8] {
+        let rest = self.words.get(at..).unwrap_or(&[]);
+        rest.as_flattened().get(..n).unwrap_or(&[])
+    }
+}
+
+// The records of a list in turn, each with its kind, up to the list's end or an unknown code.
+#[derive(Drop)]
+pub struct Records<'a, K> {
+    words: &'a [[u8; 8]],
+    kind: PhantomData<K>,
+}
+
+impl<'a, K: Kind> Records<'a, K> {
+    pub fn new(list: &'a [u8]) -> Self {
+        let (words, _) = list.as_chunks();
+        Records {
+            words,
+            kind: PhantomData,
+        }
+    }
+}
+
+impl<'a, K: Kind> Iterator for Records<'a, K> {
+    type Item = (K, Record<'a>);
+
+    ghost remaining = { λ s. at_most (length s.words.now) };
+
+    fn next(&mut self) -> Option<(K, Record<'a>)> {
+        let record = Record { words: self.words };
+        let (first, rest) = self.words.split_first()?;
+        let kind = K::try_from(u64::from_le_bytes(*first)).ok()?;
+        self.words = rest.get(kind.arguments(record)..).unwrap_or(&[]);
+        Some((kind, record))
+    }
+}
