@@ -1,4 +1,6 @@
 // The columns that a test program lends: of its own length each, of which a call is lent a part.
+ghost use Rattle.std.specs.Prelude.{◌≡◌, take};
+
 use crate::{hash, line};
 use std::alloc::{AllocError, Global};
 use std::io;
@@ -12,12 +14,16 @@ pub const UNTOUCHED_ID: u32 = 4000000000;
 pub const UNTOUCHED_MARK: u8 = 7;
 
 // The front of a column, as long as a record asks for: the whole column where that is longer.
-pub fn front<T>(col: &[T], length: u64) -> &[T] {
+pub fn front<T>(col: &[T], length: u64) -> &[T]
+    ensures { result.now ≡ take length col.now }
+{
     let n = (length as usize).min(col.len());
     &col[..n]
 }
 
-pub fn front_mut<T>(col: &mut [T], length: u64) -> &mut [T] {
+pub fn front_mut<T>(col: &mut [T], length: u64) -> &mut [T]
+    ensures { result.now ≡ take length col.old }
+{
     let n = (length as usize).min(col.len());
     &mut col[..n]
 }

@@ -1,6 +1,7 @@
 // A stored list and its records. A list is 64-bit words, the low byte first; a float stands there by its bits. A record
 // is the code of its kind and its arguments, a word each.
-ghost use Rattle.std.specs.Prelude.{◌≤◌, length};
+ghost use Rattle.std.specs.Prelude.{◌≡◌, ◌≤◌, length, slice_get, MatchOption};
+ghost use Rattle.std.specs.Int.{w64, from_le_bytes};
 ghost use Rattle.std.specs.Iterator.{at_most};
 
 use std::marker::PhantomData;
@@ -22,8 +23,16 @@ pub struct Record<'a> {
 }
 
 impl<'a> Record<'a> {
+    // All of a list.
+    pub fn new(list: &'a [u8]) -> Self {
+        let (words, _) = list.as_chunks();
+        Record { words }
+    }
+
     // Word number `at`, from 0; 0 past the list's end.
-    pub fn word(self, at: usize) -> u64 {
+    pub fn word(self, at: usize) -> u64
+        ensures { MatchOption (slice_get self.entry.words.now at) (result ≡ 0) (λ w. result ≡ from_le_bytes w64 w) }
+    {
         self.words
             .get(at)
             .map_or(0, |word| u64::from_le_bytes(*word))
@@ -51,8 +60,31 @@ impl<'a> Record<'a> {
         (self.word(at) as usize).min(most)
     }
 
+    // The floats of every `step`-th word from word `from` on, into the column.
+    pub fn fill_floats(self, from: usize, step: usize, col: &mut [f64]) {
+        for (i, place) in col.iter_mut().enumerate() {
+            *place = self.float(i.saturating_mul(step).saturating_add(from));
+        }
+    }
+
+    // The low halves of the words from word `from` on, into the column.
+    pub fn fill_lows(self, from: usize, col: &mut [u32]) {
+        for (i, place) in col.iter_mut().enumerate() {
+            *place = self.low(i.saturating_add(from));
+        }
+    }
+
+    // The N floats from word `from` on.
+    pub fn floats<const N: usize>(self, from: usize) -> [f64; N] {
+        let mut numbers = [0.0; N];
+        self.fill_floats(from, 1, &mut numbers);
+        numbers
+    }
+
     // The n bytes from word `at` on; none where the list ends before them.
-    pub fn bytes(self, at: usize, n: usize) -> &'a [u8] {
+    pub fn bytes(self, at: usize, n: usize) -> &'a [u8]
+        ensures { length result.now ≤ n }
+    {
         let rest = self.words.get(at..).unwrap_or(&[]);
         rest.as_flattened().get(..n).unwrap_or(&[])
     }
@@ -67,9 +99,8 @@ pub struct Records<'a, K> {
 
 impl<'a, K: Kind> Records<'a, K> {
     pub fn new(list: &'a [u8]) -> Self {
-        let (words, _) = list.as_chunks();
         Records {
-            words,
+            words: Record::new(list).words,
             kind: PhantomData,
         }
     }
