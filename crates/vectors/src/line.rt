@@ -1,5 +1,6 @@
 // Lines of answers.
 use course::cause::Cause;
+use course::points::{LaidCourse, LayError};
 use std::io::Write;
 use std::{fmt, io};
 
@@ -34,4 +35,23 @@ pub fn refused<W: Write>(out: &mut W, cause: Cause) -> io::Result<()> {
 // A hash.
 pub fn hash<W: Write>(out: &mut W, h: u64) -> io::Result<()> {
     writeln!(out, "{h:016x}")
+}
+
+// What lay and points answer: n, fallback, list length and the first point; at cause 3 the length needed.
+pub fn laid<W: Write>(out: &mut W, answer: Result<LaidCourse, LayError>) -> io::Result<()> {
+    match answer {
+        Ok(c) => {
+            writeln!(out, "{}", c.n)?;
+            writeln!(out, "{}", Flag(c.fallback))?;
+            writeln!(out, "{}", c.entries)?;
+            writeln!(out, "{}", Bits(c.first.beta))?;
+            writeln!(out, "{}", Bits(c.first.x))?;
+            writeln!(out, "{}", Bits(c.first.y))
+        }
+        Err(LayError::Short(need)) => {
+            writeln!(out, "refused 3")?;
+            writeln!(out, "{need}")
+        }
+        Err(LayError::Refused(cause)) => refused(out, cause),
+    }
 }
