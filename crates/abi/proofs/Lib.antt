@@ -1,2 +1,3 @@
 pub mod FlatLaws
+pub mod Mapped
 pub mod HostLaws

@@ -3,7 +3,7 @@ ghost use Rattle.std.specs.Prelude.{◌≡◌};
 ghost use Rattle.course.specs.Grader.Outcome.{lent};
 ghost use Rattle.course.specs.Grader.LayCall.{lay_call, lay_on_call};
 ghost use Rattle.run.specs.Rules.Overlap.{overlap_of};
-ghost use Rattle.abi.specs.Grader.Flat.{flat_laid, corners_from, spot_from, checkpoints_from};
+ghost use Rattle.abi.specs.Grader.Flat.{flat_laid, corners_from, pair_from, spot_from, checkpoints_from};
 
 use crate::flat;
 use crate::flat::{CheckpointList, Corner, FlatCheckpoint, FlatLaid, Quad};
@@ -38,13 +38,16 @@ pub extern "C" fn grader_lay_attempts(
 }
 
 // A checkpoint as the course has it.
-fn spot(c: FlatCheckpoint) -> Checkpoint
-    ensures { result ≡ spot_from c }
-{
-    Checkpoint {
-        angle: c.angle,
-        x: c.x,
-        y: c.y,
+impl From<FlatCheckpoint> for Checkpoint {
+    ghost from_gives = { λ c r. r ≡ spot_from c };
+
+    #[tactic(auto, unfolding(crate::specs::Grader::Flat::spot_from))]
+    fn from(c: FlatCheckpoint) -> Self {
+        Checkpoint {
+            angle: c.angle,
+            x: c.x,
+            y: c.y,
+        }
     }
 }
 
@@ -52,20 +55,7 @@ fn spot(c: FlatCheckpoint) -> Checkpoint
 fn spots(l: [FlatCheckpoint; 12]) -> [Checkpoint; 12]
     ensures { result ≡ checkpoints_from l }
 {
-    [
-        spot(l[0]),
-        spot(l[1]),
-        spot(l[2]),
-        spot(l[3]),
-        spot(l[4]),
-        spot(l[5]),
-        spot(l[6]),
-        spot(l[7]),
-        spot(l[8]),
-        spot(l[9]),
-        spot(l[10]),
-        spot(l[11]),
-    ]
+    l.map(Checkpoint::from)
 }
 
 // The course of one attempt with given checkpoints, the ring where that attempt is refused.
@@ -95,15 +85,21 @@ pub extern "C" fn grader_lay_checkpoints(
     flat::laid(lay::lay_checkpoints(given, alpha, beta, x, y, tiles, offsets, list))
 }
 
+// A corner as the contact has it: a pair.
+impl From<Corner> for [f64; 2] {
+    ghost from_gives = { λ c r. r ≡ pair_from c };
+
+    #[tactic(auto, unfolding(crate::specs::Grader::Flat::pair_from))]
+    fn from(c: Corner) -> Self {
+        [c.x, c.y]
+    }
+}
+
 // A quad as the contact has it: four pairs.
 fn corners(q: [Corner; 4]) -> [[f64; 2]; 4]
     ensures { result ≡ corners_from q }
 {
-    let a = [q[0].x, q[0].y];
-    let b = [q[1].x, q[1].y];
-    let c = [q[2].x, q[2].y];
-    let d = [q[3].x, q[3].y];
-    [a, b, c, d]
+    q.map(<[f64; 2]>::from)
 }
 
 // Whether two quads overlap.

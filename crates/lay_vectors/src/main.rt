@@ -7,171 +7,95 @@
 // unknown code ends the run.
 #![tactic(auto)]
 
-ghost use Rattle.std.specs.Prelude.{◌≤◌};
-
 use course::checkpoints::Checkpoint;
 use course::lay;
-use course::points::Laid;
+use course::points::{LaidCourse, LayError};
 use std::io;
-use std::io::Write;
-use vectors::front;
+use std::io::{BufWriter, Read, Write};
+use vectors::columns::{Columns, front_mut};
+use vectors::line;
+use vectors::record::{Kind, Record, Records, UnknownCode};
 
-// Seed.
-const LAY: u64 = 1;
+#[derive(Clone, Copy, Debug, PartialEq, Eq)]
+enum Request {
+    // seed
+    Lay,
+    // attempts, seed
+    Attempts,
+    // each checkpoint's angle, x and y
+    Checkpoints,
+}
 
-// Attempts, seed.
-const ATTEMPTS: u64 = 2;
+impl TryFrom<u64> for Request {
+    type Error = UnknownCode;
 
-// Each checkpoint's angle, x and y.
-const CHECKPOINTS: u64 = 3;
-
-// What stands in each place of a lent column before a call.
-const UNTOUCHED: f64 = 1e7;
-
-const UNTOUCHED_ID: u32 = 4000000000;
-
-// How many words the record has that the list begins with; 0 for an unknown code.
-fn words(rest: &[u8]) -> usize
-    ensures { result ≤ 44 }
-{
-    match vectors::word(rest, 0) {
-        LAY => 9,
-        ATTEMPTS => 10,
-        CHECKPOINTS => 44,
-        _ => 0,
+    fn try_from(code: u64) -> Result<Self, UnknownCode> {
+        match code {
+            1 => Ok(Request::Lay),
+            2 => Ok(Request::Attempts),
+            3 => Ok(Request::Checkpoints),
+            _ => Err(UnknownCode(code)),
+        }
     }
 }
 
-fn narrow(w: u64) -> u32 {
-    (w % 0x1_0000_0000) as u32
+impl Kind for Request {
+    fn arguments(self, _record: Record<'_>) -> usize {
+        match self {
+            Request::Lay => 8,
+            Request::Attempts => 9,
+            Request::Checkpoints => 43,
+        }
+    }
 }
 
 // The record's checkpoints.
-fn checkpoints(rest: &[u8]) -> [Checkpoint; 12] {
+fn checkpoints(record: Record<'_>) -> [Checkpoint; 12] {
     let mut cs = [Checkpoint {
         angle: 0.0,
         x: 0.0,
         y: 0.0,
     }; 12];
-    let mut i: usize = 0;
-    while i < 12 {
-        let angle = vectors::float(rest, 8 + i * 3);
-        let x = vectors::float(rest, 9 + i * 3);
-        let y = vectors::float(rest, 10 + i * 3);
-        cs[i] = Checkpoint { angle, x, y };
-        i += 1;
+    for (c, at) in cs.iter_mut().zip((8..44).step_by(3)) {
+        *c = Checkpoint {
+            angle: record.float(at),
+            x: record.float(at + 1),
+            y: record.float(at + 2),
+        };
     }
     cs
 }
 
-// The record's call.
-fn call(
-    rest: &[u8],
-    alpha: &mut [f64],
-    beta: &mut [f64],
-    x: &mut [f64],
-    y: &mut [f64],
-    tiles: &mut [f64],
-    offsets: &mut [u32],
-    list: &mut [u32],
-) -> Laid {
-    let a = vectors::word(rest, 8);
-    let b = vectors::word(rest, 9);
-    match vectors::word(rest, 0) {
-        LAY => lay::lay(a, alpha, beta, x, y, tiles, offsets, list),
-        ATTEMPTS => lay::lay_attempts(narrow(a), b, alpha, beta, x, y, tiles, offsets, list),
-        _ => lay::lay_checkpoints(checkpoints(rest), alpha, beta, x, y, tiles, offsets, list),
-    }
-}
-
 // The record's call on parts of the columns, of the record's lengths.
-fn call_on_parts(
-    rest: &[u8],
-    alpha: &mut [f64],
-    beta: &mut [f64],
-    x: &mut [f64],
-    y: &mut [f64],
-    tiles: &mut [f64],
-    offsets: &mut [u32],
-    list: &mut [u32],
-) -> Laid {
-    call(
-        rest,
-        front::floats_mut(alpha, vectors::word(rest, 1)),
-        front::floats_mut(beta, vectors::word(rest, 2)),
-        front::floats_mut(x, vectors::word(rest, 3)),
-        front::floats_mut(y, vectors::word(rest, 4)),
-        front::floats_mut(tiles, vectors::word(rest, 5)),
-        front::ids_mut(offsets, vectors::word(rest, 6)),
-        front::ids_mut(list, vectors::word(rest, 7)),
-    )
-}
-
-fn lines_laid<W: Write>(out: &mut W, answer: Laid) -> io::Result<()> {
-    match answer {
-        Laid::Course(c) => {
-            vectors::lines_course(
-                out,
-                c.n,
-                c.fallback,
-                c.entries,
-                c.first.beta,
-                c.first.x,
-                c.first.y,
-            )
+fn call(request: Request, record: Record<'_>, columns: &mut Columns) -> Result<LaidCourse, LayError> {
+    let alpha = front_mut(&mut columns.alpha, record.word(1));
+    let beta = front_mut(&mut columns.beta, record.word(2));
+    let x = front_mut(&mut columns.x, record.word(3));
+    let y = front_mut(&mut columns.y, record.word(4));
+    let tiles = front_mut(&mut columns.tiles, record.word(5));
+    let offsets = front_mut(&mut columns.offsets, record.word(6));
+    let list = front_mut(&mut columns.list, record.word(7));
+    match request {
+        Request::Lay => lay::lay(record.word(8), alpha, beta, x, y, tiles, offsets, list),
+        Request::Attempts => {
+            let attempts = record.low(8);
+            lay::lay_attempts(attempts, record.word(9), alpha, beta, x, y, tiles, offsets, list)
         }
-        Laid::Short(need) => vectors::lines_short(out, need),
-        Laid::Refused(cause) => vectors::line_refused(out, cause),
-    }
-}
-
-// The answer to the record that the list begins with, and what the lent columns hold then.
-fn replay_one<W: Write>(
-    out: &mut W,
-    rest: &[u8],
-    offsets: &mut [u32],
-    list: &mut [u32],
-) -> io::Result<()> {
-    let mut alpha = [UNTOUCHED; 2600];
-    let mut beta = [UNTOUCHED; 2600];
-    let mut x = [UNTOUCHED; 2600];
-    let mut y = [UNTOUCHED; 2600];
-    let mut tiles = [UNTOUCHED; 20100];
-    vectors::fill(offsets, UNTOUCHED_ID);
-    vectors::fill(list, UNTOUCHED_ID);
-    let laid = call_on_parts(
-        rest, &mut alpha, &mut beta, &mut x, &mut y, &mut tiles, offsets, list,
-    );
-    lines_laid(out, laid)?;
-    vectors::lines_lent(out, &alpha, &beta, &x, &y, &tiles, offsets, list)
-}
-
-// All records of a list, up to its end or an unknown code.
-fn replay<W: Write>(
-    out: &mut W,
-    list: &[u8],
-    offsets: &mut [u32],
-    ids: &mut [u32],
-) -> io::Result<()> {
-    let end = list.len() / 8;
-    let mut at: usize = 0;
-    while at < end {
-        let rest = &list[at * 8..];
-        let size = words(rest);
-        if size == 0 {
-            return Ok(());
+        Request::Checkpoints => {
+            lay::lay_checkpoints(checkpoints(record), alpha, beta, x, y, tiles, offsets, list)
         }
-        at += size;
-        replay_one(out, rest, offsets, ids)?;
     }
-    Ok(())
 }
 
 fn main(rt: HostRuntime) -> io::Result<()> {
-    let mut space = [0u8; 262144];
-    let mut offsets = [0u32; 4600];
-    let mut ids = [0u32; 30000];
-    let n = vectors::read_list(&mut rt.stdin(), &mut space)?;
-    let mut out = io::writer(&rt);
-    replay(&mut out, &space[..n], &mut offsets, &mut ids)
+    let mut list = Vec::new(rt.alloc());
+    rt.stdin().read_to_end(&mut list)?;
+    let mut columns = Columns::new(rt.alloc(), 30000)?;
+    let mut out = BufWriter::new(rt.alloc(), io::writer(&rt))?;
+    for (request, record) in Records::new(&list) {
+        columns.reset();
+        line::laid(&mut out, call(request, record, &mut columns))?;
+        columns.lines(&mut out)?;
+    }
+    out.flush()
 }

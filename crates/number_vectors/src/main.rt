@@ -7,94 +7,99 @@
 // the bits of its arguments, a word each. An unknown code ends the run.
 #![tactic(auto)]
 
-ghost use Rattle.std.specs.Prelude.{◌≤◌};
-
 use course::cause::Cause;
 use course::{cell, numeric, root, trig};
 use std::io;
-use std::io::Write;
+use std::io::{BufWriter, Read, Write};
+use vectors::line;
+use vectors::line::{Bits, Flag};
+use vectors::record::{Kind, Record, Records, UnknownCode};
 
-const SINE: u64 = 1;
+#[derive(Clone, Copy, Debug, PartialEq, Eq)]
+enum Operation {
+    Sine,
+    Cosine,
+    Atan2,
+    Sqrt,
+    Cell,
+    Abs,
+    Min,
+    Max,
+    Clamp,
+    Signum,
+    Inside,
+}
 
-const COSINE: u64 = 2;
+impl TryFrom<u64> for Operation {
+    type Error = UnknownCode;
 
-const ATAN2: u64 = 3;
+    fn try_from(code: u64) -> Result<Self, UnknownCode> {
+        match code {
+            1 => Ok(Operation::Sine),
+            2 => Ok(Operation::Cosine),
+            3 => Ok(Operation::Atan2),
+            4 => Ok(Operation::Sqrt),
+            5 => Ok(Operation::Cell),
+            6 => Ok(Operation::Abs),
+            7 => Ok(Operation::Min),
+            8 => Ok(Operation::Max),
+            9 => Ok(Operation::Clamp),
+            10 => Ok(Operation::Signum),
+            11 => Ok(Operation::Inside),
+            _ => Err(UnknownCode(code)),
+        }
+    }
+}
 
-const SQRT: u64 = 4;
-
-const CELL: u64 = 5;
-
-const ABS: u64 = 6;
-
-const MIN: u64 = 7;
-
-const MAX: u64 = 8;
-
-const CLAMP: u64 = 9;
-
-const SIGNUM: u64 = 10;
-
-const INSIDE: u64 = 11;
-
-// How many words a record with this code has; 0 for an unknown code.
-fn words(code: u64) -> usize
-    ensures { result ≤ 4 }
-{
-    match code {
-        ATAN2 | MIN | MAX | INSIDE => 3,
-        CLAMP => 4,
-        SINE..=SIGNUM => 2,
-        _ => 0,
+impl Kind for Operation {
+    fn arguments(self, _record: Record<'_>) -> usize {
+        match self {
+            Operation::Atan2 | Operation::Min | Operation::Max | Operation::Inside => 2,
+            Operation::Clamp => 3,
+            _ => 1,
+        }
     }
 }
 
 // What a call answers that may refuse.
 fn line_angle<W: Write>(out: &mut W, answer: Result<f64, Cause>) -> io::Result<()> {
     match answer {
-        Ok(x) => vectors::line_float(out, x),
-        Err(cause) => vectors::line_refused(out, cause.number()),
+        Ok(x) => line_float(out, x),
+        Err(cause) => line::refused(out, cause),
     }
+}
+
+fn line_float<W: Write>(out: &mut W, x: f64) -> io::Result<()> {
+    let bits = Bits(x);
+    writeln!(out, "{bits}")
 }
 
 // The answer of one record. An operation leaves out the arguments that it does not take.
-fn line_answer<W: Write>(out: &mut W, code: u64, a: f64, b: f64, c: f64) -> io::Result<()> {
-    match code {
-        SINE => line_angle(out, trig::sine(a)),
-        COSINE => line_angle(out, trig::cosine(a)),
-        ATAN2 => line_angle(out, trig::atan2(a, b)),
-        SQRT => vectors::line_float(out, root::sqrt(a)),
-        CELL => vectors::line_u64(out, cell::cell_of(a) as u64),
-        ABS => vectors::line_float(out, numeric::abs(a)),
-        MIN => vectors::line_float(out, numeric::min(a, b)),
-        MAX => vectors::line_float(out, numeric::max(a, b)),
-        CLAMP => vectors::line_float(out, numeric::clamp(a, b, c)),
-        SIGNUM => vectors::line_float(out, numeric::signum(a)),
-        _ => vectors::line_bool(out, numeric::inside(a, b)),
+fn line_answer<W: Write>(out: &mut W, operation: Operation, record: Record<'_>) -> io::Result<()> {
+    let a = record.float(1);
+    let b = record.float(2);
+    let c = record.float(3);
+    match operation {
+        Operation::Sine => line_angle(out, trig::sine(a)),
+        Operation::Cosine => line_angle(out, trig::cosine(a)),
+        Operation::Atan2 => line_angle(out, trig::atan2(a, b)),
+        Operation::Sqrt => line_float(out, root::sqrt(a)),
+        Operation::Cell => writeln!(out, "{}", cell::cell_of(a)),
+        Operation::Abs => line_float(out, numeric::abs(a)),
+        Operation::Min => line_float(out, numeric::min(a, b)),
+        Operation::Max => line_float(out, numeric::max(a, b)),
+        Operation::Clamp => line_float(out, numeric::clamp(a, b, c)),
+        Operation::Signum => line_float(out, numeric::signum(a)),
+        Operation::Inside => writeln!(out, "{}", Flag(numeric::inside(a, b))),
     }
-}
-
-// The answers of all records of a list, up to its end or an unknown code.
-fn replay<W: Write>(out: &mut W, list: &[u8]) -> io::Result<()> {
-    let end = list.len() / 8;
-    let mut at: usize = 0;
-    while at < end {
-        let code = vectors::word(list, at);
-        let size = words(code);
-        if size == 0 {
-            return Ok(());
-        }
-        let a = vectors::float(list, at + 1);
-        let b = vectors::float(list, at + 2);
-        let c = vectors::float(list, at + 3);
-        line_answer(out, code, a, b, c)?;
-        at += size;
-    }
-    Ok(())
 }
 
 fn main(rt: HostRuntime) -> io::Result<()> {
-    let mut space = [0u8; 262144];
-    let n = vectors::read_list(&mut rt.stdin(), &mut space)?;
-    let mut out = io::writer(&rt);
-    replay(&mut out, &space[..n])
+    let mut list = Vec::new(rt.alloc());
+    rt.stdin().read_to_end(&mut list)?;
+    let mut out = BufWriter::new(rt.alloc(), io::writer(&rt))?;
+    for (operation, record) in Records::new(&list) {
+        line_answer(&mut out, operation, record)?;
+    }
+    out.flush()
 }

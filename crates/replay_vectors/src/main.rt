@@ -15,212 +15,94 @@ mod read;
 
 use certificate::replay;
 use certificate::replay::Replayed;
+use read::Log;
+use run::numbers;
+use std::alloc::{AllocError, Global};
 use std::io;
-use std::io::{Read, Write};
-use vectors::front;
+use std::io::{BufWriter, Read, Write};
+use vectors::columns::{Columns, UNTOUCHED, UNTOUCHED_ID, front, front_mut};
+use vectors::hash;
+use vectors::record::{Record, Records};
 
-// What stands in each place of a column before a call.
-const UNTOUCHED: f64 = 1e7;
+// The length of a block.
+const BLOCK: usize = 262144;
 
-const UNTOUCHED_ID: u32 = 4000000000;
+// The columns of calls and answers, longer than a record's.
+#[derive(Drop)]
+struct Calls {
+    calls: Vec<u32>,
+    given: Vec<f64>,
+    words: Vec<u32>,
+    numbers: Vec<f64>,
+}
 
-// The most blocks of a list.
-const BLOCKS: usize = 16;
+impl Calls {
+    // The record's calls; no place of the answers is touched.
+    fn new(alloc: Global, record: Record<'_>) -> Result<Self, AllocError> {
+        let mut calls = vec![in alloc; UNTOUCHED_ID; 3700]?;
+        let mut given = vec![in alloc; UNTOUCHED; 18100]?;
+        read::give_calls(record, &mut calls);
+        read::give_numbers(record, &mut given);
+        Ok(Calls {
+            calls,
+            given,
+            words: vec![in alloc; UNTOUCHED_ID; 3700]?,
+            numbers: vec![in alloc; UNTOUCHED; 10900]?,
+        })
+    }
+}
 
-// The record's call.
-fn call(
-    rest: &[u8],
-    alpha: &mut [f64],
-    beta: &mut [f64],
-    x: &mut [f64],
-    y: &mut [f64],
-    tiles: &mut [f64],
-    offsets: &mut [u32],
-    list: &mut [u32],
-    calls: &[u32],
-    given: &[f64],
-    words: &mut [u32],
-    numbers: &mut [f64],
-) -> Replayed {
+// The record's call on parts of the columns, of the record's lengths.
+fn call(record: Record<'_>, columns: &mut Columns, c: &mut Calls) -> Replayed {
     replay::replay(
-        read::seed(rest),
-        alpha,
-        beta,
-        x,
-        y,
-        tiles,
-        offsets,
-        list,
-        read::share(rest),
-        read::limit(rest),
-        read::poses(rest),
-        read::many(rest),
-        calls,
-        given,
-        words,
-        numbers,
+        record.word(1),
+        front_mut(&mut columns.alpha, record.word(2)),
+        front_mut(&mut columns.beta, record.word(3)),
+        front_mut(&mut columns.x, record.word(4)),
+        front_mut(&mut columns.y, record.word(5)),
+        front_mut(&mut columns.tiles, record.word(6)),
+        front_mut(&mut columns.offsets, record.word(7)),
+        front_mut(&mut columns.list, record.word(8)),
+        record.float(9),
+        record.low(10),
+        numbers::poses_from(&record.floats(11)),
+        record.low(27),
+        front(&c.calls, record.word(28)),
+        front(&c.given, record.word(29)),
+        front_mut(&mut c.words, record.word(30)),
+        front_mut(&mut c.numbers, record.word(31)),
     )
 }
 
-// The record's call on parts of the course's columns, of the record's lengths.
-fn call_on_course(
-    rest: &[u8],
-    alpha: &mut [f64],
-    beta: &mut [f64],
-    x: &mut [f64],
-    y: &mut [f64],
-    tiles: &mut [f64],
-    offsets: &mut [u32],
-    list: &mut [u32],
-    calls: &[u32],
-    given: &[f64],
-    words: &mut [u32],
-    numbers: &mut [f64],
-) -> Replayed {
-    call(
-        rest,
-        front::floats_mut(alpha, vectors::word(rest, 2)),
-        front::floats_mut(beta, vectors::word(rest, 3)),
-        front::floats_mut(x, vectors::word(rest, 4)),
-        front::floats_mut(y, vectors::word(rest, 5)),
-        front::floats_mut(tiles, vectors::word(rest, 6)),
-        front::ids_mut(offsets, vectors::word(rest, 7)),
-        front::ids_mut(list, vectors::word(rest, 8)),
-        calls,
-        given,
-        words,
-        numbers,
-    )
-}
-
-// The same on parts of the columns of calls and answers too.
-fn call_on_parts(
-    rest: &[u8],
-    alpha: &mut [f64],
-    beta: &mut [f64],
-    x: &mut [f64],
-    y: &mut [f64],
-    tiles: &mut [f64],
-    offsets: &mut [u32],
-    list: &mut [u32],
-    calls: &[u32],
-    given: &[f64],
-    words: &mut [u32],
-    numbers: &mut [f64],
-) -> Replayed {
-    call_on_course(
-        rest,
-        alpha,
-        beta,
-        x,
-        y,
-        tiles,
-        offsets,
-        list,
-        front::ids(calls, vectors::word(rest, 28)),
-        front::floats(given, vectors::word(rest, 29)),
-        front::ids_mut(words, vectors::word(rest, 30)),
-        front::floats_mut(numbers, vectors::word(rest, 31)),
-    )
-}
-
-// The answers, in their order; a call's from its words and numbers.
-fn lines_replayed<W: Write>(
+// The answers in their order, a call's from its words and numbers; and what all columns hold then.
+fn replay_log<W: Write>(
     out: &mut W,
-    rest: &[u8],
-    done: Replayed,
-    words: &[u32],
-    numbers: &[f64],
+    alloc: Global,
+    record: Record<'_>,
+    columns: &mut Columns,
 ) -> io::Result<()> {
-    let laid = done.laid;
-    let begun = done.start;
-    let sheet = done.sheet;
-    line::laid(out, laid)?;
-    line::started(out, begun)?;
-    line::answers(out, read::held(rest), words, numbers)?;
-    line::sheet(out, sheet)
-}
-
-// The answers to the record's calls, and what all columns hold then.
-fn replay_calls<W: Write>(
-    out: &mut W,
-    rest: &[u8],
-    calls: &[u32],
-    given: &[f64],
-    words: &mut [u32],
-    numbers: &mut [f64],
-) -> io::Result<()> {
-    let mut alpha = [UNTOUCHED; 2600];
-    let mut beta = [UNTOUCHED; 2600];
-    let mut x = [UNTOUCHED; 2600];
-    let mut y = [UNTOUCHED; 2600];
-    let mut tiles = [UNTOUCHED; 20100];
-    let mut offsets = [UNTOUCHED_ID; 4600];
-    let mut list = [UNTOUCHED_ID; 30000];
-    let done = call_on_parts(
-        rest,
-        &mut alpha,
-        &mut beta,
-        &mut x,
-        &mut y,
-        &mut tiles,
-        &mut offsets,
-        &mut list,
-        calls,
-        given,
-        words,
-        numbers,
-    );
-    lines_replayed(out, rest, done, words, numbers)?;
-    vectors::lines_lent(out, &alpha, &beta, &x, &y, &tiles, &offsets, &list)?;
-    vectors::line_hex(out, vectors::hash::ids(words))?;
-    vectors::line_hex(out, vectors::hash::floats(numbers))
-}
-
-// The record that the list begins with.
-fn replay_one<W: Write>(out: &mut W, rest: &[u8]) -> io::Result<()> {
-    let mut calls = [UNTOUCHED_ID; 3700];
-    let mut given = [UNTOUCHED; 18100];
-    let mut words = [UNTOUCHED_ID; 3700];
-    let mut numbers = [UNTOUCHED; 10900];
-    read::give_calls(rest, &mut calls);
-    read::give_numbers(rest, &mut given);
-    replay_calls(out, rest, &calls, &given, &mut words, &mut numbers)
-}
-
-// All records of a block, up to its end or an unknown code.
-fn replay_block<W: Write>(out: &mut W, block: &[u8]) -> io::Result<()> {
-    let end = block.len() / 8;
-    let mut at: usize = 0;
-    while at < end {
-        let rest = &block[at * 8..];
-        let size = read::size(rest);
-        if size == 0 {
-            return Ok(());
-        }
-        at += size;
-        replay_one(out, rest)?;
-    }
-    Ok(())
-}
-
-// Block after block into the space, and each replayed.
-fn replay_blocks<R: Read, W: Write>(
-    input: &mut R,
-    out: &mut W,
-    space: &mut [u8],
-) -> io::Result<()> {
-    let mut left = BLOCKS;
-    while left > 0 {
-        left -= 1;
-        let n = vectors::read_list(input, space)?;
-        replay_block(out, &space[..n])?;
-    }
-    Ok(())
+    columns.reset();
+    let mut c = Calls::new(alloc, record)?;
+    let done = call(record, columns, &mut c);
+    vectors::line::laid(out, done.laid)?;
+    line::started(out, done.start)?;
+    line::answers(out, read::held(record), &c.words, &c.numbers)?;
+    line::sheet(out, done.sheet)?;
+    columns.lines(out)?;
+    vectors::line::hash(out, hash::column(&c.words))?;
+    vectors::line::hash(out, hash::column(&c.numbers))
 }
 
 fn main(rt: HostRuntime) -> io::Result<()> {
-    let mut space = [0u8; 262144];
-    let mut out = io::writer(&rt);
-    replay_blocks(&mut rt.stdin(), &mut out, &mut space)
+    let alloc = rt.alloc();
+    let mut list = Vec::new(alloc);
+    rt.stdin().read_to_end(&mut list)?;
+    let mut columns = Columns::new(alloc, 30000)?;
+    let mut out = BufWriter::new(alloc, io::writer(&rt))?;
+    for block in list.chunks(BLOCK) {
+        for (_, record) in Records::<Log>::new(block) {
+            replay_log(&mut out, alloc, record, &mut columns)?;
+        }
+    }
+    out.flush()
 }

@@ -1,171 +1,77 @@
 // The records that save a run and restore one, and those that put and show what only a save reads.
-ghost use Rattle.std.specs.Prelude.{◌≤◌};
-
-use crate::{change, hash, read};
-use run::restore::{RestoreAnswer, SavedCourse};
-use run::save::SaveAnswer;
+use crate::lent::Lent;
+use crate::{hash, kind};
 use run::state::Run;
 use run::{restore, save};
 use std::io;
 use std::io::Write;
+use vectors::columns::{front, front_mut};
+use vectors::line;
+use vectors::record::Record;
 
-// The last poses' sixteen numbers, the seed.
-pub const PUT_LAST: u64 = 18;
-
-// Shows them.
-pub const LAST: u64 = 19;
-
-// The length of the output, and how many of its bytes are shown.
-pub const SAVE: u64 = 20;
-
-// The lengths of tiles, offsets and index list; n, how many bytes, and the bytes, with zeros up to a whole word.
-pub const RESTORE: u64 = 21;
-
-// The most bytes of a RESTORE, and where they begin.
-const MOST_BYTES: usize = 4096;
-
-const FIRST_BYTE: usize = 48;
-
-// How many bytes a RESTORE has.
-fn count(rest: &[u8]) -> usize
-    ensures { result ≤ 4096 }
-{
-    change::upto(vectors::word(rest, 5), MOST_BYTES)
-}
-
-// How many words a RESTORE has.
-pub fn words(rest: &[u8]) -> usize
-    ensures { result ≤ 600 }
-{
-    6 + (count(rest) + 7) / 8
-}
-
-// A RESTORE's bytes; none where the list ends before them.
-fn bytes(rest: &[u8]) -> &[u8] {
-    let end = FIRST_BYTE + count(rest);
-    if end <= rest.len() {
-        return &rest[FIRST_BYTE..end];
-    }
-    &rest[0..0]
-}
-
-// The state with the record's last poses and seed.
-pub fn put_last(rest: &[u8], run: Run) -> Run {
-    let setup = run.setup;
-    let progress = run.progress;
-    let car = run.car;
-    let credited = run.credited;
-    let wheels = run.wheels;
-    let poses = read::last(rest);
-    Run {
-        setup,
-        progress,
-        car,
-        credited,
-        wheels,
-        poses,
-        seed: vectors::word(rest, 17),
-    }
+// The record's last poses and seed.
+pub fn put_last(record: Record<'_>, run: &mut Run) {
+    run.poses = record.floats(1);
+    run.seed = record.word(17);
 }
 
 // A hash of the last poses, and the seed.
-pub fn line_last<W: Write>(to: &mut W, run: Run) -> io::Result<()> {
-    vectors::line_hex(to, hash::last(run))?;
-    vectors::line_u64(to, run.seed)
-}
-
-fn wide(b: u8) -> u64 {
-    b as u64
+pub fn line_last<W: Write>(out: &mut W, run: &Run) -> io::Result<()> {
+    line::hash(out, hash::last(run))?;
+    writeln!(out, "{}", run.seed)
 }
 
 // A line with two digits for each byte.
-fn line_bytes<W: Write>(to: &mut W, bytes: &[u8]) -> io::Result<()> {
-    let mut i: usize = 0;
-    while i < bytes.len() {
-        let byte = wide(bytes[i]);
-        write!(to, "{byte:02x}")?;
-        i += 1;
+fn line_bytes<W: Write>(out: &mut W, bytes: &[u8]) -> io::Result<()> {
+    for byte in bytes {
+        write!(out, "{byte:02x}")?;
     }
-    to.write_all(b"\n")
+    writeln!(out)
 }
 
-// The first bytes, so many.
-fn front(out: &[u8], length: u64) -> &[u8] {
-    let n = length as usize;
-    if n <= out.len() {
-        return &out[0..n];
-    }
-    out
-}
-
-// The length, and as many of the first bytes as are asked for.
-fn line_form<W: Write>(to: &mut W, length: u32, shown: u64, out: &[u8]) -> io::Result<()> {
-    vectors::line_u64(to, length as u64)?;
-    line_bytes(to, front(out, shown))
-}
-
-fn line_saved<W: Write>(to: &mut W, answer: SaveAnswer, shown: u64, out: &[u8]) -> io::Result<()> {
-    match answer {
-        SaveAnswer::Saved(length) => line_form(to, length, shown, out),
-        SaveAnswer::Refused(cause) => vectors::line_refused(to, cause),
-    }
-}
-
-// A save into a part of the output, and a hash of the whole.
-pub fn replay_save<W: Write>(to: &mut W, rest: &[u8], run: Run) -> io::Result<()> {
-    let mut out = [165u8; 700];
-    let answer = save::save(
-        run,
-        vectors::front::marks_mut(&mut out, vectors::word(rest, 1)),
-    );
-    line_saved(to, answer, vectors::word(rest, 2), &out)?;
-    vectors::line_hex(to, vectors::hash::marks(&out))
-}
-
-fn line_course<W: Write>(to: &mut W, of: SavedCourse) -> io::Result<()> {
-    match of {
-        SavedCourse::Course(c) => {
-            vectors::line_u64(to, c.seed)?;
-            vectors::line_u64(to, c.n as u64)
+// A save into a part of the output: its length, and as many of the first bytes as are asked for; and a hash of the whole.
+pub fn replay_save<W: Write>(out: &mut W, record: Record<'_>, run: Run) -> io::Result<()> {
+    let mut form = [165u8; 700];
+    match save::save(run, front_mut(&mut form, record.word(1))) {
+        Ok(length) => {
+            writeln!(out, "{length}")?;
+            line_bytes(out, front(&form, record.word(2)))?;
         }
-        SavedCourse::Refused(cause) => vectors::line_refused(to, cause),
+        Err(cause) => line::refused(out, cause)?,
+    }
+    line::hash(out, vectors::hash::column(&form))
+}
+
+// Which course the bytes are of.
+fn line_course<W: Write>(out: &mut W, bytes: &[u8]) -> io::Result<()> {
+    match restore::saved_course(bytes) {
+        Ok(of) => writeln!(out, "{}\n{}", of.seed, of.n),
+        Err(cause) => line::refused(out, cause),
     }
 }
 
-// The restored run; where the restore is refused, the one before it.
-fn taken<W: Write>(to: &mut W, answer: RestoreAnswer, before: Run, after: Run) -> io::Result<Run> {
-    match answer {
-        RestoreAnswer::Restored => {
-            to.write_all(b"restored\n")?;
-            Ok(after)
-        }
-        RestoreAnswer::Refused(cause) => {
-            vectors::line_refused(to, cause)?;
-            Ok(before)
-        }
-    }
-}
-
-// Which course the bytes are of, and a restore of them.
+// Which course the bytes are of, and a restore of them. Where the restore is refused, the run stays.
 pub fn replay_restore<W: Write>(
-    to: &mut W,
-    rest: &[u8],
-    tiles: &[f64],
-    offsets: &[u32],
-    list: &[u32],
-    run: Run,
-) -> io::Result<Run> {
-    line_course(to, restore::saved_course(bytes(rest)))?;
+    out: &mut W,
+    record: Record<'_>,
+    lent: &Lent,
+    run: &mut Run,
+) -> io::Result<()> {
+    let bytes = record.bytes(6, kind::byte_count(record));
+    line_course(out, bytes)?;
     let s = restore::restore(
-        bytes(rest),
-        vectors::front::floats(tiles, vectors::word(rest, 1)),
-        vectors::front::ids(offsets, vectors::word(rest, 2)),
-        vectors::front::ids(list, vectors::word(rest, 3)),
-        read::narrow(vectors::word(rest, 4)),
+        bytes,
+        front(&lent.tiles, record.word(1)),
+        front(&lent.offsets, record.word(2)),
+        front(&lent.list, record.word(3)),
+        record.low(4),
     );
-    let after = s.run;
-    let answer = s.answer;
-    let next = taken(to, answer, run, after)?;
-    vectors::line_hex(to, hash::whole(after))?;
-    Ok(next)
+    match s.answer {
+        Ok(()) => {
+            writeln!(out, "restored")?;
+            *run = s.run;
+        }
+        Err(cause) => line::refused(out, cause)?,
+    }
+    line::hash(out, hash::whole(&s.run))
 }

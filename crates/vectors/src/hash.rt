@@ -1,45 +1,52 @@
-// A hash of a whole column: 64 bits that depend on each entry and its place.
+// Hashes of columns: 64 bits that depend on each entry and its place.
 
-// h with one more word.
-pub fn mix(h: u64, w: u64) -> u64 {
-    rng::wrapping_mul64(h ^ w, 0x100_0000_01B3) ^ (h >> 29)
+// What goes into a hash as a word.
+pub trait Hashed: Copy {
+    fn word(self) -> u64;
 }
 
-fn wide(id: u32) -> u64 {
-    id as u64
-}
-
-fn wide_mark(mark: u8) -> u64 {
-    mark as u64
-}
-
-// Of floats by their bits.
-pub fn floats(col: &[f64]) -> u64 {
-    let mut h: u64 = 1;
-    let mut i: usize = 0;
-    while i < col.len() {
-        h = mix(h, crate::bits(col[i]));
-        i += 1;
+// A float goes by its bits.
+impl Hashed for f64 {
+    fn word(self) -> u64 {
+        crate::bits(self)
     }
-    h
 }
 
-pub fn ids(col: &[u32]) -> u64 {
-    let mut h: u64 = 1;
-    let mut i: usize = 0;
-    while i < col.len() {
-        h = mix(h, wide(col[i]));
-        i += 1;
+impl Hashed for u64 {
+    fn word(self) -> u64 {
+        self
     }
-    h
 }
 
-pub fn marks(col: &[u8]) -> u64 {
-    let mut h: u64 = 1;
-    let mut i: usize = 0;
-    while i < col.len() {
-        h = mix(h, wide_mark(col[i]));
-        i += 1;
+impl Hashed for u32 {
+    fn word(self) -> u64 {
+        u64::from(self)
     }
-    h
+}
+
+impl Hashed for u8 {
+    fn word(self) -> u64 {
+        u64::from(self)
+    }
+}
+
+impl Hashed for bool {
+    fn word(self) -> u64 {
+        u64::from(self)
+    }
+}
+
+// h with one more entry.
+pub fn mix<T: Hashed>(h: u64, x: T) -> u64 {
+    (h ^ x.word()).wrapping_mul(0x100_0000_01B3) ^ (h >> 29)
+}
+
+// h with all entries of a column.
+pub fn mix_all<T: Hashed>(h: u64, col: &[T]) -> u64 {
+    col.iter().fold(h, |h, x| mix(h, *x))
+}
+
+// Of a whole column.
+pub fn column<T: Hashed>(col: &[T]) -> u64 {
+    mix_all(1, col)
 }

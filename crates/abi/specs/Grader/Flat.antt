@@ -1,7 +1,6 @@
 -- Each answer as the numbers that cross the C boundary: those that the crates below define for each case. Assumes nothing.
-use Rattle.std.specs.Prelude.{List, [], ◌∷◌, ℕ, get_or, Result, Float}
+use Rattle.std.specs.Prelude.{List, [], ◌∷◌, ℕ, map, Result, Float}
 use Rattle.std.specs.Result.{result_unwrap_or}
-use Rattle.std.specs.Float.{nan}
 use Rattle.rng.specs.Rules.SplitMix.{Drawn}
 use Rattle.course.specs.Grader.Outcome.{CourseColumns, laid_cause_of, laid_values_of}
 use Rattle.course.specs.Grader.Curbs.{curb_cause_of, curb_count_of}
@@ -70,31 +69,15 @@ flat_draw d = record { value = d.value; state = d.rng.state }
 unfoldable pub spot_from : FlatCheckpoint → Checkpoint
 spot_from c = record { angle = c.angle; x = c.x; y = c.y }
 
-unfoldable pub spot_at : List FlatCheckpoint → ℕ → Checkpoint
-spot_at l i = spot_from (get_or l i (record { angle = nan; x = nan; y = nan }))
-
 unfoldable pub checkpoints_from : List FlatCheckpoint → List Checkpoint
-checkpoints_from l =
-    spot_at l 0
-    ∷ spot_at l 1
-    ∷ spot_at l 2
-    ∷ spot_at l 3
-    ∷ spot_at l 4
-    ∷ spot_at l 5
-    ∷ spot_at l 6
-    ∷ spot_at l 7
-    ∷ spot_at l 8
-    ∷ spot_at l 9
-    ∷ spot_at l 10
-    ∷ spot_at l 11
-    ∷ []
+checkpoints_from l = map spot_from l
 
 -- a quad of the caller's, corner by corner
-unfoldable pub pair_at : List Corner → ℕ → List Float
-pair_at q i = (get_or q i (record { x = nan; y = nan })).x ∷ (get_or q i (record { x = nan; y = nan })).y ∷ []
+unfoldable pub pair_from : Corner → List Float
+pair_from c = c.x ∷ c.y ∷ []
 
 unfoldable pub corners_from : List Corner → List (List Float)
-corners_from q = pair_at q 0 ∷ pair_at q 1 ∷ pair_at q 2 ∷ pair_at q 3 ∷ []
+corners_from q = map pair_from q
 
 -- ---- the run
 

@@ -1,9 +1,0 @@
--- `course_vectors::give_column` is safe and ends. Assumes nothing.
-use Rattle.std.proofs.Common.{length, ◌-◌, ◌≡◌, ◌≤◌}
-use Rattle.course_vectors.proofs.give_column.Given as goal
-
-abbrev pub invariant-loop-i : goal.invariant-loop-i
-invariant-loop-i l = (length l.col ≡ length l.initial.col) × (l.m ≤ 2600)
-
-abbrev pub decreases-loop-i : goal.decreases-loop-i
-decreases-loop-i l = l.m - l.i

@@ -1,6 +1,0 @@
--- `replay_vectors::replay_block` is safe and ends: each record is at least a word long. Assumes nothing.
-use Rattle.std.proofs.Common.{◌-◌}
-use Rattle.replay_vectors.proofs.replay_block.Given as goal
-
-abbrev pub decreases-loop-at : goal.decreases-loop-at
-decreases-loop-at g l = l.end - l.at

@@ -1,0 +1,88 @@
+// The lent course, which stands from record to record, and the records that change it: another course, or one number of
+// it, damaged.
+use crate::kind;
+use course::constants::{LAID_LENGTH, MOST_POINTS};
+use course::points;
+use course::points::{LaidCourse, LayError};
+use std::alloc::{AllocError, Global};
+use std::io;
+use std::io::Write;
+use vectors::columns::front_mut;
+use vectors::record::Record;
+use vectors::{hash, line};
+
+#[derive(Drop)]
+pub struct Lent {
+    pub tiles: Vec<f64>,
+    pub offsets: Vec<u32>,
+    pub list: Vec<u32>,
+}
+
+// Every third word from number k on, one for each point.
+fn given_column(record: Record<'_>, k: usize) -> [f64; MOST_POINTS] {
+    let mut col = [0.0; MOST_POINTS];
+    record.fill_floats(k, 3, front_mut(&mut col, kind::count(record) as u64));
+    col
+}
+
+// What stands at a place of a column becomes the number; nothing where there is no such place.
+fn put<T: Copy>(col: &mut [T], place: u64, number: T) {
+    if let Some(at) = col.get_mut(place as usize) {
+        *at = number;
+    }
+}
+
+impl Lent {
+    // Columns of zeros.
+    pub fn new(alloc: Global) -> Result<Self, AllocError> {
+        Ok(Lent {
+            tiles: vec![in alloc; 0.0; 20100]?,
+            offsets: vec![in alloc; 0; 4600]?,
+            list: vec![in alloc; 0; 60000]?,
+        })
+    }
+
+    fn put_course(&mut self, record: Record<'_>) -> Result<LaidCourse, LayError> {
+        let mut alpha = [0.0; LAID_LENGTH];
+        let mut beta = [0.0; LAID_LENGTH];
+        let mut x = [0.0; LAID_LENGTH];
+        let mut y = [0.0; LAID_LENGTH];
+        points::points(
+            &given_column(record, 2),
+            &given_column(record, 3),
+            &given_column(record, 4),
+            record.low(1),
+            &mut alpha,
+            &mut beta,
+            &mut x,
+            &mut y,
+            &mut self.tiles,
+            &mut self.offsets,
+            &mut self.list,
+        )
+    }
+
+    // A course: the tile count and the index list's length, or the number of the cause; and what the columns hold then.
+    pub fn replay_course<W: Write>(&mut self, out: &mut W, record: Record<'_>) -> io::Result<()> {
+        match self.put_course(record) {
+            Ok(c) => writeln!(out, "{}\n{}", c.n, c.entries)?,
+            Err(LayError::Short(need)) => writeln!(out, "refused 3\n{need}")?,
+            Err(LayError::Refused(cause)) => line::refused(out, cause)?,
+        }
+        line::hash(out, hash::column(&self.tiles))?;
+        line::hash(out, hash::column(&self.offsets))?;
+        line::hash(out, hash::column(&self.list))
+    }
+
+    pub fn put_tile(&mut self, record: Record<'_>) {
+        put(&mut self.tiles, record.word(1), record.float(2));
+    }
+
+    pub fn put_offset(&mut self, record: Record<'_>) {
+        put(&mut self.offsets, record.word(1), record.low(2));
+    }
+
+    pub fn put_id(&mut self, record: Record<'_>) {
+        put(&mut self.list, record.word(1), record.low(2));
+    }
+}

@@ -1,6 +1,0 @@
--- `vectors::hash::ids` is safe and ends. Assumes nothing.
-use Rattle.std.proofs.Common.{length, ◌-◌}
-use Rattle.vectors.proofs.hash.ids.Given as goal
-
-abbrev pub decreases-loop-i : goal.decreases-loop-i
-decreases-loop-i l = length l.col - l.i

@@ -1,0 +1,78 @@
+// The columns that a test program lends: of its own length each, of which a call is lent a part.
+ghost use Rattle.std.specs.Prelude.{◌≡◌, take};
+
+use crate::{hash, line};
+use std::alloc::{AllocError, Global};
+use std::io;
+use std::io::Write;
+
+// What stands in each place of a lent column before a call.
+pub const UNTOUCHED: f64 = 1e7;
+
+pub const UNTOUCHED_ID: u32 = 4000000000;
+
+pub const UNTOUCHED_MARK: u8 = 7;
+
+// The front of a column, as long as a record asks for: the whole column where that is longer.
+pub fn front<T>(col: &[T], length: u64) -> &[T]
+    ensures { result.now ≡ take length col.now }
+{
+    let n = (length as usize).min(col.len());
+    &col[..n]
+}
+
+pub fn front_mut<T>(col: &mut [T], length: u64) -> &mut [T]
+    ensures { result.now ≡ take length col.old }
+{
+    let n = (length as usize).min(col.len());
+    &mut col[..n]
+}
+
+// The columns of a course.
+#[derive(Drop)]
+pub struct Columns {
+    pub alpha: Vec<f64>,
+    pub beta: Vec<f64>,
+    pub x: Vec<f64>,
+    pub y: Vec<f64>,
+    pub tiles: Vec<f64>,
+    pub offsets: Vec<u32>,
+    pub list: Vec<u32>,
+}
+
+impl Columns {
+    // Columns of zeros, longer than a call may write; the list of a length of the program's own.
+    pub fn new(alloc: Global, list: usize) -> Result<Self, AllocError> {
+        Ok(Columns {
+            alpha: vec![in alloc; 0.0; 2600]?,
+            beta: vec![in alloc; 0.0; 2600]?,
+            x: vec![in alloc; 0.0; 2600]?,
+            y: vec![in alloc; 0.0; 2600]?,
+            tiles: vec![in alloc; 0.0; 20100]?,
+            offsets: vec![in alloc; 0; 4600]?,
+            list: vec![in alloc; 0; list]?,
+        })
+    }
+
+    // Every place as before a call.
+    pub fn reset(&mut self) {
+        self.alpha.fill(UNTOUCHED);
+        self.beta.fill(UNTOUCHED);
+        self.x.fill(UNTOUCHED);
+        self.y.fill(UNTOUCHED);
+        self.tiles.fill(UNTOUCHED);
+        self.offsets.fill(UNTOUCHED_ID);
+        self.list.fill(UNTOUCHED_ID);
+    }
+
+    // The columns' hashes, a line each.
+    pub fn lines<W: Write>(&self, out: &mut W) -> io::Result<()> {
+        line::hash(out, hash::column(&self.alpha))?;
+        line::hash(out, hash::column(&self.beta))?;
+        line::hash(out, hash::column(&self.x))?;
+        line::hash(out, hash::column(&self.y))?;
+        line::hash(out, hash::column(&self.tiles))?;
+        line::hash(out, hash::column(&self.offsets))?;
+        line::hash(out, hash::column(&self.list))
+    }
+}

@@ -1,0 +1,121 @@
+// A stored list and its records. A list is 64-bit words, the low byte first; a float stands there by its bits. A record
+// is the code of its kind and its arguments, a word each.
+ghost use Rattle.std.specs.Prelude.{◌≡◌, ◌≤◌, length, slice_get, MatchOption};
+ghost use Rattle.std.specs.Int.{w64, from_le_bytes};
+ghost use Rattle.std.specs.Iterator.{at_most};
+
+use std::marker::PhantomData;
+
+// A code that is no kind of record: it ends the list.
+#[derive(Clone, Copy, Debug, PartialEq, Eq)]
+pub struct UnknownCode(pub u64);
+
+// A kind of record, by its code.
+pub trait Kind: Copy + TryFrom<u64, Error = UnknownCode> {
+    // How many words such a record has after its code.
+    fn arguments(self, record: Record<'_>) -> usize;
+}
+
+// A list from one of its records on.
+#[derive(Clone, Copy)]
+pub struct Record<'a> {
+    words: &'a [[u8; 8]],
+}
+
+impl<'a> Record<'a> {
+    // All of a list.
+    pub fn new(list: &'a [u8]) -> Self {
+        let (words, _) = list.as_chunks();
+        Record { words }
+    }
+
+    // Word number `at`, from 0; 0 past the list's end.
+    pub fn word(self, at: usize) -> u64
+        ensures { MatchOption (slice_get self.entry.words.now at) (result ≡ 0) (λ w. result ≡ from_le_bytes w64 w) }
+    {
+        self.words
+            .get(at)
+            .map_or(0, |word| u64::from_le_bytes(*word))
+    }
+
+    // The float whose bits are the word.
+    pub fn float(self, at: usize) -> f64 {
+        crate::number(self.word(at))
+    }
+
+    // The low half of the word.
+    pub fn low(self, at: usize) -> u32 {
+        (self.word(at) & 0xffff_ffff) as u32
+    }
+
+    // The low bit of the word.
+    pub fn flag(self, at: usize) -> bool {
+        self.word(at) % 2 == 1
+    }
+
+    // The word as a number, but at most `most`.
+    pub fn upto(self, at: usize, most: usize) -> usize
+        ensures { result ≤ most }
+    {
+        (self.word(at) as usize).min(most)
+    }
+
+    // The floats of every `step`-th word from word `from` on, into the column.
+    pub fn fill_floats(self, from: usize, step: usize, col: &mut [f64]) {
+        for (i, place) in col.iter_mut().enumerate() {
+            *place = self.float(i.saturating_mul(step).saturating_add(from));
+        }
+    }
+
+    // The low halves of the words from word `from` on, into the column.
+    pub fn fill_lows(self, from: usize, col: &mut [u32]) {
+        for (i, place) in col.iter_mut().enumerate() {
+            *place = self.low(i.saturating_add(from));
+        }
+    }
+
+    // The N floats from word `from` on.
+    pub fn floats<const N: usize>(self, from: usize) -> [f64; N] {
+        let mut numbers = [0.0; N];
+        self.fill_floats(from, 1, &mut numbers);
+        numbers
+    }
+
+    // The n bytes from word `at` on; none where the list ends before them.
+    pub fn bytes(self, at: usize, n: usize) -> &'a [u8]
+        ensures { length result.now ≤ n }
+    {
+        let rest = self.words.get(at..).unwrap_or(&[]);
+        rest.as_flattened().get(..n).unwrap_or(&[])
+    }
+}
+
+// The records of a list in turn, each with its kind, up to the list's end or an unknown code.
+#[derive(Drop)]
+pub struct Records<'a, K> {
+    words: &'a [[u8; 8]],
+    kind: PhantomData<K>,
+}
+
+impl<'a, K: Kind> Records<'a, K> {
+    pub fn new(list: &'a [u8]) -> Self {
+        Records {
+            words: Record::new(list).words,
+            kind: PhantomData,
+        }
+    }
+}
+
+impl<'a, K: Kind> Iterator for Records<'a, K> {
+    type Item = (K, Record<'a>);
+
+    ghost remaining = { λ s. at_most (length s.words.now) };
+
+    fn next(&mut self) -> Option<(K, Record<'a>)> {
+        let record = Record { words: self.words };
+        let (first, rest) = self.words.split_first()?;
+        let kind = K::try_from(u64::from_le_bytes(*first)).ok()?;
+        self.words = rest.get(kind.arguments(record)..).unwrap_or(&[]);
+        Some((kind, record))
+    }
+}
