@@ -37,8 +37,14 @@ fn main(rt: HostRuntime) -> io::Result<()> {
     }
     uniform(&rt, 7, 50.0, 150.0)?;
     uniform(&rt, 7, 0.0, 0.5235987755982988)?;
-    println!(rt; "{}", rng::wrapping_mul64(18446744073709551615, 18446744073709551615))?;
-    println!(rt; "{}", rng::wrapping_mul64(0x9E37_79B9_7F4A_7C15, 0xBF58_476D_1CE4_E5B9))?;
+    println!(rt;
+        "{}",
+        rng::wrapping_mul64(18446744073709551615, 18446744073709551615)
+    )?;
+    println!(rt;
+        "{}",
+        rng::wrapping_mul64(0x9E37_79B9_7F4A_7C15, 0xBF58_476D_1CE4_E5B9)
+    )?;
     let chosen = [
         0,
         2047,
