@@ -1,5 +1,5 @@
 -- A column that is written from the front: the entries so far, and the rest as it was. Assumes nothing.
-use Rattle.std.proofs.Common.{◌≡◌, ℕ, suc, ◌+◌, ◌-◌, ◌<◌, ◌≤◌, List, [], ◌∷◌, ◌++◌, length, get_or, take, drop, set, replicate, sym, refl, ap, ap₂, ◌∙◌, subst, append-nil, add-one, arith, length-append, length-drop, length-set, length-take-le, drop-cons, drop-drop}
+use Rattle.std.proofs.Common.{◌≡◌, ℕ, suc, ◌+◌, ◌-◌, ◌<◌, ◌≤◌, List, [], ◌∷◌, ◌++◌, length, get_or, take, drop, set, replicate, sym, refl, ap, ap₂, ◌∙◌, subst, append-nil, append_assoc, add-one, arith, length-append, length-drop, length-set, length-take-le, take_at, drop-cons, drop-drop}
 use lib.Seq.{drop-append-add, set_at, append_snoc}
 use lib.Ieee.{Float}
 use Rattle.course.specs.Steps.Tiles.{puts}
@@ -26,29 +26,17 @@ module _ {A : Type 0} where
     same = length-set c i v ∙ g.same;
   }
 
-  -- ---- one value from n up to m
-  pub part-filled : (l r : List A) {n m : ℕ} (v : A) → n ≤ m → m ≤ length l → r ≡ replicate (length (take (m - n) (drop n l))) v
-      → take n l ++ (r ++ drop (m - n) (drop n l)) ≡ take n l ++ (replicate (m - n) v ++ drop m l)
-  part-filled l r {n} {m} v few room e =
-      let long : length (take (m - n) (drop n l)) ≡ m - n = length-take-le (m - n) (drop n l) (omega (arith, length-drop n l)) in
+  -- ---- a part from n up to m
+  pub part-put : (l r vs : List A) (n m : ℕ) → n ≤ m → r ≡ vs → take n l ++ (r ++ drop (m - n) (drop n l)) ≡ take n l ++ (vs ++ drop m l)
+  part-put l r vs n m few e =
       let rest : n + (m - n) ≡ m = omega arith in
-      ap₂ (λ (y z : List A). take n l ++ (y ++ z)) (e ∙ ap (λ (k : ℕ). replicate k v) long) (drop-drop (m - n) n l ∙ ap (λ (k : ℕ). drop k l) rest)
+      ap₂ (λ (y z : List A). take n l ++ (y ++ z)) e (drop-drop (m - n) n l ∙ ap (λ (k : ℕ). drop k l) rest)
 
--- ---- several numbers in a row
-none-on : (i : ℕ) → i ≡ i + 0
-none-on i = omega arith
-
-one_on : (i m : ℕ) → i + 1 + m ≡ i + suc m
-one_on i m = omega arith
-
-pub puts-grown : (vs p c l : List Float) (i : ℕ) → Grown p c l i → i + length vs ≤ length l → Grown (p ++ vs) (puts vs i c) l (i + length vs)
-unfolding puts
-puts-grown [] p c l i g h = subst (λ (m : ℕ). Grown (p ++ []) c l m) (none-on i) (subst (λ (z : List Float). Grown z c l i) (sym (append-nil p)) g)
-puts-grown (v ∷ vs) p c l i g h =
-    let first = grown-more p (p ++ (v ∷ [])) c l i v g (omega arith) refl in
-    let rest = puts-grown vs (p ++ (v ∷ [])) (set c i v) l (i + 1) first (omega arith) in
-    subst (λ (m : ℕ). Grown (p ++ (v ∷ vs)) (puts vs (i + 1) (set c i v)) l m) (one_on i (length vs))
-    (subst (λ (z : List Float). Grown z (puts vs (i + 1) (set c i v)) l (i + 1 + length vs)) (append_snoc p v vs) rest)
+  pub part-filled : (l r : List A) (n m : ℕ) (v : A) → n ≤ m → m ≤ length l → r ≡ replicate (length (take (m - n) (drop n l))) v
+      → take n l ++ (r ++ drop (m - n) (drop n l)) ≡ take n l ++ (replicate (m - n) v ++ drop m l)
+  part-filled l r n m v few room e =
+      let long : length (take (m - n) (drop n l)) ≡ m - n = length-take-le (m - n) (drop n l) (omega (arith, length-drop n l)) in
+      part-put l r _ n m few (e ∙ ap (λ (k : ℕ). replicate k v) long)
 
 -- what stands beyond is not touched by what is in front
 pub drop_past : {A : Type 0} (p l : List A) (i m : ℕ) → length p ≡ i → i ≤ m → drop m (p ++ drop i l) ≡ drop m l
@@ -59,23 +47,18 @@ drop_past p l i m e h =
     back : (i m : ℕ) → i ≤ m → i + (m - i) ≡ m
     back i m h = omega arith
 
--- one write after others
-pub then-set : (l a b : List Float) (i : ℕ) (v : Float) → b ≡ set a i v → a ≡ l → b ≡ set l i v
-then-set l a b i v p q = p ∙ ap (λ (z : List Float). set z i v) q
-
--- a corner's two numbers, then others
-two-puts : (vs : List Float) (i : ℕ) (l m : List Float) (a b : Float) → m ≡ set (set l i a) (i + 1) b → puts vs (i + 2) m ≡ puts (a ∷ b ∷ vs) i l
+-- ---- several numbers in a row
+pub puts-grown : (vs p c l : List Float) (i : ℕ) → Grown p c l i → i + length vs ≤ length l → Grown (p ++ vs) (puts vs i c) l (i + length vs)
 unfolding puts
-two-puts vs i l m a b e =
-    let h : i + 2 ≡ i + 1 + 1 = omega arith in
-    ap (λ (z : List Float). puts vs (i + 2) z) e ∙ ap (λ (k : ℕ). puts vs k (set (set l i a) (i + 1) b)) h
-
--- four corners, one after the other, are a quad
-pub four-corners : (l l1 l2 l3 l4 : List Float) (i : ℕ) (a b c d e f g h : Float)
-    → l1 ≡ set (set l i a) (i + 1) b → l2 ≡ set (set l1 (i + 2) c) (i + 2 + 1) d
-    → l3 ≡ set (set l2 (i + 2 + 2) e) (i + 2 + 2 + 1) f → l4 ≡ set (set l3 (i + 2 + 2 + 2) g) (i + 2 + 2 + 2 + 1) h
-    → l4 ≡ puts (a ∷ b ∷ c ∷ d ∷ e ∷ f ∷ g ∷ h ∷ []) i l
-unfolding puts
-four-corners l l1 l2 l3 l4 i a b c d e f g h p q r s =
-    two-puts [] (i + 2 + 2 + 2) l3 l4 g h s ∙ two-puts (g ∷ h ∷ []) (i + 2 + 2) l2 l3 e f r
-    ∙ two-puts (e ∷ f ∷ g ∷ h ∷ []) (i + 2) l1 l2 c d q ∙ two-puts (c ∷ d ∷ e ∷ f ∷ g ∷ h ∷ []) i l l1 a b p
+puts-grown vs p c l i g h =
+    let is : take i c ++ (vs ++ drop (i + length vs) c) ≡ (p ++ vs) ++ drop (i + length vs) l =
+    ap₂ (λ (y z : List Float). y ++ (vs ++ z)) (ap (take i) g.is ∙ take_at p (drop i l) i g.long) (ap (drop (i + length vs)) g.is ∙ drop_past p l i (i + length vs) g.long (omega arith))
+    ∙ sym (append_assoc p vs (drop (i + length vs) l))
+    in
+    let long : length (p ++ vs) ≡ i + length vs = length-append p vs ∙ ap (λ (n : ℕ). n + length vs) g.long in
+    record {
+      is = is;
+      long = long;
+      bound = h;
+      same = ap length is ∙ length-append (p ++ vs) (drop (i + length vs) l) ∙ omega (arith, long, length-drop (i + length vs) l);
+    }

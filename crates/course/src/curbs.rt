@@ -9,7 +9,7 @@ ghost use Rattle.course.specs.Grader.Curbs.{turn_at, steep_turn, one_way, mark_a
 ghost use Rattle.course.specs.Steps.Tiles.{Curbed, CurbsTo};
 
 use crate::constants::{BORDER, TRACK_TURN_RATE, TRACK_WIDTH};
-use crate::tiles::TrackPoint;
+use crate::tiles::{PointColumns, TrackPoint};
 use crate::trig::SinCos;
 use crate::{columns, constants, numeric, points, tiles, trig};
 
@@ -25,12 +25,12 @@ pub enum CurbAnswer {
 }
 
 // How far beta turns at point i.
-fn turn_at(beta: &[f64], n: usize, i: usize) -> f64
-    requires { (i < n) × (n ≤ length beta.now) }
-    ensures { result ≡ turn_at beta.now n i }
+fn turn_at(points: &PointColumns, i: usize) -> f64
+    requires { i < points.now.count }
+    ensures { result ≡ turn_at points.now.beta.now points.now.count i }
 {
-    let j = tiles::before(i, n);
-    beta[i] - beta[j]
+    let j = tiles::before(i, points.count);
+    points.beta[i] - points.beta[j]
 }
 
 // Whether a turn is steep enough for a curb.
@@ -51,17 +51,18 @@ fn one_way(t: f64, u: f64, v: f64, w: f64) -> bool
 }
 
 // The mark of point i, from its turn and the three before it.
-fn is_marked(beta: &[f64], n: usize, i: usize) -> bool
-    requires { (i < n) × (n ≤ length beta.now) }
-    ensures { result ≡ mark_at beta.now n i }
+fn is_marked(points: &PointColumns, i: usize) -> bool
+    requires { i < points.now.count }
+    ensures { result ≡ mark_at points.now.beta.now points.now.count i }
 {
+    let n = points.count;
     let j = tiles::before(i, n);
     let k = tiles::before(j, n);
     let l = tiles::before(k, n);
-    let t = turn_at(beta, n, i);
-    let u = turn_at(beta, n, j);
-    let v = turn_at(beta, n, k);
-    let w = turn_at(beta, n, l);
+    let t = turn_at(points, i);
+    let u = turn_at(points, j);
+    let v = turn_at(points, k);
+    let w = turn_at(points, l);
     one_way(t, u, v, w)
 }
 
@@ -78,17 +79,18 @@ fn after(i: usize, n: usize) -> usize
 }
 
 // Whether point i has a curb: it or one of the three after it is marked.
-fn is_bordered(beta: &[f64], n: usize, i: usize) -> bool
-    requires { (i < n) × (n ≤ length beta.now) }
-    ensures { result ≡ bordered beta.now n i }
+fn is_bordered(points: &PointColumns, i: usize) -> bool
+    requires { i < points.now.count }
+    ensures { result ≡ bordered points.now.beta.now points.now.count i }
 {
+    let n = points.count;
     let j = after(i, n);
     let k = after(j, n);
     let l = after(k, n);
-    let t = is_marked(beta, n, i);
-    let u = is_marked(beta, n, j);
-    let v = is_marked(beta, n, k);
-    let w = is_marked(beta, n, l);
+    let t = is_marked(points, i);
+    let u = is_marked(points, j);
+    let v = is_marked(points, k);
+    let w = is_marked(points, l);
     t | (u | (v | w))
 }
 
@@ -131,75 +133,45 @@ fn white_of(i: usize) -> u8
     (1 - i % 2) as u8
 }
 
-// One mark of a column.
-fn put_mark(l: &mut [u8], i: usize, v: u8)
-    requires { i < length l.old }
-    ensures { l.new ≡ slice_set l.old i v }
-{
-    l[i] = v;
-}
-
 // The curb of point i, if it has one, as number m; the count after it.
-fn put_curb(
-    beta: &[f64],
-    x: &[f64],
-    y: &[f64],
-    n: usize,
-    i: usize,
-    m: usize,
-    quads: &mut [f64],
-    white: &mut [u8],
-) -> usize
-    requires i_lt_n { (i < n) × (n ≤ length beta.now) × (n ≤ length x.now) × (n ≤ length y.now) }
-    requires m_le_i { (m ≤ i) × (n ≤ most_points) × (quad_numbers n ≤ length quads.old) × (n ≤ length white.old) }
-    ensures { Curbed (bordered beta.now n i)
-        (curb_quad (point_at beta.now x.now y.now i)
-        (point_at beta.now x.now y.now (before_of n i))) (white_of i) m
+fn put_curb(points: &PointColumns, i: usize, m: usize, quads: &mut [f64], white: &mut [u8]) -> usize
+    requires i_in_bounds { (m ≤ i) × (i < points.now.count) }
+    requires room { (points.now.count ≤ most_points) × (quad_numbers points.now.count ≤ length quads.old) × (points.now.count ≤ length white.old) }
+    ensures { Curbed (bordered points.now.beta.now points.now.count i)
+        (curb_quad (point_at points.now.beta.now points.now.x.now points.now.y.now i)
+        (point_at points.now.beta.now points.now.x.now points.now.y.now (before_of points.now.count i))) (white_of i) m
         quads.old white.old result quads.new white.new }
 {
-    if !is_bordered(beta, n, i) {
+    if !is_bordered(points, i) {
         return m;
     }
-    let j = tiles::before(i, n);
-    let p = tiles::point_at(beta, x, y, i);
-    let q = tiles::point_at(beta, x, y, j);
-    let c = curb_quad(p, q);
+    let j = tiles::before(i, points.count);
+    let c = curb_quad(points.point_at(i), points.point_at(j));
     tiles::put_quad(quads, m * 8, c);
-    put_mark(white, m, white_of(i));
+    white[m] = white_of(i);
     m + 1
 }
 
-// The curbs of the n points, in front of the lent columns; how many there are.
-fn write_curbs(
-    beta: &[f64],
-    x: &[f64],
-    y: &[f64],
-    n: usize,
-    quads: &mut [f64],
-    white: &mut [u8],
-) -> usize
-    requires n_in_bounds { (n ≤ length beta.now) × (n ≤ length x.now) × (n ≤ length y.now) }
-    requires n_le_most_points { (n ≤ most_points) × (quad_numbers n ≤ length quads.old) × (n ≤ length white.old) }
-    ensures { CurbsTo beta.now x.now y.now n n result quads.old white.old
+// The curbs of the points, in front of the lent columns; how many there are.
+fn write_curbs(points: &PointColumns, quads: &mut [f64], white: &mut [u8]) -> usize
+    requires { (points.now.count ≤ most_points) × (quad_numbers points.now.count ≤ length quads.old) × (points.now.count ≤ length white.old) }
+    ensures { CurbsTo points.now.beta.now points.now.x.now points.now.y.now points.now.count points.now.count result quads.old white.old
         quads.new white.new }
 {
     let mut m: usize = 0;
-    let mut i: usize = 0;
-    while i < n {
-        m = put_curb(beta, x, y, n, i, m, quads, white);
-        i += 1;
+    for i in 0..points.count {
+        m = put_curb(points, i, m, quads, white);
     }
     m
 }
 
 // Whether the lent columns have their lengths, for m curbs (cause 2).
+#[tactic(auto, unfolding(crate::specs::Grader::Curbs::curb_room))]
 fn curb_room(m: usize, quads: &[f64], white: &[u8]) -> bool
     requires { m ≤ most_points }
     ensures { result ≡ curb_room m quads.now white.now }
 {
-    let q = 8 * m <= quads.len();
-    let w = m <= white.len();
-    q & w
+    (8 * m <= quads.len()) & (m <= white.len())
 }
 
 // The curbs of the given points in the lent columns.
@@ -222,7 +194,13 @@ pub fn curbs(
     if 0 < k {
         return CurbAnswer::Refused(k);
     }
-    let found = write_curbs(pbeta, px, py, n, quads, white);
+    let points = PointColumns {
+        beta: pbeta,
+        x: px,
+        y: py,
+        count: n,
+    };
+    let found = write_curbs(&points, quads, white);
     columns::clear_from(quads, found * 8, 8 * m);
     white[found..m].fill(0);
     CurbAnswer::Count(found as u32)

@@ -7,7 +7,7 @@ ghost use Rattle.course.specs.Grader.Points.{good_point, all_good, given_of, giv
 ghost use Rattle.course.specs.Steps.Tiles.{Roomy};
 
 use crate::constants::{MOST_POINTS, OFFSET_COUNT};
-use crate::tiles::TrackPoint;
+use crate::tiles::{PointColumns, TrackPoint};
 use crate::{columns, constants, index, numeric, tiles};
 
 // The values of a course's answer.
@@ -80,16 +80,13 @@ fn good_point(p: TrackPoint) -> bool
     numeric::inside(p.beta, 16.0) & (numeric::inside(p.x, 1000.0) & numeric::inside(p.y, 1000.0))
 }
 
-// Whether the first n points pass.
-pub(crate) fn all_good(beta: &[f64], x: &[f64], y: &[f64], n: usize) -> bool
-    requires { (n ≤ length beta.now) × (n ≤ length x.now) × (n ≤ length y.now) }
-    ensures { result ≡ all_good (points_of beta.now x.now y.now n) }
+// Whether the points pass.
+pub(crate) fn all_good(points: &PointColumns) -> bool
+    ensures { result ≡ all_good (points_of points.now.beta.now points.now.x.now points.now.y.now points.now.count) }
 {
     let mut ok = true;
-    let mut i: usize = 0;
-    while i < n {
-        ok = good_point(tiles::point_at(beta, x, y, i)) & ok;
-        i += 1;
+    for i in 0..points.count {
+        ok &= good_point(points.point_at(i));
     }
     ok
 }
@@ -119,13 +116,11 @@ pub(crate) fn roomy(
 }
 
 // Whether the given columns have the count given with them.
+#[tactic(auto, unfolding(crate::specs::Grader::Points::given_of))]
 pub(crate) fn given(beta: &[f64], x: &[f64], y: &[f64], n: usize) -> bool
     ensures { result ≡ given_of beta.now x.now y.now n }
 {
-    let a = n <= beta.len();
-    let b = n <= x.len();
-    let c = n <= y.len();
-    a & (b & c)
+    (n <= beta.len()) & ((n <= x.len()) & (n <= y.len()))
 }
 
 // The first of the causes 9, 2 and 8 of given points that holds, else 0; `room`: no lent column is short.
@@ -144,7 +139,13 @@ pub(crate) fn given_cause(room: bool, b: &[f64], x: &[f64], y: &[f64], count: us
     if !given(b, x, y, count) {
         return 2;
     }
-    if !all_good(b, x, y, count) {
+    let points = PointColumns {
+        beta: b,
+        x,
+        y,
+        count,
+    };
+    if !all_good(&points) {
         return 8;
     }
     0
@@ -171,9 +172,15 @@ pub(crate) fn finish(
         (lent alpha.old beta.old x.old y.old tiles.old
         offsets.old list.old) }
 {
-    let first = tiles::point_at(beta, x, y, 0);
+    let points = PointColumns {
+        beta,
+        x,
+        y,
+        count: n,
+    };
+    let first = points.point_at(0);
     let used = n * 8;
-    tiles::write_tiles(beta, x, y, n, tiles);
+    tiles::write_tiles(&points, tiles);
     columns::clear_from(beta, n, m);
     columns::clear_from(x, n, m);
     columns::clear_from(y, n, m);
@@ -192,25 +199,16 @@ pub(crate) fn finish(
     })
 }
 
-// The first n given points go to the front of the lent columns.
-fn copy_points(
-    pbeta: &[f64],
-    px: &[f64],
-    py: &[f64],
-    n: usize,
-    beta: &mut [f64],
-    x: &mut [f64],
-    y: &mut [f64],
-)
-    requires n_in_bounds { (n ≤ length pbeta.now) × (n ≤ length px.now) × (n ≤ length py.now) }
-    requires n_in_bounds_2 { (n ≤ length beta.old) × (n ≤ length x.old) × (n ≤ length y.old) }
-    ensures beta_after { beta.new ≡ take n pbeta.now ++ drop n beta.old }
-    ensures x_after { x.new ≡ take n px.now ++ drop n x.old }
-    ensures y_after { y.new ≡ take n py.now ++ drop n y.old }
+// The given points go to the front of the lent columns.
+fn copy_points(points: &PointColumns, beta: &mut [f64], x: &mut [f64], y: &mut [f64])
+    requires { (points.now.count ≤ length beta.old) × (points.now.count ≤ length x.old) × (points.now.count ≤ length y.old) }
+    ensures beta_after { beta.new ≡ take points.now.count points.now.beta.now ++ drop points.now.count beta.old }
+    ensures x_after { x.new ≡ take points.now.count points.now.x.now ++ drop points.now.count x.old }
+    ensures y_after { y.new ≡ take points.now.count points.now.y.now ++ drop points.now.count y.old }
 {
-    columns::copy_front(pbeta, n, beta);
-    columns::copy_front(px, n, x);
-    columns::copy_front(py, n, y);
+    columns::copy_front(points.beta, points.count, beta);
+    columns::copy_front(points.x, points.count, x);
+    columns::copy_front(points.y, points.count, y);
 }
 
 // The course of the given points in the lent columns.
@@ -240,6 +238,12 @@ pub fn points(
     if 0 < k {
         return Laid::Refused(k);
     }
-    copy_points(pbeta, px, py, n, beta, x, y);
+    let points = PointColumns {
+        beta: pbeta,
+        x: px,
+        y: py,
+        count: n,
+    };
+    copy_points(&points, beta, x, y);
     finish(m, false, n, alpha, beta, x, y, tiles, offsets, list)
 }

@@ -15,23 +15,38 @@ pub struct TrackPoint {
     pub y: f64,
 }
 
+// The points that three columns begin with.
+#[derive(Clone, Copy)]
+pub(crate) struct PointColumns<'a> {
+    pub beta: &'a [f64],
+    pub x: &'a [f64],
+    pub y: &'a [f64],
+    pub count: usize,
+    ghost beta_long: { count ≤ length beta.now },
+    ghost x_long: { count ≤ length x.now },
+    ghost y_long: { count ≤ length y.now },
+}
+
+impl PointColumns<'_> {
+    // Point i.
+    #[tactic(auto, unfolding(crate::specs::Rules::Tiles::point_at))]
+    pub(crate) fn point_at(&self, i: usize) -> TrackPoint
+        requires { i < self.now.count }
+        ensures { result ≡ point_at self.now.beta.now self.now.x.now self.now.y.now i }
+    {
+        TrackPoint {
+            beta: self.beta[i],
+            x: self.x[i],
+            y: self.y[i],
+        }
+    }
+}
+
 // The two edges of the track at a point.
 #[derive(Clone, Copy)]
 struct Edges {
     left: [f64; 2],
     right: [f64; 2],
-}
-
-// Point i of the columns.
-pub(crate) fn point_at(beta: &[f64], x: &[f64], y: &[f64], i: usize) -> TrackPoint
-    requires { (i < length beta.now) × (i < length x.now) × (i < length y.now) }
-    ensures { result ≡ point_at beta.now x.now y.now i }
-{
-    TrackPoint {
-        beta: beta[i],
-        x: x[i],
-        y: y[i],
-    }
 }
 
 // The edges of the track at p.
@@ -67,56 +82,30 @@ pub(crate) fn before(i: usize, n: usize) -> usize
     i - 1
 }
 
-// One number of a column.
-fn put(l: &mut [f64], i: usize, v: f64)
-    requires { i < length l.old }
-    ensures { l.new ≡ slice_set l.old i v }
-{
-    l[i] = v;
-}
-
-// A corner's two numbers stand from number `at` on.
-fn put_corner(tiles: &mut [f64], at: usize, c: [f64; 2])
-    requires { at + 2 ≤ length tiles.old }
-    ensures { tiles.new
-        ≡ slice_set (slice_set tiles.old at (slice_index_or c 0 nan)) (at + 1) (slice_index_or c 1 nan) }
-{
-    put(tiles, at, c[0]);
-    let b = at + 1;
-    put(tiles, b, c[1]);
-}
-
 // The quad's eight numbers stand from number `at` on.
 pub(crate) fn put_quad(tiles: &mut [f64], at: usize, q: [[f64; 2]; 4])
     requires { at + 8 ≤ length tiles.old }
     ensures { tiles.new ≡ puts (eight q) at tiles.old }
 {
-    put_corner(tiles, at, q[0]);
-    let b = at + 2;
-    put_corner(tiles, b, q[1]);
-    let c = b + 2;
-    put_corner(tiles, c, q[2]);
-    let d = c + 2;
-    put_corner(tiles, d, q[3]);
+    let [a, b, c, d] = q;
+    tiles[at..at + 8].copy_from_slice(&[a[0], a[1], b[0], b[1], c[0], c[1], d[0], d[1]]);
 }
 
-// The tiles of the n points that the columns begin with. A point's edges are worked out once, and kept for the tile after.
-pub(crate) fn write_tiles(beta: &[f64], x: &[f64], y: &[f64], n: usize, tiles: &mut [f64])
-    requires n_in_bounds { (n ≤ length beta.now) × (n ≤ length x.now) × (n ≤ length y.now) }
-    requires n_in_bounds_2 { n * 8 ≤ length tiles.old }
+// The tiles of the points. A point's edges are worked out once, and kept for the tile after.
+pub(crate) fn write_tiles(points: &PointColumns, tiles: &mut [f64])
+    requires { points.now.count * 8 ≤ length tiles.old }
     ensures { tiles.new
-        ≡ tiles_to (points_of beta.now x.now y.now n) n
-        ++ drop (n * 8) tiles.old }
+        ≡ tiles_to (points_of points.now.beta.now points.now.x.now points.now.y.now points.now.count) points.now.count
+        ++ drop (points.now.count * 8) tiles.old }
 {
+    let n = points.count;
     if n == 0 {
         return;
     }
-    let mut last = edges_at(point_at(beta, x, y, n - 1));
-    let mut i: usize = 0;
-    while i < n {
-        let e = edges_at(point_at(beta, x, y, i));
+    let mut last = edges_at(points.point_at(n - 1));
+    for i in 0..n {
+        let e = edges_at(points.point_at(i));
         put_quad(tiles, i * 8, tile_quad(e, last));
         last = e;
-        i += 1;
     }
 }

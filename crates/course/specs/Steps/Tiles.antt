@@ -1,5 +1,5 @@
 -- Definitions that only private functions of `tiles`, `points` and `curbs` cite. Assumes nothing.
-use Rattle.std.specs.Prelude.{◌≡◌, ℕ, ◌+◌, ◌*◌, ◌≤◌, Bool, cond, List, [], ◌∷◌, ◌++◌, length, drop, slice_set, Float}
+use Rattle.std.specs.Prelude.{◌≡◌, ℕ, ◌+◌, ◌*◌, ◌≤◌, Bool, cond, List, [], ◌∷◌, ◌++◌, length, take, drop, slice_set, Float}
 use Rattle.course.specs.Rules.Lengths.{quad_numbers, offset_count}
 use Rattle.course.specs.Rules.Arithmetic.{◌⊕◌, ◌⊖◌, ◌⊗◌}
 use Rattle.course.specs.Rules.Constants.{track_width}
@@ -12,8 +12,7 @@ use Rattle.course.specs.declared.tiles.Edges.{Edges}
 
 -- the numbers vs stand from number i on
 unfoldable pub puts : List Float → ℕ → List Float → List Float
-puts [] i l = l
-puts (v ∷ vs) i l = puts vs (i + 1) (slice_set l i v)
+puts vs i l = take i l ++ (vs ++ drop (i + length vs) l)
 
 -- the edges of the track at a point
 unfoldable pub edges_at : TrackPoint → Edges

@@ -12,7 +12,13 @@ pub write_curbs-found-requires : goal.write_curbs-found-requires
 write_curbs-found-requires c =
     let z = no-cause _ _ _ _ _ _ _ c.given_cause-k.ensures c.curb_room-room.ensures c.if-k-gt0.false in
     let f = fits _ _ _ _ _ _ _ c.column_length-m.ensures.value z in
-    record { n_in_bounds = (f.given.beta, f.given.x, f.given.y); n_le_most_points = (omega (arith, f.few, f.small), omega (arith, f.few, f.quads), omega (arith, f.few, f.white)) }
+    (omega (arith, f.few, f.small), omega (arith, f.few, f.quads), omega (arith, f.few, f.white))
+
+pub invariant_of-points : goal.invariant_of-points
+invariant_of-points c =
+    let z = no-cause _ _ _ _ _ _ _ c.given_cause-k.ensures c.curb_room-room.ensures c.if-k-gt0.false in
+    let g = (fits _ _ _ _ _ _ _ c.column_length-m.ensures.value z).given in
+    record { beta_long = g.beta; x_long = g.x; y_long = g.y }
 
 pub overflow_mul-m : goal.overflow_mul-m
 overflow_mul-m c = omega (arith, c.column_length-m.ensures.upper_bound)
@@ -37,4 +43,4 @@ returns c =
     let f = fits _ _ _ _ _ _ _ c.column_length-m.ensures.value z in
     let few : c.write_curbs-found.result ≤ c.column_length-m.result = omega (arith, c.write_curbs-found.ensures.few, f.few) in
     let room : c.column_length-m.result ≤ length c.write_curbs-found.new.white = omega (arith, c.write_curbs-found.ensures.same-white, f.white) in
-    all-edged _ _ _ _ _ _ _ _ _ _ _ _ c.column_length-m.ensures.value z c.write_curbs-found.ensures c.clear_from.ensures (part-filled _ _ 0 few room (c.fill.ensures.after (λ y h. h)))
+    all-edged _ _ _ _ _ _ _ _ _ _ _ _ c.column_length-m.ensures.value z c.write_curbs-found.ensures c.clear_from.ensures (part-filled _ _ _ _ 0 few room (c.fill.ensures.after (λ y h. h)))

@@ -20,9 +20,9 @@ pub returns-then-not-given : goal.returns-then-not-given
 unfolding given_cause
 returns-then-not-given c = simp (ne_eqb _ _ c.if-count-eq0.false, le-ltb _ _ c.if-count-gt-MOST_POINTS.false, c.if-not-room.false, ← c.given.ensures, c.if-not-given.true)
 
-pub all_good-requires : goal.all_good-requires
-all_good-requires c =
-    let g = given-long _ _ _ _ (sym c.given.ensures ∙ c.if-not-given.false) in (g.beta, g.x, g.y)
+pub invariant_of-points : goal.invariant_of-points
+invariant_of-points c =
+    let g = given-long _ _ _ _ (sym c.given.ensures ∙ c.if-not-given.false) in record { beta_long = g.beta; x_long = g.x; y_long = g.y }
 
 pub returns-then-not-all_good : goal.returns-then-not-all_good
 unfolding given_cause

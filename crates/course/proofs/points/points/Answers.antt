@@ -6,15 +6,17 @@ use Rattle.course.proofs.points.points.Goals as goal
 pub returns-then-k-gt0 : goal.returns-then-k-gt0
 returns-then-k-gt0 c = refused _ _ _ _ _ _ _ _ _ _ _ _ _ _ c.column_length-m.ensures.value c.given_cause-k.ensures c.roomy-room.ensures c.if-k-gt0.true
 
+pub invariant_of-points : goal.invariant_of-points
+invariant_of-points c =
+    let z = no-cause _ _ _ _ _ _ _ c.given_cause-k.ensures c.roomy-room.ensures c.if-k-gt0.false in
+    let g = (fit _ _ _ _ _ _ _ _ _ _ _ c.column_length-m.ensures.value z).given in
+    record { beta_long = g.beta; x_long = g.x; y_long = g.y }
+
 pub copy_points-requires : goal.copy_points-requires
 copy_points-requires c =
     let z = no-cause _ _ _ _ _ _ _ c.given_cause-k.ensures c.roomy-room.ensures c.if-k-gt0.false in
     let f = fit _ _ _ _ _ _ _ _ _ _ _ c.column_length-m.ensures.value z in
-    let g = f.given in
-    record {
-      n_in_bounds = (g.beta, g.x, g.y);
-      n_in_bounds_2 = (omega (arith, f.room.beta, f.few), omega (arith, f.room.x, f.few), omega (arith, f.room.y, f.few));
-    }
+    (omega (arith, f.room.beta, f.few), omega (arith, f.room.x, f.few), omega (arith, f.room.y, f.few))
 
 pub finish-requires : goal.finish-requires
 finish-requires c =
