@@ -6,7 +6,7 @@ use mathlib.Core.Path.{◌≡◌, refl, sym, ap, ap₂, ◌∙◌}
 use Prim.Native.Nat.{ℕ, zero, suc, ◌+◌, ◌-◌, ◌*◌, ◌≤◌, ◌<◌}
 use native.Mathlib.Omega.{arith}
 use native.Mathlib.Numerals.{add-one}
-use lib.ListN.{length, get_or, set, take, drop, replicate}
+use lib.ListN.{length, get_or, take, drop, replicate}
 use lib.Seq.{take_all}
 use lib.Dec.{eqb}
 use lib.Ieee.{Float}
@@ -137,7 +137,7 @@ module _ {q : List (List Float)} {ts : List Float} {offs l k tested₀ touched�
 -- ---- the cells of four wheels
 -- sixteen places, of which those of the first w wheels hold their cells
 abbrev pub with_four : List ℕ → ℕ → List ℕ → List ℕ
-with_four ks w b = set (set (set (set ks (4 * w) (get_or b 0 0)) (4 * w + 1) (get_or b 1 0)) (4 * w + 2) (get_or b 2 0)) (4 * w + 3) (get_or b 3 0)
+with_four ks w b = take (4 * w) ks ++ (b ++ drop (4 * w + 4 - 4 * w) (drop (4 * w) ks))
 
 unfoldable pub filled : List Pose → ℕ → List ℕ
 filled ps zero = replicate 16 0

@@ -79,13 +79,10 @@ lent-part m w W = ap (λ (k : ℕ). take k (drop (w * m) W)) (sym (size (w * m) 
 
 -- ---- touch: after w wheels
 pub record Touched (m : ℕ) (W₀ : List ℕ) (P : ℕ → ℕ → Bool) (W tested : List ℕ) (w : ℕ) : Type 0 where
-  pub bound : w ≤ 4
   pub scratch : length tested ≡ m
   pub long : length W ≡ 4 * m
+  pub ends : w < 4 → w * m + m ≤ length W
   pub wheels : W ≡ wheel_sets m P w ++ drop (w * m) W₀
-
-pub wheel-ends : {m w : ℕ} {W₀ W tested : List ℕ} {P : ℕ → ℕ → Bool} → Touched m W₀ P W tested w → w < 4 → w * m + m ≤ length W
-wheel-ends {m = m} {w = w} h b = part-ends w m h.long b
 
 -- the quad of a wheel by its pose
 pub wheel-is : (ps : List Pose) (w : ℕ) {q : List (List Float)} → q ≡ wheel_quad (pose_at ps w) → q ≡ quad_of ps w
@@ -95,7 +92,7 @@ wheel-is ps w e = e
 module _ {m : ℕ} {W₀ : List ℕ} {P : ℕ → ℕ → Bool} (l : length W₀ ≡ 4 * m) where
   pub no-set : {tested : List ℕ} → length tested ≡ m → Touched m W₀ P W₀ tested 0
   unfolding wheel_sets
-  no-set a = record { bound = omega arith; scratch = a; long = l; wheels = sym (ap (λ (k : ℕ). drop k W₀) (zero-mul m)) }
+  no-set a = record { scratch = a; long = l; ends = λ b. part-ends 0 m l b; wheels = sym (ap (λ (k : ℕ). drop k W₀) (zero-mul m)) }
 
   module _ {W tested : List ℕ} {w : ℕ} (h : Touched m W₀ P W tested w) (b : w < 4) where
     -- the lent part has room for what the wheel touches
@@ -118,18 +115,13 @@ module _ {m : ℕ} {W₀ : List ℕ} {P : ℕ → ℕ → Bool} (l : length W₀
         (ap₂ (λ (x y : List ℕ). x ++ y) (e ∙ ap₂ set_of h.scratch q) rest)
         ∙ sym (append_assoc (wheel_sets m P w) (set_of m (P w)) (drop ((w + 1) * m) W₀))
         ∙ ap (λ (k : ℕ). wheel_sets m P k ++ drop ((w + 1) * m) W₀) (sym (add-one w)) in
-        record {
-          bound = omega arith;
-          scratch = a ∙ h.scratch;
-          long =
-              ap length whole ∙ length-append (wheel_sets m P (w + 1)) (drop ((w + 1) * m) W₀)
-              ∙ ap₂ ◌+◌ (sets-long m P (w + 1)) (length-drop ((w + 1) * m) W₀) ∙ omega (arith, part-ends w m l b, next w m, l);
-          wheels = whole;
-        }
+        let long =
+        ap length whole ∙ length-append (wheel_sets m P (w + 1)) (drop ((w + 1) * m) W₀)
+        ∙ ap₂ ◌+◌ (sets-long m P (w + 1)) (length-drop ((w + 1) * m) W₀) ∙ omega (arith, part-ends w m l b, next w m, l) in
+        record { scratch = a ∙ h.scratch; long = long; ends = λ d. part-ends (w + 1) m long d; wheels = whole }
 
-  pub four-sets : {W tested : List ℕ} {w : ℕ} → 4 ≤ w → Touched m W₀ P W tested w → W ≡ wheel_sets m P 4
-  four-sets {w = w} b h =
-      let four : w ≡ 4 = omega (arith, h.bound) in
+  pub four-sets : {W tested : List ℕ} {w : ℕ} → w ≡ 4 → Touched m W₀ P W tested w → W ≡ wheel_sets m P 4
+  four-sets four h =
       h.wheels ∙ ap (λ (k : ℕ). wheel_sets m P k ++ drop (k * m) W₀) four ∙ ap (λ (x : List ℕ). wheel_sets m P 4 ++ x) (drop_of_length-le W₀ (le_of_eq l)) ∙ append-nil (wheel_sets m P 4)
 
 -- ---- credit: what is entered, a part of it after the other
@@ -174,24 +166,22 @@ module _ (c₀ c : List ℕ) (E : ℕ → Bool) {new : ℕ} {first : Bool} (h : 
       (λ t _. sym (and-or_distrib_right (E t) (N t) (not (member c₀ t)))) in
       λ i. credits (all i) (count i) ((h i).zero || (k' i).zero)
 
--- the parts of wheel w end within the four wheels' words
-pub parts-end : {m n w : ℕ} {B W : List ℕ} → AllCreditable m n B W → w < 4 → (w * m + m ≤ length B) × (w * m + m ≤ length W)
-parts-end {m = m} {w = w} h b = (part-ends w m h.last b, part-ends w m h.long b)
-
 -- what the first w wheels enter
 abbrev by_wheels : List ℕ → List ℕ → List ℕ → ℕ → ℕ → Bool
 by_wheels c₀ B W w t = any_below w (λ v. enters (length c₀) B (in_sets (length c₀) W) v t)
 
 -- after w wheels
 pub record Credited (c₀ B W c : List ℕ) (new : ℕ) (first : Bool) (w : ℕ) : Type 0 where
-  pub bound : w ≤ 4
+  pub before-ends : w < 4 → w * length c₀ + length c₀ ≤ length B
+  pub now-ends : w < 4 → w * length c₀ + length c₀ ≤ length W
   pub credit : credits c new first ≡ credits_of c₀ (by_wheels c₀ B W w)
 
-pub no-credit : {c B W : List ℕ} → Fit c → Credited c B W c 0 false 0
+pub no-credit : {n : ℕ} {c B W : List ℕ} → AllCreditable (length c) n B W → Fit c → Credited c B W c 0 false 0
 unfolding credits_of any_below
-no-credit {c} f =
+no-credit {c = c} a f =
     record {
-      bound = omega arith;
+      before-ends = λ b. part-ends 0 (length c) a.last b;
+      now-ends = λ b. part-ends 0 (length c) a.long b;
       credit = λ i. credits (is-set_of (length c) c (λ t. member c t || false) refl f (λ t _. sym (or-false (member c t))) i) (sym (how_many-false (64 * length c)) i) false;
     }
 
@@ -216,7 +206,8 @@ module _ {c₀ B W c : List ℕ} {new : ℕ} {first : Bool} {w : ℕ} (h : Credi
       unfolding any_below enters
       one-credit =
           record {
-            bound = omega arith;
+            before-ends = λ d. part-ends (w + 1) m a.last d;
+            now-ends = λ d. part-ends (w + 1) m a.long d;
             credit =
                 more-credit c₀ c (by_wheels c₀ B W w) h.credit c' (λ t. enters m B (in_sets m W) w t)
                 (k ∙ ap₂ (λ (x y : List ℕ). credits_of c (λ t. member x t && not (member y t))) (sym (lent-part m w W)) (sym (lent-part m w B)))
@@ -226,9 +217,9 @@ module _ {c₀ B W c : List ℕ} {new : ℕ} {first : Bool} {w : ℕ} (h : Credi
       pub few-new : new + f < 2 ^ 32
       few-new = omega (arith, few-credits c₀ c' (by_wheels c₀ B W (w + 1)) one-credit.credit, (a.each w b).small)
 
-  pub four-credits : 4 ≤ w → credits c new first ≡ credits_of c₀ (entered_since m B W)
+  pub four-credits : w ≡ 4 → credits c new first ≡ credits_of c₀ (entered_since m B W)
   unfolding entered
-  four-credits b = let four : w ≡ 4 = omega (arith, h.bound) in h.credit ∙ ap (λ (k : ℕ). credits_of c₀ (by_wheels c₀ B W k)) four
+  four-credits four = h.credit ∙ ap (λ (k : ℕ). credits_of c₀ (by_wheels c₀ B W k)) four
 
 -- ---- the contact: touch, then credit
 module _ (m : ℕ) (W₀ : List ℕ) (P : ℕ → ℕ → Bool) (W : List ℕ) (e : W ≡ wheel_sets m P 4) where

@@ -8,6 +8,7 @@ use native.Mathlib.Numerals.{add-one}
 use native.Mathlib.Decide.{ℕ_discrete}
 use lib.ListN.{length, get_or, take}
 use lib.Seq.{take-suc}
+use Rattle.std.specs.List.{list_all}
 use lib.Dec.{eqb, ltb}
 use lib.Ieee.{Float}
 use borrow.Author.Tests.{eq-eqb, ne_eqb, ltb-true}
@@ -46,6 +47,12 @@ some-none p = refl
 pub every-none : (p : ℕ → Bool) → every_of p [] ≡ true
 unfolding every_of
 every-none p = refl
+
+-- as the library tests them
+pub every-by_all : (p : ℕ → Bool) (xs : List ℕ) → list_all p xs ≡ every_of p xs
+unfolding every_of
+every-by_all p [] = refl
+every-by_all p (x ∷ xs) = ap (λ (b : Bool). p x && b) (every-by_all p xs)
 
 pub every-at : (p : ℕ → Bool) (xs : List ℕ) (i : ℕ) → every_of p xs ≡ true → i < length xs → p (get_or xs i 0) ≡ true
 unfolding every_of

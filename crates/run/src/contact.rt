@@ -8,7 +8,8 @@ ghost use Rattle.run.specs.Grader.Touch.{touched_by, sound_poses};
 ghost use Rattle.run.specs.Grader.Contact.{wheel_sets, contacted, contact_of};
 ghost use Rattle.run.specs.Grader.Widths.{full_words, most_tiles};
 
-use crate::state::Pose;
+use crate::quad::Stance;
+use crate::touch::Columns;
 use crate::widths::{FULL_WORDS, WHEEL_WORDS};
 use crate::{quad, touch, words};
 
@@ -19,39 +20,25 @@ pub(crate) struct Contact {
     pub zero: bool,
 }
 
-// The sets of the four wheels become what each touches now; `tested` is scratch.
-fn touch_sets(
-    poses: [Pose; 4],
-    cells: &[usize],
-    tiles: &[f64],
-    offsets: &[u32],
-    list: &[u32],
-    n: usize,
-    tested: &mut [u64],
-    wheels: &mut [u64],
-)
-    requires room { Room 4 n tiles.now tested.old wheels.old }
-    requires looked { Looked offsets.now list.now n (sixteen_cells poses) cells.now }
+// The sets of the four wheels become what each touches now, every one made anew; `tested` is scratch.
+fn touch_sets(stance: &Stance, columns: Columns, n: usize, tested: &mut [u64], wheels: &mut [u64])
+    requires room { Room 4 n columns.tiles.now tested.old wheels.old }
+    requires looked { Looked columns.offsets.now columns.list.now n (sixteen_cells stance.now.poses) stance.now.cells }
     ensures { wheels.new
         ≡ wheel_sets (length tested.old)
-        (λ w. touched_by tiles.now offsets.now list.now (quad_of poses w)) 4 }
+        (λ w. touched_by columns.entry.tiles.now columns.entry.offsets.now columns.entry.list.now (quad_of stance.now.poses w)) 4 }
 {
     let m = tested.len();
-    let mut w: usize = 0; // every wheel's set is made anew
-    while w < 4 {
-        let from = w * m;
-        let q = quad::wheel_quad(poses[w]);
+    for wheel in 0..4 {
+        let from = wheel * m;
         touch::touch_quad(
-            q,
-            &cells[w * 4..w * 4 + 4],
-            tiles,
-            offsets,
-            list,
+            quad::wheel_quad(stance.poses[wheel]),
+            &stance.cells[wheel * 4..wheel * 4 + 4],
+            columns,
             n,
             tested,
             &mut wheels[from..from + m],
         );
-        w += 1;
     }
 }
 
@@ -77,40 +64,34 @@ fn credit_sets(credited: &mut [u64], before: &[u64], wheels: &[u64], n: usize) -
     let m = credited.len();
     let mut fresh: u32 = 0;
     let mut zero = false;
-    let mut w: usize = 0;
-    while w < 4 {
+    for w in 0..4 {
         let from = w * m;
         let to = from + m;
         let k = credit_set(credited, &before[from..to], &wheels[from..to], n);
         fresh += k.fresh;
         zero = zero | k.zero;
-        w += 1;
     }
     Contact { fresh, zero }
 }
 
 // The contact of four wheels on the full state's sets, by the cells of the wheels' boxes.
 pub(crate) fn full_contact(
-    poses: [Pose; 4],
-    cells: &[usize],
-    tiles: &[f64],
-    offsets: &[u32],
-    list: &[u32],
+    stance: &Stance,
+    columns: Columns,
     n: usize,
     credited: &mut [u64; FULL_WORDS],
     wheels: &mut [u64; WHEEL_WORDS],
 ) -> Contact
-    requires cells_value { cells.now ≡ sixteen_cells poses }
-    requires n_nonzero { (0 < n)
+    requires { (0 < n)
         × (n ≤ most_tiles)
-        × (n * 8 ≤ length tiles.now)
-        × (sound_poses offsets.now list.now n poses ≡ true) }
+        × (n * 8 ≤ length columns.tiles.now)
+        × (sound_poses columns.offsets.now columns.list.now n stance.now.poses ≡ true) }
     ensures { contacted credited.new wheels.new result.fresh result.zero
         ≡ contact_of full_words credited.old wheels.old
-        (λ w. touched_by tiles.now offsets.now list.now (quad_of poses w)) }
+        (λ w. touched_by columns.entry.tiles.now columns.entry.offsets.now columns.entry.list.now (quad_of stance.now.poses w)) }
 {
     let mut tested = [0u64; FULL_WORDS];
     let before = *wheels;
-    touch_sets(poses, cells, tiles, offsets, list, n, &mut tested, wheels);
+    touch_sets(stance, columns, n, &mut tested, wheels);
     credit_sets(credited, &before, wheels, n)
 }

@@ -159,21 +159,34 @@ pub fn box_cells(q: [[f64; 2]; 4]) -> [usize; 4]
     [r0 + c0, r0 + c1, r1 + c0, r1 + c1]
 }
 
-// The cells of four wheels' boxes, four to a wheel. Made before any of them is looked up: the wheels do
-// not wait for each other.
-pub(crate) fn wheel_cells(poses: [Pose; 4]) -> [usize; 16]
+// The cells of four wheels' boxes, four to a wheel.
+fn wheel_cells(poses: [Pose; 4]) -> [usize; 16]
     ensures { result ≡ sixteen_cells poses }
 {
     let mut cells = [0usize; 16];
-    let mut w: usize = 0;
-    while w < 4 {
-        let c = box_cells(wheel_quad(poses[w]));
-        let at = 4 * w;
-        cells[at] = c[0];
-        cells[at + 1] = c[1];
-        cells[at + 2] = c[2];
-        cells[at + 3] = c[3];
-        w += 1;
+    for w in 0..4 {
+        cells[4 * w..4 * w + 4].copy_from_slice(&box_cells(wheel_quad(poses[w])));
     }
     cells
+}
+
+// The poses of four wheels, and the cells of the wheels' boxes. These are made before any of them is looked up: the wheels do not wait for
+// each other.
+#[derive(Clone, Copy)]
+pub(crate) struct Stance {
+    pub poses: [Pose; 4],
+    pub cells: [usize; 16],
+    ghost own_cells: { cells ≡ sixteen_cells poses },
+}
+
+impl Stance {
+    // The wheels stand at these poses.
+    pub(crate) fn at(poses: [Pose; 4]) -> Stance
+        ensures { result.poses ≡ poses }
+    {
+        Stance {
+            poses,
+            cells: wheel_cells(poses),
+        }
+    }
 }

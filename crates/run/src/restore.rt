@@ -8,12 +8,13 @@ ghost use Rattle.run.specs.Grader.Saved.Loaded.{kept};
 ghost use Rattle.run.specs.Grader.Restore.{run_from, restore_cause, after_restore, restore_of, saved_course_of};
 ghost use Rattle.run.specs.Steps.Load.{fields_as};
 ghost use Rattle.run.specs.declared.restore.RestoreAnswer.TheVariants.{Refused as NotRestored};
-ghost use Rattle.run.specs.Steps.Touch.{sixteen_cells};
 
 use crate::load::Fields;
+use crate::quad::Stance;
 use crate::state::{Progress, Run, Setup};
+use crate::touch::Columns;
 use crate::widths::{FULL_WORDS, WHEEL_WORDS};
-use crate::{contact, load, numbers, quad, start, state, touch, words};
+use crate::{contact, load, numbers, start, state, words};
 
 // How a restore is answered, or the number of the cause that refuses it.
 #[derive(Clone, Copy)]
@@ -50,9 +51,9 @@ fn restore_cause(
     offsets: &[u32],
     list: &[u32],
     n: u32,
-    cells: &[usize],
+    stance: &Stance,
 ) -> u32
-    requires { cells.now ≡ sixteen_cells (poses_at f.poses 0) }
+    requires { stance.now.poses ≡ poses_at f.poses 0 }
     ensures { result
         ≡ restore_cause (columns tiles.now offsets.now list.now) n (kept (fields_as f)) }
 {
@@ -62,7 +63,12 @@ fn restore_cause(
     if state::is_short(n, tiles.len(), offsets.len()) {
         return 2;
     }
-    if !touch::cells_sound(offsets, list, n as usize, cells) {
+    let columns = Columns {
+        tiles,
+        offsets,
+        list,
+    };
+    if !columns.cells_sound(n as usize, &stance.cells) {
         return 10;
     }
     0
@@ -125,23 +131,19 @@ pub fn restore(bytes: &[u8], tiles: &[f64], offsets: &[u32], list: &[u32], n: u3
     let f = l.fields;
     let last = f.poses;
     let poses = numbers::poses_from(&last);
-    let cells = quad::wheel_cells(poses);
-    let k = restore_cause(f, tiles, offsets, list, n, &cells);
+    let stance = Stance::at(poses);
+    let k = restore_cause(f, tiles, offsets, list, n, &stance);
     if k != 0 {
         return refused(k);
     }
     let mut scratch = [0u64; FULL_WORDS];
     let mut wheels = [0u64; WHEEL_WORDS];
-    contact::full_contact(
-        poses,
-        &cells,
+    let columns = Columns {
         tiles,
         offsets,
         list,
-        n as usize,
-        &mut scratch,
-        &mut wheels,
-    );
+    };
+    contact::full_contact(&stance, columns, n as usize, &mut scratch, &mut wheels);
     let credited = f.credited;
     let run = run_of(f, credited, wheels);
     Restoration {

@@ -3,12 +3,13 @@ ghost use Rattle.std.specs.Prelude.{◌≡◌, ◌+◌, ◌<◌};
 ghost use Rattle.run.specs.Grader.Widths.{full_words, most_tiles};
 ghost use Rattle.run.specs.Grader.State.{view, columns};
 ghost use Rattle.run.specs.Grader.Settle.{settle_cause, settled_progress, settled_parts, settle_parts_of, settled_poses, settle_poses_of, poses_after, after_settle, settle_of};
-ghost use Rattle.run.specs.Steps.Touch.{sixteen_cells};
 
 use crate::numbers::POSE_NUMBERS;
+use crate::quad::Stance;
 use crate::state::{Pose, Progress, Run, Setup};
+use crate::touch::Columns;
 use crate::widths::{FULL_WORDS, MOST_TILES, WHEEL_WORDS};
-use crate::{contact, lap, numbers, quad, state, touch};
+use crate::{contact, lap, numbers, state};
 
 // New tiles, the course's tile count, whether the hull is off the playfield, a lap is complete, and the run has ended.
 #[derive(Clone, Copy)]
@@ -51,13 +52,11 @@ fn settle_cause(
     list: &[u32],
     x: f64,
     y: f64,
-    poses: [Pose; 4],
-    cells: &[usize],
+    stance: &Stance,
 ) -> u32
-    requires { cells.now ≡ sixteen_cells poses }
     ensures { result
         ≡ settle_cause most setup progress (columns tiles.now offsets.now list.now) x
-        y poses }
+        y stance.now.poses }
 {
     if state::is_unfit(most, setup, progress) | progress.ended {
         return 4;
@@ -71,10 +70,15 @@ fn settle_cause(
     if state::is_short(setup.n, tiles.len(), offsets.len()) {
         return 2;
     }
-    if !((state::in_range(x) & state::in_range(y)) & state::poses_ok(poses)) {
+    if !((state::in_range(x) & state::in_range(y)) & state::poses_ok(stance.poses)) {
         return 8;
     }
-    if !touch::cells_sound(offsets, list, setup.n as usize, cells) {
+    let columns = Columns {
+        tiles,
+        offsets,
+        list,
+    };
+    if !columns.cells_sound(setup.n as usize, &stance.cells) {
         return 10;
     }
     0
@@ -113,9 +117,9 @@ fn settle_sets(
         ≡ settle_parts_of full_words most_tiles setup progress credited.old wheels.old
         (columns tiles.now offsets.now list.now) x y poses }
 {
-    let cells = quad::wheel_cells(poses);
+    let stance = Stance::at(poses);
     let k = settle_cause(
-        MOST_TILES, setup, progress, tiles, offsets, list, x, y, poses, &cells,
+        MOST_TILES, setup, progress, tiles, offsets, list, x, y, &stance,
     );
     if k != 0 {
         return Settling {
@@ -123,16 +127,12 @@ fn settle_sets(
             progress,
         };
     }
-    let c = contact::full_contact(
-        poses,
-        &cells,
+    let columns = Columns {
         tiles,
         offsets,
         list,
-        setup.n as usize,
-        credited,
-        wheels,
-    );
+    };
+    let c = contact::full_contact(&stance, columns, setup.n as usize, credited, wheels);
     let off = lap::is_off(x, y);
     let next = settled_progress(setup, progress, c.fresh, c.zero, off);
     let values = SettleValues {

@@ -5,12 +5,13 @@ ghost use Rattle.run.specs.Grader.State.{view, columns};
 ghost use Rattle.run.specs.Grader.Start.{start_cause, first_progress, zero_state, begun, start_of};
 ghost use Rattle.run.specs.Rules.Pass.{still_car};
 ghost use Rattle.run.specs.Rules.Arguments.{settings_ok};
-ghost use Rattle.run.specs.Steps.Touch.{sixteen_cells};
 
 use crate::numbers::POSE_NUMBERS;
+use crate::quad::Stance;
 use crate::state::{Car, Pose, Progress, Run, Setup, WheelCtl};
+use crate::touch::Columns;
 use crate::widths::{FULL_WORDS, MOST_TILES, WHEEL_WORDS};
-use crate::{contact, lap, numbers, quad, state, touch};
+use crate::{contact, lap, numbers, state};
 
 // How many tiles are credited at the start, and the lap.
 #[derive(Clone, Copy)]
@@ -51,13 +52,11 @@ fn start_cause(
     seed: u64,
     share: f64,
     limit: u32,
-    poses: [Pose; 4],
-    cells: &[usize],
+    stance: &Stance,
 ) -> u32
-    requires { cells.now ≡ sixteen_cells poses }
     ensures { result
         ≡ start_cause most (columns tiles.now offsets.now list.now)
-        (record { n = n; fallback = fallback; seed = seed; share = share; limit = limit; poses = poses }) }
+        (record { n = n; fallback = fallback; seed = seed; share = share; limit = limit; poses = stance.now.poses }) }
 {
     if !settings_ok(share, limit) {
         return 1;
@@ -65,10 +64,15 @@ fn start_cause(
     if state::is_short(n, tiles.len(), offsets.len()) | ((n < 1) | (most < n)) {
         return 2;
     }
-    if !state::poses_ok(poses) {
+    if !state::poses_ok(stance.poses) {
         return 8;
     }
-    if !touch::cells_sound(offsets, list, n as usize, cells) {
+    let columns = Columns {
+        tiles,
+        offsets,
+        list,
+    };
+    if !columns.cells_sound(n as usize, &stance.cells) {
         return 10;
     }
     0
@@ -146,9 +150,9 @@ pub fn start(
         ≡ start_of full_words most_tiles (columns tiles.now offsets.now list.now)
         (record { n = n; fallback = fallback; seed = seed; share = share; limit = limit; poses = poses }) }
 {
-    let cells = quad::wheel_cells(poses);
+    let stance = Stance::at(poses);
     let k = start_cause(
-        MOST_TILES, tiles, offsets, list, n, fallback, seed, share, limit, poses, &cells,
+        MOST_TILES, tiles, offsets, list, n, fallback, seed, share, limit, &stance,
     );
     if k != 0 {
         let run = zero_run();
@@ -159,16 +163,12 @@ pub fn start(
     }
     let mut credited = [0u64; FULL_WORDS];
     let mut wheels = [0u64; WHEEL_WORDS];
-    let c = contact::full_contact(
-        poses,
-        &cells,
+    let columns = Columns {
         tiles,
         offsets,
         list,
-        n as usize,
-        &mut credited,
-        &mut wheels,
-    );
+    };
+    let c = contact::full_contact(&stance, columns, n as usize, &mut credited, &mut wheels);
     let lap = lap::update_lap(false, c.zero, c.fresh, n, share);
     let setup = Setup {
         n,

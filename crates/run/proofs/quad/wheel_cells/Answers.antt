@@ -7,11 +7,11 @@ use Rattle.run.proofs.quad.wheel_cells.Goals as goal
 
 pub loop-w-init : goal.loop-w-init
 unfolding filled
-loop-w-init c = (omega arith, refl)
+loop-w-init c = refl
 
 pub loop-w-preserved : goal.loop-w-preserved
 unfolding quad_of
-loop-w-preserved c = (omega arith, fill_more _ c.loop-w.w _ _ c.loop-w.invariant.1 (c.box_cells-c.ensures ∙ ap box_cells c.wheel_quad.ensures))
+loop-w-preserved c = fill_more _ c.loop-w.w _ _ c.loop-w.invariant (c.copy_from_slice.ensures.after ∙ c.box_cells.ensures ∙ ap box_cells c.wheel_quad.ensures)
 
 pub returns : goal.returns
-returns c = c.loop-w.invariant.1 ∙ all-filled _ c.loop-w.w c.loop-w.invariant.0 c.loop-w-test.false
+returns c = c.loop-w.invariant ∙ all-filled _ c.loop-w.w (omega arith) c.loop-w-test.false

@@ -7,7 +7,6 @@ use Rattle.run.specs.Steps.Load.{fields_as}
 use Rattle.run.specs.Grader.Widths.{most_tiles, full_words}
 use Rattle.run.proofs.LoadLaws.{not-loaded, is-loaded, kept-sound}
 use Rattle.run.proofs.RestoreLaws.{restore-facts, run-restored, restore-none, restore-refused, restore-accepted}
-use Rattle.run.specs.Steps.Touch.{sixteen_cells}
 use Rattle.run.specs.Grader.Contact.{Contacted}
 use Rattle.run.specs.Grader.Start.{first_contact}
 use Rattle.run.specs.Grader.Touch.{sound_poses}
@@ -24,7 +23,7 @@ returns-then-not-l c =
     c.refused.ensures
 
 pub restore_cause-k-requires : goal.restore_cause-k-requires
-restore_cause-k-requires c = c.wheel_cells-cells.ensures ∙ ap sixteen_cells c.poses_from-poses.ensures
+restore_cause-k-requires c = c.at-stance.ensures ∙ c.poses_from-poses.ensures
 
 pub returns-then-k-ne0 : goal.returns-then-k-ne0
 returns-then-k-ne0 c =
@@ -47,8 +46,8 @@ full_contact-requires c =
     let z : c.restore_cause-k.result ≡ 0 = omega (arith, c.if-k-ne0.false) in
     let kept-is = kept-sound full_words most_tiles a.bytes.now f (sym loaded_at) in
     let h = restore-facts most_tiles (let a = c.args in columns a.tiles.now a.offsets.now a.list.now) a.n f (lit≤ tt) kept-is (sym c.restore_cause-k.ensures ∙ z) in
-    let sound = ap (sound_poses a.offsets.now a.list.now a.n) c.poses_from-poses.ensures ∙ h.sound in
-    record { cells_value = c.wheel_cells-cells.ensures; n_nonzero = (h.some, h.few, h.tiles, sound) }
+    let sound = ap (sound_poses a.offsets.now a.list.now a.n) (c.at-stance.ensures ∙ c.poses_from-poses.ensures) ∙ h.sound in
+    (h.some, h.few, h.tiles, sound)
 
 pub returns : goal.returns
 unfolding first_contact
@@ -60,6 +59,6 @@ returns c =
     let f = fields_as c.load-l.result.fields in
     let z : c.restore_cause-k.result ≡ 0 = omega (arith, c.if-k-ne0.false) in
     let a = c.args in
-    let touched = ap (λ (x : Contacted). x.wheels) (c.full_contact.ensures ∙ ap (first_contact full_words (let a = c.args in columns a.tiles.now a.offsets.now a.list.now)) c.poses_from-poses.ensures) in
+    let touched = ap (λ (x : Contacted). x.wheels) (c.full_contact.ensures ∙ ap (first_contact full_words (let a = c.args in columns a.tiles.now a.offsets.now a.list.now)) (c.at-stance.ensures ∙ c.poses_from-poses.ensures)) in
     let made = run-restored full_words (let a = c.args in columns a.tiles.now a.offsets.now a.list.now) f (view c.run_of-run.result) _ _ c.run_of-run.ensures refl touched in
     restore-accepted full_words most_tiles a.bytes.now (let a = c.args in columns a.tiles.now a.offsets.now a.list.now) a.n (view c.run_of-run.result) f c.restore_cause-k.result loaded_at c.restore_cause-k.ensures z made

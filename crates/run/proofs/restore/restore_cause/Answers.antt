@@ -9,7 +9,8 @@ use borrow.Author.Tests.{eq-eqb, ne_eqb}
 use lib.Dec.{eqb}
 use mathlib.Core.Bool.{cond, not, false}
 use native.Mathlib.Omega.{arith}
-use mathlib.Core.Path.{◌≡◌, sym, ◌∙◌}
+use mathlib.Core.Path.{◌≡◌, sym, ap, ◌∙◌}
+use Rattle.run.specs.Steps.Touch.{sixteen_cells}
 use Rattle.run.proofs.restore.restore_cause.Goals as goal
 
 pub returns-then-n-f : goal.returns-then-n-f
@@ -37,7 +38,7 @@ returns-then-not-cells_sound c =
       eq-eqb a.n a.f.n same,
       ← c.is_short.ensures,
       c.if-is_short.false,
-      ← cells-sound-is a.offsets.now a.list.now a.n (poses_at a.f.poses 0) c.requires c.cells_sound.ensures,
+      ← cells-sound-is a.offsets.now a.list.now a.n (poses_at a.f.poses 0) (a.stance.now.own_cells ∙ ap sixteen_cells c.requires) c.cells_sound.ensures,
     )
     in
     sym (cells_left ∙ simp c.if-not-cells_sound.true)
@@ -52,7 +53,7 @@ returns c =
       eq-eqb a.n a.f.n same,
       ← c.is_short.ensures,
       c.if-is_short.false,
-      ← cells-sound-is a.offsets.now a.list.now a.n (poses_at a.f.poses 0) c.requires c.cells_sound.ensures,
+      ← cells-sound-is a.offsets.now a.list.now a.n (poses_at a.f.poses 0) (a.stance.now.own_cells ∙ ap sixteen_cells c.requires) c.cells_sound.ensures,
     )
     in
     sym (cells_left ∙ simp c.if-not-cells_sound.false)

@@ -28,7 +28,7 @@ returns-then-is_short c = simp (← c.is_unfit.ensures, c.if-is_unfit-progress.f
 pub returns-then-not-in_range-poses_ok : goal.returns-then-not-in_range-poses_ok
 unfolding places_ok settle_cause short_of
 returns-then-not-in_range-poses_ok c =
-    let past-columns : let a = c.args in (let a = c.args in settle_cause a.most a.setup a.progress (columns a.tiles.now a.offsets.now a.list.now) a.x a.y a.poses) ≡ cond (not (places_ok a.x a.y a.poses)) 8 (cond (not (sound_poses a.offsets.now a.list.now a.setup.n a.poses)) 10 0) =
+    let past-columns : let a = c.args in (let a = c.args in settle_cause a.most a.setup a.progress (columns a.tiles.now a.offsets.now a.list.now) a.x a.y a.stance.now.poses) ≡ cond (not (places_ok a.x a.y a.stance.now.poses)) 8 (cond (not (sound_poses a.offsets.now a.list.now a.setup.n a.stance.now.poses)) 10 0) =
     simp (← c.is_unfit.ensures, c.if-is_unfit-progress.false, c.if-not-progress.false, lt-leb _ _ c.if-setup-progress.false, ← c.is_short.ensures, c.if-is_short.false)
     in
     sym (past-columns ∙ simp (← c.in_range.ensures, ← c.in_range-2.ensures, ← c.poses_ok.ensures, c.if-not-in_range-poses_ok.true))
@@ -36,10 +36,10 @@ returns-then-not-in_range-poses_ok c =
 pub returns-then-not-cells_sound : goal.returns-then-not-cells_sound
 unfolding places_ok settle_cause short_of
 returns-then-not-cells_sound c =
-    let past-columns : let a = c.args in (let a = c.args in settle_cause a.most a.setup a.progress (columns a.tiles.now a.offsets.now a.list.now) a.x a.y a.poses) ≡ cond (not (places_ok a.x a.y a.poses)) 8 (cond (not (sound_poses a.offsets.now a.list.now a.setup.n a.poses)) 10 0) =
+    let past-columns : let a = c.args in (let a = c.args in settle_cause a.most a.setup a.progress (columns a.tiles.now a.offsets.now a.list.now) a.x a.y a.stance.now.poses) ≡ cond (not (places_ok a.x a.y a.stance.now.poses)) 8 (cond (not (sound_poses a.offsets.now a.list.now a.setup.n a.stance.now.poses)) 10 0) =
     simp (← c.is_unfit.ensures, c.if-is_unfit-progress.false, c.if-not-progress.false, lt-leb _ _ c.if-setup-progress.false, ← c.is_short.ensures, c.if-is_short.false)
     in
-    let past-places : (let a = c.args in settle_cause a.most a.setup a.progress (columns a.tiles.now a.offsets.now a.list.now) a.x a.y a.poses) ≡ cond (not c.cells_sound.result) 10 0 =
+    let past-places : (let a = c.args in settle_cause a.most a.setup a.progress (columns a.tiles.now a.offsets.now a.list.now) a.x a.y a.stance.now.poses) ≡ cond (not c.cells_sound.result) 10 0 =
     let a = c.args in
     past-columns
     ∙ simp (
@@ -47,7 +47,7 @@ returns-then-not-cells_sound c =
       ← c.in_range-2.ensures,
       ← c.poses_ok.ensures,
       c.if-not-in_range-poses_ok.false,
-      ← cells-sound-is a.offsets.now a.list.now a.setup.n a.poses c.requires c.cells_sound.ensures,
+      ← cells-sound-is a.offsets.now a.list.now a.setup.n a.stance.now.poses a.stance.now.own_cells c.cells_sound.ensures,
     )
     in
     sym (past-places ∙ simp c.if-not-cells_sound.true)
@@ -55,10 +55,10 @@ returns-then-not-cells_sound c =
 pub returns : goal.returns
 unfolding places_ok settle_cause short_of
 returns c =
-    let past-columns : let a = c.args in (let a = c.args in settle_cause a.most a.setup a.progress (columns a.tiles.now a.offsets.now a.list.now) a.x a.y a.poses) ≡ cond (not (places_ok a.x a.y a.poses)) 8 (cond (not (sound_poses a.offsets.now a.list.now a.setup.n a.poses)) 10 0) =
+    let past-columns : let a = c.args in (let a = c.args in settle_cause a.most a.setup a.progress (columns a.tiles.now a.offsets.now a.list.now) a.x a.y a.stance.now.poses) ≡ cond (not (places_ok a.x a.y a.stance.now.poses)) 8 (cond (not (sound_poses a.offsets.now a.list.now a.setup.n a.stance.now.poses)) 10 0) =
     simp (← c.is_unfit.ensures, c.if-is_unfit-progress.false, c.if-not-progress.false, lt-leb _ _ c.if-setup-progress.false, ← c.is_short.ensures, c.if-is_short.false)
     in
-    let past-places : (let a = c.args in settle_cause a.most a.setup a.progress (columns a.tiles.now a.offsets.now a.list.now) a.x a.y a.poses) ≡ cond (not c.cells_sound.result) 10 0 =
+    let past-places : (let a = c.args in settle_cause a.most a.setup a.progress (columns a.tiles.now a.offsets.now a.list.now) a.x a.y a.stance.now.poses) ≡ cond (not c.cells_sound.result) 10 0 =
     let a = c.args in
     past-columns
     ∙ simp (
@@ -66,7 +66,7 @@ returns c =
       ← c.in_range-2.ensures,
       ← c.poses_ok.ensures,
       c.if-not-in_range-poses_ok.false,
-      ← cells-sound-is a.offsets.now a.list.now a.setup.n a.poses c.requires c.cells_sound.ensures,
+      ← cells-sound-is a.offsets.now a.list.now a.setup.n a.stance.now.poses a.stance.now.own_cells c.cells_sound.ensures,
     )
     in
     sym (past-places ∙ simp c.if-not-cells_sound.false)

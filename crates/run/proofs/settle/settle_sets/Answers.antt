@@ -8,29 +8,30 @@ use Rattle.run.proofs.CallLaws.{SettleFacts, settle-facts, settle-refused, settl
 use Rattle.run.proofs.settle.settle_sets.Goals as goal
 
 pub returns-then-k-ne0 : goal.returns-then-k-ne0
-returns-then-k-ne0 c = settle-refused full_words (record { cause = c.settle_cause-k.ensures }) c.if-k-ne0.true
+returns-then-k-ne0 c =
+    rw (sym c.at-stance.ensures) (settle-refused full_words (record { cause = c.settle_cause-k.ensures }) c.if-k-ne0.true)
 
 pub full_contact-c-requires : goal.full_contact-c-requires
 full_contact-c-requires c =
     let no-cause : c.settle_cause-k.result ≡ 0 =
     omega (arith, c.if-k-ne0.false)
     in
-    let facts : let a = c.args in SettleFacts most_tiles a.setup a.progress (columns a.tiles.now a.offsets.now a.list.now) a.poses =
+    let facts : let a = c.args in SettleFacts most_tiles a.setup a.progress (columns a.tiles.now a.offsets.now a.list.now) c.at-stance.result.poses =
     let a = c.args in
-    settle-facts most_tiles a.setup a.progress (columns a.tiles.now a.offsets.now a.list.now) a.x a.y a.poses
+    settle-facts most_tiles a.setup a.progress (columns a.tiles.now a.offsets.now a.list.now) a.x a.y c.at-stance.result.poses
     (lit≤ tt) (sym c.settle_cause-k.ensures ∙ no-cause)
     in
     let h = facts in
-    record { cells_value = c.wheel_cells-cells.ensures; n_nonzero = (h.some, h.few, h.tiles, h.sound) }
+    (h.some, h.few, h.tiles, h.sound)
 
 pub settled_progress-next-requires : goal.settled_progress-next-requires
 settled_progress-next-requires c =
     let no-cause : c.settle_cause-k.result ≡ 0 =
     omega (arith, c.if-k-ne0.false)
     in
-    let facts : let a = c.args in SettleFacts most_tiles a.setup a.progress (columns a.tiles.now a.offsets.now a.list.now) a.poses =
+    let facts : let a = c.args in SettleFacts most_tiles a.setup a.progress (columns a.tiles.now a.offsets.now a.list.now) c.at-stance.result.poses =
     let a = c.args in
-    settle-facts most_tiles a.setup a.progress (columns a.tiles.now a.offsets.now a.list.now) a.x a.y a.poses
+    settle-facts most_tiles a.setup a.progress (columns a.tiles.now a.offsets.now a.list.now) a.x a.y c.at-stance.result.poses
     (lit≤ tt) (sym c.settle_cause-k.ensures ∙ no-cause)
     in
     let h = facts in
@@ -41,11 +42,11 @@ returns c =
     let no-cause : c.settle_cause-k.result ≡ 0 =
     omega (arith, c.if-k-ne0.false)
     in
-    settle-accepted
+    rw (sym c.at-stance.ensures) (settle-accepted
     (record {
       cause = c.settle_cause-k.ensures;
       none = no-cause;
       contact = c.full_contact-c.ensures;
       off = c.is_off-off.ensures;
       progress = c.settled_progress-next.ensures;
-    })
+    }))

@@ -21,7 +21,7 @@ returns-then-not-poses_ok c = simp (← c.settings_ok.ensures, c.if-not-settings
 pub returns-then-not-cells_sound : goal.returns-then-not-cells_sound
 unfolding start_cause start_short short_of
 returns-then-not-cells_sound c =
-    let past-poses : (let a = c.args in start_cause a.most (columns a.tiles.now a.offsets.now a.list.now) (record { n = a.n; fallback = a.fallback; seed = a.seed; share = a.share; limit = a.limit; poses = a.poses })) ≡ cond (not c.cells_sound.result) 10 0 =
+    let past-poses : (let a = c.args in start_cause a.most (columns a.tiles.now a.offsets.now a.list.now) (record { n = a.n; fallback = a.fallback; seed = a.seed; share = a.share; limit = a.limit; poses = a.stance.now.poses })) ≡ cond (not c.cells_sound.result) 10 0 =
     let a = c.args in
     simp (
       ← c.settings_ok.ensures,
@@ -30,7 +30,7 @@ returns-then-not-cells_sound c =
       c.if-is_short-n.false,
       ← c.poses_ok.ensures,
       c.if-not-poses_ok.false,
-      ← cells-sound-is a.offsets.now a.list.now a.n a.poses c.requires c.cells_sound.ensures,
+      ← cells-sound-is a.offsets.now a.list.now a.n a.stance.now.poses a.stance.now.own_cells c.cells_sound.ensures,
     )
     in
     sym (past-poses ∙ simp c.if-not-cells_sound.true)
@@ -38,7 +38,7 @@ returns-then-not-cells_sound c =
 pub returns : goal.returns
 unfolding start_cause start_short short_of
 returns c =
-    let past-poses : (let a = c.args in start_cause a.most (columns a.tiles.now a.offsets.now a.list.now) (record { n = a.n; fallback = a.fallback; seed = a.seed; share = a.share; limit = a.limit; poses = a.poses })) ≡ cond (not c.cells_sound.result) 10 0 =
+    let past-poses : (let a = c.args in start_cause a.most (columns a.tiles.now a.offsets.now a.list.now) (record { n = a.n; fallback = a.fallback; seed = a.seed; share = a.share; limit = a.limit; poses = a.stance.now.poses })) ≡ cond (not c.cells_sound.result) 10 0 =
     let a = c.args in
     simp (
       ← c.settings_ok.ensures,
@@ -47,7 +47,7 @@ returns c =
       c.if-is_short-n.false,
       ← c.poses_ok.ensures,
       c.if-not-poses_ok.false,
-      ← cells-sound-is a.offsets.now a.list.now a.n a.poses c.requires c.cells_sound.ensures,
+      ← cells-sound-is a.offsets.now a.list.now a.n a.stance.now.poses a.stance.now.own_cells c.cells_sound.ensures,
     )
     in
     sym (past-poses ∙ simp c.if-not-cells_sound.false)

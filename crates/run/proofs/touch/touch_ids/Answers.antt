@@ -12,33 +12,29 @@ use mathlib.Core.Path.{refl, sym, ap, ◌∙◌}
 use native.Mathlib.Omega.{arith}
 use Rattle.run.proofs.touch.touch_ids.Goals as goal
 
-pub loop-i-init : goal.loop-i-init
-loop-i-init c =
+pub loop-id-init : goal.loop-id-init
+loop-id-init c =
     let ids : List ℕ = c.args.ids.now in
-    (omega arith, refl, refl, λ L h. tested-cong _ _ L (λ t. L t || lists (take 0 ids) t) _ _ (λ t b. sym (ap (λ (x : Bool). L t || x) (some-none (eqb t)) ∙ or-false (L t))) h)
-
-pub overflow_cast-id : goal.overflow_cast-id
-overflow_cast-id c = omega (arith, (c.shared_slice_known-in-loop-i-1.given c.loop-i.i).fits)
+    (refl, refl, λ L h. tested-cong _ _ L (λ t. L t || lists (take 0 ids) t) _ _ (λ t b. sym (ap (λ (x : Bool). L t || x) (some-none (eqb t)) ∙ or-false (L t))) h)
 
 pub touch_one-requires : goal.touch_one-requires
 touch_one-requires c =
-    let b : get_or c.args.ids.now c.loop-i.i 0 < c.args.n = ltb-true _ _ (every-at (λ t. ltb t c.args.n) c.args.ids.now c.loop-i.i c.requires.ids_value.0 c.loop-i-test.true) in
-    record { room = room_for _ _ _ c.requires.room (omega (arith, b)) c.loop-i.invariant.1 c.loop-i.invariant.2; side_value = c.requires.ids_value.1 }
+    let b : get_or c.args.ids.now c.loop-id.id-index 0 < c.args.n = ltb-true _ _ (every-at (λ t. ltb t c.args.n) c.args.ids.now c.loop-id.id-index c.requires.ids_value.0 c.loop-id-test.true) in
+    record { room = room_for _ _ _ c.requires.room (omega (arith, b)) c.loop-id.invariant.0 c.loop-id.invariant.1; side_value = c.requires.ids_value.1 }
 
-pub loop-i-preserved : goal.loop-i-preserved
-loop-i-preserved c =
-    let n = c.loop-i.invariant in
+pub loop-id-preserved : goal.loop-id-preserved
+loop-id-preserved c =
+    let n = c.loop-id.invariant in
     let t = c.touch_one in
     let ids : List ℕ = c.args.ids.now in
-    let i = c.loop-i.i in (
-      omega arith,
-      t.auto.tested ∙ n.1,
-      t.auto.touched ∙ n.2,
-      λ L h. touch-more _ _ L (lists (take i ids)) (λ u. eqb u (get_or ids i 0)) (lists (take (i + 1) ids)) _ _ _ _ n.1 t.ensures (n.3 L h) (λ u. sym (some-take (eqb u) ids i c.loop-i-test.true)),
+    let i = c.loop-id.id-index in (
+      t.auto.tested ∙ n.0,
+      t.auto.touched ∙ n.1,
+      λ L h. touch-more _ _ L (lists (take i ids)) (λ u. eqb u (get_or ids i 0)) (lists (take (i + 1) ids)) _ _ _ _ n.0 t.ensures (n.2 L h) (λ u. sym (some-take (eqb u) ids i c.loop-id-test.true)),
     )
 
 pub returns : goal.returns
 returns c =
     let ids : List ℕ = c.args.ids.now in
-    let full : length ids ≤ c.loop-i.i = c.loop-i-test.false in
-    λ L h. tested-cong _ _ (λ t. L t || lists (take c.loop-i.i ids) t) (λ t. L t || lists ids t) _ _ (λ t b. ap (λ (x : List ℕ). L t || lists x t) (take_all c.loop-i.i ids full)) (c.loop-i.invariant.3 L h)
+    let full : length ids ≤ c.loop-id.id-index = c.loop-id-test.false in
+    λ L h. tested-cong _ _ (λ t. L t || lists (take c.loop-id.id-index ids) t) (λ t. L t || lists ids t) _ _ (λ t b. ap (λ (x : List ℕ). L t || lists x t) (take_all c.loop-id.id-index ids full)) (c.loop-id.invariant.2 L h)

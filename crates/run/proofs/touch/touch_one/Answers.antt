@@ -18,7 +18,7 @@ returns-then-overlap_from c =
     λ L h.
     let e : length c.args.touched.now ≡ length c.args.tested.now = omega (arith, c.requires.room.sets) in
     tested-hit _ _ L _ _ _ (omega (arith, c.requires.room.words)) h _ _
-    (sym (c.overlap_from.ensures ∙ ap (overlap_of _) c.tile_at-tile.ensures) ∙ c.if-overlap_from.true)
+    (sym (c.overlap_from.ensures ∙ ap (overlap_of _) c.tile.ensures) ∙ c.if-overlap_from.true)
     c.put.ensures
     (c.put-then-overlap_from.ensures ∙ ap (λ (m : ℕ). set_of m (λ t. member c.args.touched.now t || eqb t c.args.id)) e)
 
@@ -26,5 +26,5 @@ pub returns-else-overlap_from : goal.returns-else-overlap_from
 returns-else-overlap_from c =
     λ L h.
     tested-miss _ _ L _ _ _ (omega (arith, c.requires.room.words)) h _
-    (sym (c.overlap_from.ensures ∙ ap (overlap_of _) c.tile_at-tile.ensures) ∙ c.if-overlap_from.false)
+    (sym (c.overlap_from.ensures ∙ ap (overlap_of _) c.tile.ensures) ∙ c.if-overlap_from.false)
     c.put.ensures

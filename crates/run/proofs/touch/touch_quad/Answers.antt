@@ -14,14 +14,14 @@ loop-i-init c =
 pub touch_ids-requires : goal.touch_ids-requires
 touch_ids-requires c =
     let h = c.loop-i.invariant in
-    record { room = room_for _ _ _ c.requires.room (omega arith) (h.tested-long ∙ c.clear.auto.set) (h.touched-long ∙ c.clear-2.auto.set); ids_value = (sound-ids c.requires.looked c.loop-i-test.true c.cell_tiles.ensures, c.first_side-side.ensures) }
+    record { room = room_for _ _ _ c.requires.room (omega arith) (h.tested-long ∙ c.clear.auto.set) (h.touched-long ∙ c.clear-2.auto.set); ids_value = (sound-ids c.requires.looked c.loop-i-test.true c.cell_tiles-ids.ensures, c.first_side-side.ensures) }
 
 pub loop-i-preserved : goal.loop-i-preserved
 loop-i-preserved c =
     let h = c.loop-i.invariant in
     let b = c.loop-i-test.true in
     elim c.if-not-is_again.branch [
-      | then-not-is_again w ↦ cells_are (one_cell h b w.cell_tiles.ensures w.touch_ids.auto.tested w.touch_ids.auto.touched w.touch_ids.ensures) w.tested-is w.touched-is
+      | then-not-is_again w ↦ cells_are (one_cell h b w.cell_tiles-ids.ensures w.touch_ids.auto.tested w.touch_ids.auto.touched w.touch_ids.ensures) w.tested-is w.touched-is
       | else-not-is_again w ↦ cells_are (same-cell h b (sym c.is_again.ensures ∙ w.if-not-is_again.false)) w.tested-is w.touched-is
     ]
 

@@ -2,7 +2,7 @@
 use Rattle.run.proofs.WordLaws.{how_many-none}
 use Rattle.run.proofs.CreditLaws.{within, New, one_more, none_more, credited-is, rest-credited, all-credited, all-counted, few, ones-few, new-lt}
 use lib.ListN.{length, get_or}
-use Prim.Native.Nat.{ℕ, ◌+◌, ◌*◌, ◌/◌, ◌^◌, ◌≤◌, ◌<◌}
+use Prim.Native.Nat.{ℕ, ◌*◌, ◌^◌, ◌≤◌, ◌<◌}
 use mathlib.Core.Path.{refl, sym}
 use native.Mathlib.Omega.{arith}
 use Rattle.run.proofs.words.credit.Goals as goal
