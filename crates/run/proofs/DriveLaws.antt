@@ -1,13 +1,16 @@
 -- The tyre pass from its steps, and what a drive answers, by its cause: a refused one leaves all as it was. For any number of words. Assumes nothing.
 use Rattle.std.specs.Prelude.{Result, Ok, Err}
-use mathlib.Core.Path.{◌≡◌, ap, ◌∙◌}
-use mathlib.Core.Bool.{Bool}
+use mathlib.Core.Path.{◌≡◌, refl, ap, ◌∙◌}
+use mathlib.Core.Bool.{Bool, cond, not, ◌||◌}
 use mathlib.Core.List.{List}
 use Prim.Native.Nat.{ℕ}
+use lib.Dec.{ltb, leb}
 use lib.Ieee.{Float}
-use Rattle.run.specs.Rules.Arguments.{motion_at}
+use Rattle.course.specs.Grader.Cause.{number_of, cause_number}
+use Rattle.run.specs.Rules.Arguments.{motion_at, motions_ok}
 use Rattle.run.specs.Rules.Dynamics.{TyreForce, PassedWheel, turning_of, limit_of, held_of, push_of, finish_of, tyre_of}
-use Rattle.run.specs.Grader.State.{State, state_of, awaiting}
+use Rattle.run.specs.Grader.State.{State, state_of, awaiting, unfit}
+use Rattle.run.proofs.RefusalLaws.{first-number, none-number}
 use Rattle.run.specs.Grader.Grip.{roads_of}
 use Rattle.run.specs.Rules.Pass.{front_of, rear_of, ctl_at, road_at, Passed, tyres_passed, gathered_of, pass_of}
 use Rattle.run.specs.Grader.Drive.{drive_check, DroveParts, drove_parts, drive_at, drive_parts_of, driven, drive_of}
@@ -58,6 +61,23 @@ module _ (m most : ℕ) (u : Setup) (p : Progress) (car : Car) (wheels : List �
   drive-accepted after fs e h =
       ap (λ (d : Passed). drove_parts (Ok d.forces) (awaiting p) d.car) h
       ∙ ap (λ (x : Result Unit Cause). drive_at x p car (pass_of car action ms (roads_of m wheels))) e
+
+  -- the number of its cause
+  pub drive-cause-number : cause_number (drive_check most u p action ms)
+      ≡ cond (unfit most u p || p.ended) 4 (cond p.driven 5 (cond (leb u.tick_limit p.tick) 6 (cond (ltb 4 action) 7 (cond (not (motions_ok ms)) 8 0))))
+  unfolding drive_check number_of
+  drive-cause-number = simp (first-number, none-number)
+
+  kept-at : (x : Result Unit Cause) (d : Passed) (c : Cause) → (drive_at x p car d).answer ≡ Err c → ((drive_at x p car d).progress ≡ p) × ((drive_at x p car d).car ≡ car)
+  unfolding drive_at
+  kept-at (Ok none) d c e = absurd (cc)
+  kept-at (Err b) d c e = (refl, refl)
+
+  -- a refused drive
+  pub refused-keeps : (c : Cause) → (drive_parts_of m most u p car wheels action ms).answer ≡ Err c
+      → ((drive_parts_of m most u p car wheels action ms).progress ≡ p) × ((drive_parts_of m most u p car wheels action ms).car ≡ car)
+  unfolding drive_parts_of
+  refused-keeps c e = kept-at _ _ c e
 
 -- ---- the call on a whole state, put together around the parts that it leaves
 pub drove-from : (m most : ℕ) (s : State) (action : ℕ) (ms : List Motion) {r : Result (List Force) Cause} {p : Progress} {car : Car}
