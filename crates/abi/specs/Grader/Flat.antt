@@ -1,5 +1,5 @@
 -- Each answer as the numbers that cross the C boundary: those that the crates below define for each case. Assumes nothing.
-use Rattle.std.specs.Prelude.{List, [], ◌∷◌, ℕ, get_or, Float}
+use Rattle.std.specs.Prelude.{List, [], ◌∷◌, ℕ, get_or, Float, Result}
 use Rattle.std.specs.Float.{nan}
 use Rattle.rng.specs.declared.Draw.{Draw as Drawn}
 use Rattle.course.specs.Grader.Outcome.{CourseColumns, laid_cause_of, laid_values_of}
@@ -9,9 +9,10 @@ use Rattle.course.specs.declared.checkpoints.Checkpoint.{Checkpoint}
 use Rattle.course.specs.declared.points.Laid.{Laid}
 use Rattle.course.specs.declared.curbs.CurbAnswer.{CurbAnswer}
 use Rattle.course.specs.declared.trig.Angle.{Angle}
+use Rattle.course.specs.Grader.Cause.{cause_number}
+use Rattle.course.specs.declared.cause.Cause.{Cause}
 use Rattle.run.specs.Grader.State.{State}
 use Rattle.run.specs.Grader.Start.{Begun, start_cause_of, start_values_of}
-use Rattle.run.specs.Grader.Drive.{drive_cause_of}
 use Rattle.run.specs.Grader.Settle.{settle_cause_of, settle_values_of}
 use Rattle.run.specs.Grader.Sheet.{sheet_cause_of, sheet_figures_of}
 use Rattle.run.specs.Grader.Save.{AfterSave, save_cause_of, save_length_of}
@@ -20,7 +21,7 @@ use Rattle.certificate.specs.Grader.Replay.{Replay}
 use Rattle.run.specs.declared.state.Run.{Run}
 use Rattle.run.specs.declared.start.StartAnswer.{StartAnswer}
 use Rattle.run.specs.declared.state.Progress.{Progress}
-use Rattle.run.specs.declared.drive.DriveAnswer.{DriveAnswer}
+use Rattle.run.specs.declared.dynamics.Force.{Force}
 use Rattle.run.specs.declared.settle.SettleAnswer.{SettleAnswer}
 use Rattle.run.specs.declared.sheet.SheetAnswer.{SheetAnswer}
 use Rattle.run.specs.declared.save.SaveAnswer.{SaveAnswer}
@@ -118,8 +119,8 @@ flat_started b =
       run = run_of b.state;
     }
 
-unfoldable pub flat_driven : DriveAnswer → Progress → FlatDriven
-flat_driven a p = record { cause = drive_cause_of a; progress = p }
+unfoldable pub flat_driven : Result (List Force) Cause → Progress → FlatDriven
+flat_driven r p = record { cause = cause_number r; progress = p }
 
 unfoldable pub flat_settled : SettleAnswer → Progress → FlatSettled
 flat_settled a p =
