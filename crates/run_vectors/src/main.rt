@@ -18,7 +18,7 @@ mod hash;
 mod read;
 mod saves;
 
-use run::drive::{DriveAnswer, Drove};
+use course::cause::Cause;
 use run::dynamics::Force;
 use run::reward::Weights;
 use run::settle::SettleAnswer;
@@ -211,29 +211,32 @@ fn line_force<W: Write>(out: &mut W, f: Force) -> io::Result<()> {
     vectors::line_float(out, f.fy)
 }
 
-// The forces; where the call is refused the number, and a hash of the forces beside it.
-fn line_drove<W: Write>(out: &mut W, answer: DriveAnswer, forces: [Force; 4]) -> io::Result<()> {
+// The forces; where the call is refused the number, and a hash of no forces.
+fn line_drove<W: Write>(out: &mut W, answer: Result<[Force; 4], Cause>) -> io::Result<()> {
     match answer {
-        DriveAnswer::Forces => {
+        Ok(forces) => {
             line_force(out, forces[0])?;
             line_force(out, forces[1])?;
             line_force(out, forces[2])?;
             line_force(out, forces[3])
         }
-        DriveAnswer::Refused(cause) => {
-            vectors::line_refused(out, cause)?;
-            vectors::line_hex(out, hash::forces(forces))
+        Err(cause) => {
+            let z = Force {
+                motor: 0.0,
+                fx: 0.0,
+                fy: 0.0,
+            };
+            vectors::line_refused(out, cause.number())?;
+            vectors::line_hex(out, hash::forces([z, z, z, z]))
         }
     }
 }
 
 fn replay_drive<W: Write>(out: &mut W, rest: &[u8], run: Run) -> io::Result<Run> {
     let action = read::narrow(vectors::word(rest, 1));
-    let d = drive::drive(run, action, read::motions(rest));
-    let after = d.run;
-    let forces = d.forces;
-    let answer = d.answer;
-    line_drove(out, answer, forces)?;
+    let mut after = run;
+    let answer = drive::drive(&mut after, action, read::motions(rest));
+    line_drove(out, answer)?;
     vectors::line_hex(out, hash::state(after))?;
     Ok(after)
 }
