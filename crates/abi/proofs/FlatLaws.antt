@@ -1,12 +1,9 @@
 -- From what a call below leaves, and its answer made flat, to the whole of what crosses the boundary. Assumes nothing.
-use mathlib.Core.Bool.{Bool, cond}
 use mathlib.Core.List.{List}
 use mathlib.Core.Path.{◌≡◌, sym, ap, ◌∙◌}
 use Prim.Native.Nat.{ℕ}
 use Rattle.std.specs.Prelude.{Result}
-use lib.Dec.{eqb}
 use lib.Ieee.{Float}
-use borrow.Author.Tests.{eq-eqb, ne_eqb}
 use Rattle.course.specs.Grader.Outcome.{CourseColumns, Outcome, outcome}
 use Rattle.course.specs.Grader.LayCall.{lay_on_call}
 use Rattle.course.specs.Grader.Curbs.{Edged, edged}
@@ -16,7 +13,8 @@ use Rattle.course.specs.declared.points.Laid.{Laid}
 use Rattle.course.specs.declared.curbs.CurbAnswer.{CurbAnswer}
 use Rattle.run.specs.Grader.State.{view}
 use Rattle.run.specs.Grader.Start.{Begun, begun, start_cause_of, start_values_of}
-use Rattle.run.specs.Grader.Drive.{drive_cause_of, drive_parts_of}
+use Rattle.run.specs.Grader.Drive.{DroveParts, drove_parts, drive_parts_of}
+use Rattle.course.specs.Grader.Cause.{cause_number}
 use Rattle.run.specs.Grader.Settle.{settle_cause_of, settle_values_of, settled_parts, SettledPoses, settled_poses}
 use Rattle.run.specs.Grader.Numbers.{motions_from, force_numbers, car_from, car_numbers}
 use Rattle.run.specs.Grader.Save.{AfterSave, after_save}
@@ -29,7 +27,8 @@ use Rattle.run.specs.declared.state.Car.{Car}
 use Rattle.run.specs.declared.dynamics.Motion.{Motion}
 use Rattle.run.specs.declared.start.StartAnswer.{StartAnswer}
 use Rattle.run.specs.declared.start.StartValues.{StartValues}
-use Rattle.run.specs.declared.drive.DroveParts.{DroveParts}
+use Rattle.run.specs.declared.dynamics.Force.{Force}
+use Rattle.std.specs.Prelude.{Ok, Err}
 use Rattle.run.specs.declared.settle.SettleAnswer.{SettleAnswer}
 use Rattle.run.specs.declared.settle.SettleValues.{SettleValues}
 use Rattle.run.specs.declared.sheet.RunSheet.{RunSheet}
@@ -37,7 +36,7 @@ use Rattle.run.specs.declared.save.SaveAnswer.{SaveAnswer}
 use Rattle.run.specs.declared.restore.RestoreAnswer.{RestoreAnswer}
 use Rattle.run.proofs.DriveLaws.{refused-keeps}
 use Rattle.abi.specs.Grader.Flat.{flat_laid, flat_curbs, run_of, flat_started, flat_driven, flat_settled, flat_sheet, flat_saved, saved_out, flat_save, flat_restored, flat_answers, flat_replayed, replay_columns, columns_after}
-use Rattle.abi.specs.Grader.InPlace.{DrivenInPlace, driven_in_place, drive_in_place, SettledInPlace, settled_in_place}
+use Rattle.abi.specs.Grader.InPlace.{DrivenInPlace, driven_in_place, forces_after, drive_in_place, SettledInPlace, settled_in_place}
 use Rattle.abi.specs.declared.flat.FlatLaid.{FlatLaid}
 use Rattle.abi.specs.declared.flat.FlatCurbs.{FlatCurbs}
 use Rattle.abi.specs.declared.flat.FlatSheet.{FlatSheet}
@@ -68,34 +67,34 @@ unfolding flat_started run_of view
 started-whole a r b k v ek ev p = (λ i. record { cause = ek i; count = (ev i).count; lap = (ev i).lap; run = r }) ∙ ap flat_started p
 
 -- an accepted drive: what is written is the car and the forces after; a refused one writes nothing
-module _ (m most : ℕ) (u : Setup) (p : Progress) (car : List Float) (wheels : List ℕ) (action : ℕ) (motions forces : List Float) (d : DroveParts) (k : ℕ) (c : Car) (ms : List Motion)
-    (is : d ≡ drive_parts_of m most u p c wheels action ms) (ec : c ≡ car_from car) (em : ms ≡ motions_from motions) (ek : k ≡ drive_cause_of d.answer) where
-  same : d ≡ drive_parts_of m most u p (car_from car) wheels action (motions_from motions)
+module _ (m most : ℕ) (u : Setup) (p : Progress) (car : List Float) (wheels : List ℕ) (action : ℕ) (motions forces : List Float) (c : Car) (ms : List Motion)
+    {r : Result (List Force) Cause} {p' : Progress} {c' : Car} {k : ℕ}
+    (is : drove_parts r p' c' ≡ drive_parts_of m most u p c wheels action ms) (ec : c ≡ car_from car) (em : ms ≡ motions_from motions) (ek : k ≡ cause_number r) where
+  same : drove_parts r p' c' ≡ drive_parts_of m most u p (car_from car) wheels action (motions_from motions)
   same = is ∙ (λ i. drive_parts_of m most u p (ec i) wheels action (em i))
 
-  written : DroveParts → List Float → DrivenInPlace
-  written x fs = driven_in_place (flat_driven x.answer x.progress) (car_numbers x.car) (cond (eqb (drive_cause_of x.answer) 0) (force_numbers x.forces) fs)
+  written : DroveParts → DrivenInPlace
+  written d = driven_in_place (flat_driven d.answer d.progress) (car_numbers d.car) (forces_after d.answer forces)
 
-  pub driven-accepted : (car' forces' : List Float) → k ≡ 0 → car' ≡ car_numbers d.car → forces' ≡ force_numbers d.forces
-      → driven_in_place (record { cause = k; progress = d.progress }) car' forces' ≡ drive_in_place m most u p car wheels action motions forces
-  unfolding drive_in_place flat_driven written
-  driven-accepted car' forces' z eq ef =
-      (λ i. driven_in_place (record { cause = ek i; progress = d.progress }) (eq i)
-      ((ef ∙ ap (λ (b : Bool). cond b (force_numbers d.forces) forces) (sym (eq-eqb (drive_cause_of d.answer) 0 (sym ek ∙ z)))) i))
-      ∙ ap (λ (x : DroveParts). written x forces) same
+  pub driven-accepted : {fs : List Force} {car' forces' : List Float} → r ≡ Ok fs → car' ≡ car_numbers c' → forces' ≡ force_numbers fs
+      → driven_in_place (record { cause = k; progress = p' }) car' forces' ≡ drive_in_place m most u p car wheels action motions forces
+  unfolding drive_in_place flat_driven forces_after written
+  driven-accepted ok eq ef =
+      (λ i. driven_in_place (record { cause = ek i; progress = p' }) (eq i) ((ef ∙ ap (λ (x : Result (List Force) Cause). forces_after x forces) (sym ok)) i))
+      ∙ ap written same
 
-  pub driven-refused : (k ≡ 0 → ⊥) → car_numbers c ≡ car → driven_in_place (record { cause = k; progress = d.progress }) car forces ≡ drive_in_place m most u p car wheels action motions forces
-  unfolding drive_in_place flat_driven written
-  driven-refused z back =
-      (λ i. driven_in_place (record { cause = ek i; progress = d.progress }) (kept i)
-      (ap (λ (b : Bool). cond b (force_numbers d.forces) forces) (sym (ne_eqb (drive_cause_of d.answer) 0 (λ e. z (ek ∙ e)))) i))
-      ∙ ap (λ (x : DroveParts). written x forces) same
+  pub driven-refused : {x : Cause} → r ≡ Err x → car_numbers c ≡ car
+      → driven_in_place (record { cause = k; progress = p' }) car forces ≡ drive_in_place m most u p car wheels action motions forces
+  unfolding drive_in_place flat_driven forces_after written
+  driven-refused {x} err back =
+      (λ i. driven_in_place (record { cause = ek i; progress = p' }) (kept i) (ap (λ (z : Result (List Force) Cause). forces_after z forces) (sym err) i))
+      ∙ ap written same
     where
-      kept : car ≡ car_numbers d.car
+      kept : car ≡ car_numbers c'
       kept =
           sym back
-          ∙ ap car_numbers (sym (refused-keeps m most u p c wheels action ms (λ e. z (ek ∙ ap (λ (x : DroveParts). drive_cause_of x.answer) is ∙ e))).1)
-          ∙ ap (λ (x : DroveParts). car_numbers x.car) (sym is)
+          ∙ ap car_numbers (sym (refused-keeps m most u p c wheels action ms x (ap (λ (d : DroveParts). d.answer) (sym is) ∙ err)).1)
+          ∙ ap (λ (d : DroveParts). car_numbers d.car) (sym is)
 
 abbrev settled_from : SettledPoses → SettledInPlace
 settled_from d = settled_in_place (flat_settled d.parts.answer d.parts.progress) d.parts.credited d.parts.wheels d.poses

@@ -9,7 +9,11 @@ use lib.Ieee.{Float}
 use borrow.Author.Tests.{ne_eqb}
 use Rattle.run.specs.Grader.State.{State, state_of, view, Columns}
 use Rattle.run.specs.Rules.Pass.{gathered_of, pass_of, still_car}
-use Rattle.run.specs.Grader.Drive.{drive_answer, drive_cause_of, drive_cause, drive_at, drive_parts_of, drive_of}
+use Rattle.run.specs.Grader.Drive.{drive_check, drive_at, drive_parts_of, drive_of}
+use Rattle.run.proofs.RefusalLaws.{number-some}
+use Rattle.course.specs.Grader.Cause.{number_of, cause_number}
+use Rattle.course.specs.declared.cause.Cause.{Cause}
+use Rattle.std.specs.Prelude.{Result, Ok, Err}
 use Rattle.run.specs.Grader.Settle.{settle_answer, settle_cause_of, settle_values_of, settle_cause, settled_by, settle_at, settle_parts_of, poses_after, settle_poses_of, settle_of}
 use Rattle.run.specs.Grader.Start.{zero_state, started_by, start_at, start_of}
 use Rattle.run.specs.Grader.Saved.{Loaded, loaded}
@@ -25,7 +29,7 @@ use Rattle.run.specs.declared.state.Progress.{Progress}
 use Rattle.run.specs.declared.state.Pose.{Pose}
 use Rattle.run.specs.Grader.Start.{Settings, start_cause}
 use Rattle.abi.specs.Grader.Flat.{flat_driven, flat_settled, run_of, flat_saved, flat_save, flat_restored}
-use Rattle.abi.specs.Grader.InPlace.{drive_in_place, settle_in_place}
+use Rattle.abi.specs.Grader.InPlace.{forces_after, drive_in_place, settle_in_place}
 use Rattle.abi.specs.Laws.Host.{Kept, kept_run, kept_state, kept_from, HostCall, value_call, drive_read, settle_read, HostReplied, host_reply, host_replies, host_kept, HostRequest, value_request, HostGoing, host_going, value_going, saves_kept, run_kept, HostWent, host_request, host_said, host_after}
 
 -- what is read, and the state that is kept
@@ -34,12 +38,12 @@ read_as r = record { answer = r.answer; state = kept_state r.kept }
 
 -- ---- one call, by its cause's number
 module _ (m most : ℕ) (u : Setup) (p : Progress) (car : List Float) (credited wheels : List ℕ) (last : List Float) (seed : ℕ) where
-  drive-at : (k : ℕ) (action : ℕ) (ms fs : List Float) → drive_cause most u p action (motions_from ms) ≡ k
+  drive-at : (r : Result Unit Cause) (action : ℕ) (ms fs : List Float) → drive_check most u p action (motions_from ms) ≡ r
       → read_as (host_reply m most (kept_run u p car credited wheels last seed) (HostCall.drive action ms fs))
       ≡ reply_of m most (state_of u p (car_from car) credited wheels last seed) (Call.drive action (motions_from ms))
-  unfolding host_reply drive_in_place flat_driven drive_read reply_of drive_of drive_parts_of drive_at drive_answer drive_cause_of kept_state pass_of gathered_of forces_from force_from force_numbers car_from car_numbers wheel_from
-  drive-at zero action ms fs e = rw e
-  drive-at (suc k) action ms fs e = rw (e, ne_eqb (suc k) 0 (λ z. omega (arith, z)))
+  unfolding host_reply drive_in_place flat_driven forces_after drive_read reply_of drive_of drive_parts_of drive_at cause_number kept_state pass_of gathered_of forces_from force_from force_numbers car_from car_numbers wheel_from
+  drive-at (Ok none) action ms fs e = rw e
+  drive-at (Err c) action ms fs e = rw (e, ne_eqb (number_of c) 0 (number-some c))
 
   settle-at : (k : ℕ) (l : Columns) (x y : Float) (ps : List Pose) → settle_cause most u p l x y ps ≡ k
       → read_as (host_reply m most (kept_run u p car credited wheels last seed) (HostCall.settle l x y ps))

@@ -2,7 +2,6 @@
 // the arrays that C cannot pass by value.
 ghost use Rattle.std.specs.Prelude.{◌≡◌};
 ghost use Rattle.run.specs.Grader.Start.{start_cause_of, start_values_of};
-ghost use Rattle.run.specs.Grader.Drive.{drive_cause_of};
 ghost use Rattle.run.specs.Grader.Settle.{settle_cause_of, settle_values_of};
 ghost use Rattle.run.specs.Grader.Restore.{restore_cause_of};
 ghost use Rattle.abi.specs.Grader.Flat.{flat_laid, flat_curbs, flat_sheet, flat_saved, flat_saved_for, flat_angle, flat_answers};
@@ -12,7 +11,6 @@ use course::cause::Cause;
 use course::curbs::CurbAnswer;
 use course::points::Laid;
 use course::{cause, points};
-use run::drive::DriveAnswer;
 use run::restore::{RestoreAnswer, SavedCourse};
 use run::save::SaveAnswer;
 use run::settle::{SettleAnswer, SettleValues};
@@ -223,16 +221,6 @@ pub(crate) fn start_values(answer: StartAnswer) -> StartValues
             count: 0,
             lap: false,
         },
-    }
-}
-
-// The cause that drive answered, 0 where it gave forces.
-pub(crate) fn drive_cause(answer: DriveAnswer) -> u32
-    ensures { result ≡ drive_cause_of answer }
-{
-    match answer {
-        DriveAnswer::Forces => 0,
-        DriveAnswer::Refused(cause) => cause,
     }
 }
 

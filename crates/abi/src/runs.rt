@@ -15,6 +15,7 @@ use crate::flat;
 use crate::flat::{FlatDriven, FlatReplayed, FlatSettled, FlatSheet, FlatStarted, Poses};
 use crate::parts::{FORCE_NUMBERS, MOTION_NUMBERS};
 use certificate::{answer, call, replay};
+use course::cause;
 use run::numbers::{CAR_NUMBERS, POSE_NUMBERS};
 use run::reward::Weights;
 use run::state::{Progress, Setup};
@@ -85,19 +86,19 @@ pub extern "C" fn grader_drive_parts(
         ≡ drive_in_place full_words most_tiles setup progress car.old wheels.now action
         motions.now forces.old }
 {
-    let before = numbers::car_from(car);
+    let mut next = progress;
+    let mut after = numbers::car_from(car);
     let given = call::motions_lent(motions);
-    let d = drive::drive_parts(setup, progress, before, wheels, action, given);
-    let answer = d.answer;
-    let cause = flat::drive_cause(answer);
-    let progress = d.progress;
-    if cause == 0 {
-        let after = d.car;
-        let pushes = d.forces;
+    let said = drive::drive_parts(setup, &mut next, &mut after, wheels, action, given);
+    let number = cause::cause_number(&said);
+    if let Ok(pushes) = said {
         numbers::put_car(after, car);
         answer::put_forces_lent(pushes, forces);
     }
-    FlatDriven { cause, progress }
+    FlatDriven {
+        cause: number,
+        progress: next,
+    }
 }
 
 // The contact after physics: the sets and the last poses are changed where they stand. A refusal changes nothing.

@@ -28,8 +28,9 @@ use Rattle.certificate.specs.Rules.Answers.Answer.{drove, settled, refused}
 use Rattle.run.specs.declared.state.Pose.{Pose}
 use Rattle.run.specs.declared.dynamics.Motion.{Motion}
 use Rattle.run.specs.Rules.Pass.{no_forces}
-use Rattle.run.specs.declared.drive.DriveAnswer.{DriveAnswer}
-use Rattle.run.specs.declared.drive.DriveAnswer.TheVariants.{Forces, Refused as NotDriven}
+use Rattle.std.specs.Prelude.{Result, Ok, Err}
+use Rattle.course.specs.Grader.Cause.{number_of}
+use Rattle.course.specs.declared.cause.Cause.{Cause}
 use Rattle.run.specs.declared.settle.SettleAnswer.{SettleAnswer}
 use Rattle.run.specs.declared.settle.SettleValues.{SettleValues}
 use Rattle.run.specs.declared.settle.SettleAnswer.TheVariants.{Settled, Refused as NotSettled}
@@ -65,18 +66,19 @@ unfolding force_numbers
 no-numbers = refl
 
 -- what is written for each case of an answer
-abbrev DriveWritten : DriveAnswer → List Force → List ℕ → List Float → Type 0
-DriveWritten a fs ws ns = (ws ≡ words_of (drive_said a fs)) × (ns ≡ numbers_of (drive_said a fs))
+abbrev DriveWritten : Result (List Force) Cause → List ℕ → List Float → Type 0
+DriveWritten r ws ns = (ws ≡ words_of (drive_said r)) × (ns ≡ numbers_of (drive_said r))
 
-pub written-forces : (a : DriveAnswer) (fs : List Force) (ws : List ℕ) (ns : List Float) → a ≡ Forces
-    → ws ≡ 0 ∷ 0 ∷ 0 ∷ 0 ∷ [] → ns ≡ force_numbers fs → DriveWritten a fs ws ns
+pub written-forces : (r : Result (List Force) Cause) (fs : List Force) (ws : List ℕ) (ns : List Float) → r ≡ Ok fs
+    → ws ≡ 0 ∷ 0 ∷ 0 ∷ 0 ∷ [] → ns ≡ force_numbers fs → DriveWritten r ws ns
 unfolding words_of numbers_of
-written-forces a fs ws ns e h k = subst (λ (x : DriveAnswer). DriveWritten x fs ws ns) (sym e) (h, k)
+written-forces r fs ws ns e h k = subst (λ (x : Result (List Force) Cause). DriveWritten x ws ns) (sym e) (h, k)
 
-pub written-not-driven : (a : DriveAnswer) (fs : List Force) (ws : List ℕ) (ns : List Float) (c : ℕ) → a ≡ NotDriven c
-    → ws ≡ 2 ∷ c ∷ 0 ∷ 0 ∷ [] → ns ≡ replicate answer_numbers nought → DriveWritten a fs ws ns
+pub written-not-driven : (r : Result (List Force) Cause) (ws : List ℕ) (ns : List Float) (c : Cause) (k : ℕ) → r ≡ Err c → k ≡ number_of c
+    → ws ≡ 2 ∷ k ∷ 0 ∷ 0 ∷ [] → ns ≡ replicate answer_numbers nought → DriveWritten r ws ns
 unfolding words_of numbers_of
-written-not-driven a fs ws ns c e h k = subst (λ (x : DriveAnswer). DriveWritten x fs ws ns) (sym e) (h, k)
+written-not-driven r ws ns c k e n h z =
+    subst (λ (x : Result (List Force) Cause). DriveWritten x ws ns) (sym e) (h ∙ ap (λ (x : ℕ). 2 ∷ x ∷ 0 ∷ 0 ∷ []) n, z)
 
 abbrev SettleWritten : SettleAnswer → List ℕ → List Float → Type 0
 SettleWritten a ws ns = (ws ≡ words_of (settle_said a)) × (ns ≡ numbers_of (settle_said a))
@@ -99,13 +101,13 @@ abbrev pub Answered : ℕ → ℕ → State → Call → State → List ℕ → 
 Answered m most s c after ws ns =
     (after ≡ (reply_of m most s c).state) × ((ws ≡ words_of (reply_of m most s c).answer) × (ns ≡ numbers_of (reply_of m most s c).answer))
 
-pub answered-drive : (m most : ℕ) (s : State) (a : ℕ) (ms : List Motion) (g : List Float) (r : DriveAnswer) (fs : List Force) (after : State) (ws : List ℕ) (ns : List Float)
-    → ms ≡ motions_from g → driven r fs after ≡ drive_of m most s a ms → ws ≡ words_of (drive_said r fs) → ns ≡ numbers_of (drive_said r fs)
+pub answered-drive : (m most : ℕ) (s : State) (a : ℕ) (ms : List Motion) (g : List Float) (r : Result (List Force) Cause) (after : State) (ws : List ℕ) (ns : List Float)
+    → ms ≡ motions_from g → driven r after ≡ drive_of m most s a ms → ws ≡ words_of (drive_said r) → ns ≡ numbers_of (drive_said r)
     → Answered m most s (drive a (motions_from g)) after ws ns
 unfolding reply_of
-answered-drive m most s a ms g r fs after ws ns e f h k =
-    let q : driven r fs after ≡ drive_of m most s a (motions_from g) = f ∙ ap (drive_of m most s a) e in
-    (ap (λ (d : Driven). d.state) q, (h ∙ ap (λ (d : Driven). words_of (drive_said d.answer d.forces)) q, k ∙ ap (λ (d : Driven). numbers_of (drive_said d.answer d.forces)) q))
+answered-drive m most s a ms g r after ws ns e f h k =
+    let q : driven r after ≡ drive_of m most s a (motions_from g) = f ∙ ap (drive_of m most s a) e in
+    (ap (λ (d : Driven). d.state) q, (h ∙ ap (λ (d : Driven). words_of (drive_said d.answer)) q, k ∙ ap (λ (d : Driven). numbers_of (drive_said d.answer)) q))
 
 pub answered-settle : (m most : ℕ) (s : State) (l : Columns) (x y : Float) (ps : List Pose) (g : List Float) (a : SettleAnswer) (after : State) (ws : List ℕ) (ns : List Float)
     → ps ≡ poses_from g → after_settle a after ≡ settle_of m most s l x y ps → ws ≡ words_of (settle_said a) → ns ≡ numbers_of (settle_said a)

@@ -23,7 +23,8 @@ use Rattle.run.specs.Grader.Numbers.{pose_numbers}
 use Rattle.run.specs.Rules.Lap.{above_share, lap_of, off_field, end_of}
 use Rattle.run.specs.Rules.Pass.{pass_of}
 use Rattle.run.specs.Grader.Start.{setup_of, first_progress, start_answer, first_contact, started_by}
-use Rattle.run.specs.Grader.Drive.{drive_answer, drive_cause, drive_at, drive_parts_of, drive_of}
+use Rattle.run.specs.Grader.Drive.{DroveParts, drive_check, drive_at, drive_parts_of, drive_of}
+use Rattle.course.specs.Grader.Cause.{number_of, cause_number}
 use Rattle.run.specs.Grader.Settle.{settle_answer, settle_cause, settled_progress, SettledParts, settled_parts, settled_by, settle_at, settle_parts_of, poses_after, settle_poses_of, settle_of}
 use Rattle.certificate.specs.Grader.Calls.{Call, Replied, drive_said, settle_said, reply_of}
 use Rattle.certificate.specs.Claim.Scorer.{Opening, Told, History, opening, drives, settles, last_poses, off, Scored, touch, touches, touched, touched_count, new_tiles, meets_lap, lap_done, over, ended, grip, grips, passed, drive_number, settle_number, drive_score, settle_score, score}
@@ -33,12 +34,16 @@ use Rattle.certificate.specs.Claim.Certificate.{CourseLabel, settings_for, progr
 use Rattle.run.specs.declared.state.Pose.{Pose}
 use Rattle.run.specs.declared.state.Progress.{Progress}
 use Rattle.run.specs.declared.dynamics.Motion.{Motion}
-use Rattle.run.specs.declared.drive.DroveParts.{DroveParts}
 use Rattle.run.specs.declared.settle.SettleValues.{SettleValues}
 use Rattle.course.proofs.BoolLaws.{right-false, cond-else, cond-skip, cleared}
 use Rattle.run.proofs.WordLaws.{get_d-zeros, how_many-cong, how_many-or, set_of-cong}
 use Rattle.run.proofs.CreditLaws.{few, empty-words}
 use Rattle.run.proofs.AnyLaws.{any_none}
+use Rattle.run.proofs.RefusalLaws.{number-some}
+use Rattle.run.proofs.DriveLaws.{drive-cause-number}
+use Rattle.std.specs.Prelude.{Result, Ok, Err}
+use Rattle.course.specs.declared.cause.Cause.{Cause}
+use Rattle.certificate.specs.Rules.Answers.Answer.{refused}
 use Rattle.certificate.proofs.ScoreLaws.{InTurn}
 use Rattle.run.proofs.BelowLaws.{below, all_pass}
 use Rattle.run.proofs.PlainContact.{credited_by, wheels_by, on-road, contact-is, sets-cong}
@@ -142,15 +147,16 @@ module _ (m most : ℕ) (c : List TrackPoint) (room : most ≤ 64 * m) (some : 0
   fits-state label h =
       rw (le-ltb (length c) 1 some, le-ltb most (length c) fits, le-ltb (length c) (how_many (length c) (touched c h)) (few (length c) (touched c h)))
 
-  drive-number : (label : CourseLabel) (h : History) (a : ℕ) (ms : List Motion) → drive_cause most (setup_of (settings_for (length c) label (opening h))) (progress_by c h) a ms ≡ drive_number c h a ms
-  unfolding drive_cause drive_number setup_of
-  drive-number label h a ms = rw (fits-state label h)
+  drive-number : (label : CourseLabel) (h : History) (a : ℕ) (ms : List Motion) → cause_number (drive_check most (setup_of (settings_for (length c) label (opening h))) (progress_by c h) a ms) ≡ drive_number c h a ms
+  unfolding drive_number setup_of
+  drive-number label h a ms =
+      drive-cause-number m most (setup_of (settings_for (length c) label (opening h))) (progress_by c h) (passed c h).car [] a ms ∙ rw (fits-state label h)
 
   -- the answer and the state after, by what a drive leaves of its parts
   abbrev drove_by : CourseLabel → History → DroveParts → Replied
   drove_by label h d =
       record {
-        answer = drive_said d.answer d.forces;
+        answer = drive_said d.answer;
         state = record {
           setup = setup_of (settings_for (length c) label (opening h));
           progress = d.progress;
@@ -162,20 +168,24 @@ module _ (m most : ℕ) (c : List TrackPoint) (room : most ≤ 64 * m) (some : 0
         };
       }
 
-  drive-at : (label : CourseLabel) (h : History) → InTurn h → (a : ℕ) (ms : List Motion) (roads : List Bool) (k : ℕ) → roads ≡ grips c h
-      → drove_by label h (drive_at k (progress_by c h) (passed c h).car (pass_of (passed c h).car a ms roads)) ≡ with_state label (drive_score c k h a ms)
-  unfolding drive_at drive_answer drive_score awaiting touched last_poses touched_count lap_done ended over off opening settles drives passed
-  drive-at label h v a ms roads zero e = λ i.
+  drive-refused : (k : ℕ) (h : History) (a : ℕ) (ms : List Motion) → (k ≡ 0 → ⊥) → record { answer = refused k; kept = h } ≡ drive_score c k h a ms
+  unfolding drive_score
+  drive-refused zero h a ms n = absurd (n refl)
+  drive-refused (suc k) h a ms n = refl
+
+  drive-at : (label : CourseLabel) (h : History) → InTurn h → (a : ℕ) (ms : List Motion) (roads : List Bool) (r : Result Unit Cause) → roads ≡ grips c h
+      → drove_by label h (drive_at r (progress_by c h) (passed c h).car (pass_of (passed c h).car a ms roads)) ≡ with_state label (drive_score c (cause_number r) h a ms)
+  unfolding cause_number drive_at drive_score awaiting touched last_poses touched_count lap_done ended over off opening settles drives passed
+  drive-at label h v a ms roads (Ok none) e = λ i.
       drove_by label h (record {
-        answer = drive_answer zero;
-        forces = (pass_of (passed c h).car a ms (e i)).forces;
+        answer = Ok (pass_of (passed c h).car a ms (e i)).forces;
         progress = record { visited_count = touched_count c h; tick = settles h; lap = lap_done c h; ended = ended c h; driven = sym (lt-ltb (settles h) (drives h + 1) (next v.ahead)) i };
         car = (pass_of (passed c h).car a ms (e i)).car;
       })
     where
       next : {a b : ℕ} → a ≤ b → a < b + 1
       next l = omega arith
-  drive-at label h v a ms roads (suc k) e = refl
+  drive-at label h v a ms roads (Err b) e = ap (with_state label) (drive-refused (number_of b) h a ms (number-some b))
 
   -- ---- settle
   settle-number : (label : CourseLabel) (h : History) → InTurn h → (l : Columns) (x y : Float) (ps : List Pose) → (short_of (length c) l ≡ false → HoldsCourse l)
@@ -265,8 +275,8 @@ module _ (m most : ℕ) (c : List TrackPoint) (room : most ≤ 64 * m) (some : 0
   pub reply-is : (label : CourseLabel) (h : History) → InTurn h → (g : Call) → WellLent g → reply_of m most (history_state label h) g ≡ with_state label (score c h (told_by g))
   unfolding reply_of score drive_of drive_parts_of settle_of settle_poses_of settle_parts_of
   reply-is label h v (Call.drive a ms) w =
-      ap (λ (k : ℕ). drove_by label h (drive_at k (progress_by c h) (passed c h).car (pass_of (passed c h).car a ms (roads_of m (wheels_by m (length c) held (touch c (last_poses h))))))) (drive-number label h a ms)
-      ∙ drive-at label h v a ms (roads_of m (wheels_by m (length c) held (touch c (last_poses h)))) (drive_number c h a ms) (roads-are h)
+      drive-at label h v a ms (roads_of m (wheels_by m (length c) held (touch c (last_poses h)))) (drive_check most (setup_of (settings_for (length c) label (opening h))) (progress_by c h) a ms) (roads-are h)
+      ∙ ap (λ (k : ℕ). with_state label (drive_score c k h a ms)) (drive-number label h a ms)
   reply-is label h v (Call.settle l x y ps) w =
       ap (λ (k : ℕ). settled_from label h ps (settle_at m k (setup_of (settings_for (length c) label (opening h))) (progress_by c h) (credited_by m (length c) held (touched c h)) (wheels_by m (length c) held (touch c (last_poses h))) l x y ps))
       (settle-number label h v l x y ps w)

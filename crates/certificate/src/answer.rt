@@ -6,7 +6,7 @@ ghost use Rattle.certificate.specs.Grader.Calls.{drive_said, settle_said};
 ghost use Rattle.run.specs.Grader.Numbers.{force_numbers};
 ghost use Rattle.certificate.specs.Grader.CallColumns.{answer_numbers, words_of, numbers_of};
 
-use run::drive::DriveAnswer;
+use course::cause::Cause;
 use run::dynamics::Force;
 use run::settle::SettleAnswer;
 
@@ -63,24 +63,19 @@ fn put_zeros(numbers: &mut [f64])
 }
 
 // The answer to a drive.
-pub(crate) fn put_drive(
-    answer: DriveAnswer,
-    forces: [Force; 4],
-    words: &mut [u32],
-    numbers: &mut [f64],
-)
+pub(crate) fn put_drive(answer: Result<[Force; 4], Cause>, words: &mut [u32], numbers: &mut [f64])
     requires words_len { length words.old ≡ 4 }
     requires numbers_len { length numbers.old ≡ 12 }
-    ensures words_after { words.new ≡ words_of (drive_said answer forces) }
-    ensures numbers_after { numbers.new ≡ numbers_of (drive_said answer forces) }
+    ensures words_after { words.new ≡ words_of (drive_said answer) }
+    ensures numbers_after { numbers.new ≡ numbers_of (drive_said answer) }
 {
     match answer {
-        DriveAnswer::Forces => {
+        Ok(forces) => {
             put_words(0, 0, 0, 0, words);
             put_forces(forces, numbers);
         }
-        DriveAnswer::Refused(k) => {
-            put_words(2, k, 0, 0, words);
+        Err(cause) => {
+            put_words(2, cause.number(), 0, 0, words);
             put_zeros(numbers);
         }
     }

@@ -38,55 +38,54 @@ pub struct Replayed {
 }
 
 // A drive from the numbers of its call, and its answer.
-fn reply_drive(run: Run, action: u32, given: &[f64], words: &mut [u32], numbers: &mut [f64]) -> Run
+fn reply_drive(run: &mut Run, action: u32, given: &[f64], words: &mut [u32], numbers: &mut [f64])
     requires in_bounds { 20 ≤ length given.now }
     requires words_len { length words.old ≡ 4 }
     requires numbers_len { length numbers.old ≡ 12 }
-    ensures result_value { view result
-        ≡ (reply_of full_words most_tiles (view run) (Call.drive action (motions_from given.now))).state }
+    ensures run_after { view run.new
+        ≡ (reply_of full_words most_tiles (view run.old) (Call.drive action (motions_from given.now))).state }
     ensures words_after { words.new
         ≡ words_of
-        (reply_of full_words most_tiles (view run) (Call.drive action (motions_from given.now))).answer }
+        (reply_of full_words most_tiles (view run.old) (Call.drive action (motions_from given.now))).answer }
     ensures numbers_after { numbers.new
         ≡ numbers_of
-        (reply_of full_words most_tiles (view run) (Call.drive action (motions_from given.now))).answer }
+        (reply_of full_words most_tiles (view run.old) (Call.drive action (motions_from given.now))).answer }
 {
-    let d = drive::drive(run, action, call::motions(given));
-    let said = d.answer;
-    let forces = d.forces;
-    let after = d.run;
-    answer::put_drive(said, forces, words, numbers);
-    after
+    answer::put_drive(
+        drive::drive(run, action, call::motions(given)),
+        words,
+        numbers,
+    );
 }
 
 // A settle on the lent columns from the numbers of its call, and its answer.
 fn reply_settle(
-    run: Run,
+    run: &mut Run,
     tiles: &[f64],
     offsets: &[u32],
     list: &[u32],
     given: &[f64],
     words: &mut [u32],
     numbers: &mut [f64],
-) -> Run
+)
     requires in_bounds { 20 ≤ length given.now }
     requires words_len { length words.old ≡ 4 }
     requires numbers_len { length numbers.old ≡ 12 }
-    ensures result_value { view result
-        ≡ (reply_of full_words most_tiles (view run)
+    ensures run_after { view run.new
+        ≡ (reply_of full_words most_tiles (view run.old)
         (Call.settle (columns tiles.now offsets.now list.now)
         (number_at given.now 0) (number_at given.now 1) (poses_from given.now))).state }
     ensures words_after { words.new
-        ≡ words_of (reply_of full_words most_tiles (view run)
+        ≡ words_of (reply_of full_words most_tiles (view run.old)
         (Call.settle (columns tiles.now offsets.now list.now)
         (number_at given.now 0) (number_at given.now 1) (poses_from given.now))).answer }
     ensures numbers_after { numbers.new
-        ≡ numbers_of (reply_of full_words most_tiles (view run)
+        ≡ numbers_of (reply_of full_words most_tiles (view run.old)
         (Call.settle (columns tiles.now offsets.now list.now)
         (number_at given.now 0) (number_at given.now 1) (poses_from given.now))).answer }
 {
     let d = settle::settle(
-        run,
+        *run,
         tiles,
         offsets,
         list,
@@ -94,15 +93,13 @@ fn reply_settle(
         given[1],
         call::poses(given),
     );
-    let said = d.answer;
-    let after = d.run;
-    answer::put_settle(said, words, numbers);
-    after
+    answer::put_settle(d.answer, words, numbers);
+    *run = d.run;
 }
 
 // The call that four words and twenty numbers hold, and its answer.
 fn reply(
-    run: Run,
+    run: &mut Run,
     tiles: &[f64],
     offsets: &[u32],
     list: &[u32],
@@ -110,21 +107,21 @@ fn reply(
     given: &[f64],
     words: &mut [u32],
     numbers: &mut [f64],
-) -> Run
+)
     requires in_bounds { 4 ≤ length asked.now }
     requires in_bounds_2 { 20 ≤ length given.now }
     requires words_len { length words.old ≡ 4 }
     requires numbers_len { length numbers.old ≡ 12 }
-    ensures result_value { view result
-        ≡ (reply_of full_words most_tiles (view run)
+    ensures run_after { view run.new
+        ≡ (reply_of full_words most_tiles (view run.old)
         (call_from (columns tiles.now offsets.now list.now) asked.now
         given.now)).state }
     ensures words_after { words.new
-        ≡ words_of (reply_of full_words most_tiles (view run)
+        ≡ words_of (reply_of full_words most_tiles (view run.old)
         (call_from (columns tiles.now offsets.now list.now) asked.now
         given.now)).answer }
     ensures numbers_after { numbers.new
-        ≡ numbers_of (reply_of full_words most_tiles (view run)
+        ≡ numbers_of (reply_of full_words most_tiles (view run.old)
         (call_from (columns tiles.now offsets.now list.now) asked.now
         given.now)).answer }
 {
@@ -144,9 +141,9 @@ fn reply(
     )
 }
 
-// All calls of the columns in their order, each on the state that the one before it returned, and their answers.
+// All calls of the columns in their order, each on the state that the one before it left, and their answers.
 pub(crate) fn replies(
-    run: Run,
+    run: &mut Run,
     tiles: &[f64],
     offsets: &[u32],
     list: &[u32],
@@ -155,35 +152,34 @@ pub(crate) fn replies(
     given: &[f64],
     words: &mut [u32],
     numbers: &mut [f64],
-) -> Run
+)
     requires many_in_bounds { call_words * many ≤ length calls.now }
     requires many_in_bounds_2 { call_numbers * many ≤ length given.now }
     requires many_in_bounds_3 { answer_words * many ≤ length words.old }
     requires many_in_bounds_4 { answer_numbers * many ≤ length numbers.old }
-    ensures result_value { view result
-        ≡ state_after full_words most_tiles (view run)
+    ensures run_after { view run.new
+        ≡ state_after full_words most_tiles (view run.old)
         (calls_to (columns tiles.now offsets.now list.now) calls.now
         given.now many) }
     ensures words_after { words.new
-        ≡ all_words (replies_of full_words most_tiles (view run)
+        ≡ all_words (replies_of full_words most_tiles (view run.old)
         (calls_to (columns tiles.now offsets.now list.now) calls.now
         given.now many))
         ++ drop (answer_words * many) words.old }
     ensures numbers_after { numbers.new
-        ≡ all_numbers (replies_of full_words most_tiles (view run)
+        ≡ all_numbers (replies_of full_words most_tiles (view run.old)
         (calls_to (columns tiles.now offsets.now list.now) calls.now
         given.now many))
         ++ drop (answer_numbers * many) numbers.old }
 {
-    let mut state = run;
     let mut i: usize = 0;
     while i < many {
         let c = CALL_WORDS * i;
         let g = CALL_NUMBERS * i;
         let w = ANSWER_WORDS * i;
         let n = ANSWER_NUMBERS * i;
-        let next = reply(
-            state,
+        reply(
+            run,
             tiles,
             offsets,
             list,
@@ -192,10 +188,8 @@ pub(crate) fn replies(
             &mut words[w..w + ANSWER_WORDS],
             &mut numbers[n..n + ANSWER_NUMBERS],
         );
-        state = next;
         i += 1;
     }
-    state
 }
 
 // The columns of calls and answers, by their lengths, have room for so many calls.
@@ -257,9 +251,9 @@ pub fn replay(
         poses,
     );
     let begun = s.answer;
-    let first = s.run;
-    let last = replies(
-        first,
+    let mut run = s.run;
+    replies(
+        &mut run,
         tiles,
         offsets,
         list,
@@ -272,6 +266,6 @@ pub fn replay(
     Replayed {
         laid,
         start: begun,
-        sheet: sheet::sheet(last.setup, last.progress),
+        sheet: sheet::sheet(run.setup, run.progress),
     }
 }

@@ -1,23 +1,26 @@
 -- The tyre pass from its steps, and what a drive answers, by its cause: a refused one leaves all as it was. For any number of words. Assumes nothing.
-use mathlib.Core.Path.{◌≡◌, refl, sym, ap, ◌∙◌}
-use mathlib.Core.Bool.{Bool}
+use Rattle.std.specs.Prelude.{Result, Ok, Err}
+use mathlib.Core.Path.{◌≡◌, refl, ap, ◌∙◌}
+use mathlib.Core.Bool.{Bool, cond, not, ◌||◌}
 use mathlib.Core.List.{List}
-use Prim.Native.Nat.{ℕ, zero, suc}
+use Prim.Native.Nat.{ℕ}
+use lib.Dec.{ltb, leb}
 use lib.Ieee.{Float}
-use Rattle.run.specs.Rules.Arguments.{motion_at}
+use Rattle.course.specs.Grader.Cause.{number_of, cause_number}
+use Rattle.run.specs.Rules.Arguments.{motion_at, motions_ok}
 use Rattle.run.specs.Rules.Dynamics.{TyreForce, PassedWheel, turning_of, limit_of, held_of, push_of, finish_of, tyre_of}
-use Rattle.run.specs.Grader.State.{State, state_of, awaiting}
+use Rattle.run.specs.Grader.State.{State, state_of, awaiting, unfit}
+use Rattle.run.proofs.RefusalLaws.{first-number, none-number}
 use Rattle.run.specs.Grader.Grip.{roads_of}
-use Rattle.run.specs.Rules.Pass.{front_of, rear_of, ctl_at, road_at, Passed, tyres_passed, gathered_of, pass_of, no_forces}
-use Rattle.run.specs.Grader.Drive.{drive_answer, drive_cause_of, drive_cause, drive_at, drive_parts_of, driven, drive_of}
+use Rattle.run.specs.Rules.Pass.{front_of, rear_of, ctl_at, road_at, Passed, tyres_passed, gathered_of, pass_of}
+use Rattle.run.specs.Grader.Drive.{drive_check, DroveParts, drove_parts, drive_at, drive_parts_of, driven, drive_of}
 use Rattle.run.specs.declared.state.WheelCtl.{WheelCtl}
 use Rattle.run.specs.declared.state.Setup.{Setup}
 use Rattle.run.specs.declared.state.Progress.{Progress}
 use Rattle.run.specs.declared.state.Car.{Car}
 use Rattle.run.specs.declared.dynamics.Motion.{Motion}
 use Rattle.run.specs.declared.dynamics.Force.{Force}
-use Rattle.run.specs.declared.drive.DroveParts.{DroveParts}
-use Rattle.run.specs.declared.drive.DriveAnswer.TheVariants.{Forces, Refused}
+use Rattle.course.specs.declared.cause.Cause.{Cause}
 
 -- ---- the pass
 
@@ -43,52 +46,42 @@ pass-from car action ms roads w₀ w₁ w₂ w₃ a b c d e₀ e₁ e₂ e₃ ha
     let pd = hd ∙ (λ i. tyre_of (e₃ i) (motion_at ms 3) (road_at roads 3) (pc i).fuel) in
     λ i. gathered_of (pa i) (pb i) (pc i) (pd i)
 
--- ---- by the cause's number
-
--- a number that is not 0 refuses
-refused-at : (k : ℕ) (p : Progress) (car : Car) (d : Passed) → (k ≡ 0 → ⊥) → record { answer = Refused k; forces = no_forces; progress = p; car = car } ≡ drive_at k p car d
-unfolding drive_at drive_answer
-refused-at zero p car d z = absurd (z refl)
-refused-at (suc k) p car d z = refl
-
--- the answer's number is the cause's
-number_at : (k : ℕ) (p : Progress) (car : Car) (d : Passed) → drive_cause_of (drive_at k p car d).answer ≡ k
-unfolding drive_at drive_answer drive_cause_of
-number_at zero p car d = refl
-number_at (suc k) p car d = refl
-
--- ---- the call on its parts
-
+-- ---- the call on its parts, by its cause
 module _ (m most : ℕ) (u : Setup) (p : Progress) (car : Car) (wheels : List ℕ) (action : ℕ) (ms : List Motion) where
-  pub drive-refused : (k : ℕ) (fs : List Force) → k ≡ drive_cause most u p action ms → (k ≡ 0 → ⊥) → fs ≡ no_forces
-      → record { answer = Refused k; forces = fs; progress = p; car = car } ≡ drive_parts_of m most u p car wheels action ms
-  unfolding drive_parts_of
-  drive-refused k fs e z n =
-      (λ i. record { answer = Refused k; forces = n i; progress = p; car = car }) ∙ refused-at k p car _ z
-      ∙ ap (λ (j : ℕ). drive_at j p car (pass_of car action ms (roads_of m wheels))) e
+  pub drive-refused : (r : Result (List Force) Cause) (c : Cause) → Err c ≡ drive_check most u p action ms → r ≡ Err c
+      → drove_parts r p car ≡ drive_parts_of m most u p car wheels action ms
+  unfolding drive_parts_of drive_at
+  drive-refused r c e h =
+      ap (λ (x : Result (List Force) Cause). drove_parts x p car) h
+      ∙ ap (λ (x : Result Unit Cause). drive_at x p car (pass_of car action ms (roads_of m wheels))) e
 
-  pub drive-accepted : (k : ℕ) (after : Car) (fs : List Force) (next : Progress) → k ≡ drive_cause most u p action ms → k ≡ 0
-      → tyres_passed after fs ≡ pass_of car action ms (roads_of m wheels) → next ≡ awaiting p
-      → record { answer = Forces; forces = fs; progress = next; car = after } ≡ drive_parts_of m most u p car wheels action ms
-  unfolding drive_parts_of drive_at drive_answer
-  drive-accepted k after fs next e z h n =
-      (λ i. record { answer = Forces; forces = (h i).forces; progress = n i; car = (h i).car })
-      ∙ ap (λ (j : ℕ). drive_at j p car (pass_of car action ms (roads_of m wheels))) (sym z ∙ e)
+  pub drive-accepted : (after : Car) (fs : List Force) → Ok tt ≡ drive_check most u p action ms → tyres_passed after fs ≡ pass_of car action ms (roads_of m wheels)
+      → drove_parts (Ok fs) (awaiting p) after ≡ drive_parts_of m most u p car wheels action ms
+  unfolding drive_parts_of drive_at
+  drive-accepted after fs e h =
+      ap (λ (d : Passed). drove_parts (Ok d.forces) (awaiting p) d.car) h
+      ∙ ap (λ (x : Result Unit Cause). drive_at x p car (pass_of car action ms (roads_of m wheels))) e
 
-  pub number : drive_cause_of (drive_parts_of m most u p car wheels action ms).answer ≡ drive_cause most u p action ms
-  unfolding drive_parts_of
-  number = number_at _ _ _ _
+  -- the number of its cause
+  pub drive-cause-number : cause_number (drive_check most u p action ms)
+      ≡ cond (unfit most u p || p.ended) 4 (cond p.driven 5 (cond (leb u.tick_limit p.tick) 6 (cond (ltb 4 action) 7 (cond (not (motions_ok ms)) 8 0))))
+  unfolding drive_check number_of
+  drive-cause-number = simp (first-number, none-number)
+
+  kept-at : (x : Result Unit Cause) (d : Passed) (c : Cause) → (drive_at x p car d).answer ≡ Err c → ((drive_at x p car d).progress ≡ p) × ((drive_at x p car d).car ≡ car)
+  unfolding drive_at
+  kept-at (Ok none) d c e = absurd (cc)
+  kept-at (Err b) d c e = (refl, refl)
 
   -- a refused drive
-  pub refused-keeps : (drive_cause_of (drive_parts_of m most u p car wheels action ms).answer ≡ 0 → ⊥)
+  pub refused-keeps : (c : Cause) → (drive_parts_of m most u p car wheels action ms).answer ≡ Err c
       → ((drive_parts_of m most u p car wheels action ms).progress ≡ p) × ((drive_parts_of m most u p car wheels action ms).car ≡ car)
   unfolding drive_parts_of
-  refused-keeps h =
-      let e = sym (refused-at _ p car (pass_of car action ms (roads_of m wheels)) (λ z. h (number ∙ z))) in
-      (ap (λ (d : DroveParts). d.progress) e, ap (λ (d : DroveParts). d.car) e)
+  refused-keeps c e = kept-at _ _ c e
 
 -- ---- the call on a whole state, put together around the parts that it leaves
-pub drove-from : (m most : ℕ) (s : State) (action : ℕ) (ms : List Motion) (d : DroveParts) → d ≡ drive_parts_of m most s.setup s.progress s.car s.wheels action ms
-    → driven d.answer d.forces (state_of s.setup d.progress d.car s.credited s.wheels s.poses s.seed) ≡ drive_of m most s action ms
+pub drove-from : (m most : ℕ) (s : State) (action : ℕ) (ms : List Motion) {r : Result (List Force) Cause} {p : Progress} {car : Car}
+    → drove_parts r p car ≡ drive_parts_of m most s.setup s.progress s.car s.wheels action ms
+    → driven r (state_of s.setup p car s.credited s.wheels s.poses s.seed) ≡ drive_of m most s action ms
 unfolding drive_of
-drove-from m most s action ms d e = ap (λ (x : DroveParts). driven x.answer x.forces (state_of s.setup x.progress x.car s.credited s.wheels s.poses s.seed)) e
+drove-from m most s action ms e = ap (λ (d : DroveParts). driven d.answer (state_of s.setup d.progress d.car s.credited s.wheels s.poses s.seed)) e

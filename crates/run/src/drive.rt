@@ -1,42 +1,19 @@
 // The call `drive`: forces for the host (document 01, "Drive").
 ghost use Rattle.std.specs.Prelude.{◌≡◌, ℕ, ◌+◌, ◌*◌, ◌^◌, ◌≤◌, ◌<◌, length, get_or};
 ghost use Rattle.run.specs.Grader.Widths.{full_words, most_tiles};
-ghost use Rattle.run.specs.Grader.State.{view, awaiting};
+ghost use Rattle.run.specs.Grader.State.{view};
 ghost use Rattle.run.specs.Grader.Grip.{on_road, roads_of};
 ghost use Rattle.run.specs.Rules.Arguments.{motion_ok, motions_ok};
-ghost use Rattle.run.specs.Rules.Pass.{indicator, front_of, rear_of, tyres_passed, gathered_of, pass_of, no_forces};
-ghost use Rattle.run.specs.Grader.Drive.{drive_cause, drive_parts_of, driven, drive_of};
+ghost use Rattle.run.specs.Rules.Pass.{indicator, front_of, rear_of, tyres_passed, gathered_of, pass_of};
+ghost use Rattle.run.specs.Grader.Drive.{drive_check, drove_parts, drive_parts_of, driven, drive_of};
 ghost use Rattle.run.specs.Steps.Drive.{wheel_as, any_stands};
 
 use crate::dynamics::{Force, Motion, Turned};
 use crate::state::{Car, Progress, Run, Setup, WheelCtl};
 use crate::widths::{FULL_WORDS, MOST_TILES, WHEEL_WORDS};
 use crate::{dynamics, state};
+use course::cause::Cause;
 use course::numeric;
-
-// How a drive is answered: with forces, or refused by a cause's number.
-#[derive(Clone, Copy)]
-pub enum DriveAnswer {
-    Forces,
-    Refused(u32),
-}
-
-// The answer, the forces beside it (0 where it is refused), and the state after.
-#[derive(Clone, Copy)]
-pub struct Drove {
-    pub answer: DriveAnswer,
-    pub forces: [Force; 4],
-    pub run: Run,
-}
-
-// The same of the parts that a drive changes.
-#[derive(Clone, Copy)]
-pub struct DroveParts {
-    pub answer: DriveAnswer,
-    pub forces: [Force; 4],
-    pub progress: Progress,
-    pub car: Car,
-}
 
 // What the tyre pass leaves.
 #[derive(Clone, Copy)]
@@ -200,108 +177,67 @@ fn motions_ok(m: [Motion; 4]) -> bool
     motion_ok(m[0]) & motion_ok(m[1]) & motion_ok(m[2]) & motion_ok(m[3])
 }
 
-// The number of the first cause that holds, or 0.
-#[tactic(auto, unfolding(crate::specs::Grader::Drive::drive_cause))]
-fn drive_cause(most: u32, setup: Setup, progress: Progress, action: u32, motion: [Motion; 4]) -> u32
-    ensures { result ≡ drive_cause most setup progress action motion }
-{
-    if state::is_unfit(most, setup, progress) | progress.ended {
-        return 4;
-    }
-    if progress.driven {
-        return 5;
-    }
-    if setup.tick_limit <= progress.tick {
-        return 6;
-    }
-    if 4 < action {
-        return 7;
-    }
-    if !motions_ok(motion) {
-        return 8;
-    }
-    0
-}
-
-// A settle is awaited.
-fn await_settle(progress: Progress) -> Progress
-    ensures { result ≡ awaiting progress }
-{
-    let mut next = progress;
-    next.driven = true;
-    next
-}
-
-// No force at any wheel.
-fn no_forces() -> [Force; 4]
-    ensures { result ≡ no_forces }
-{
-    let z = Force {
-        motor: 0.0,
-        fx: 0.0,
-        fy: 0.0,
-    };
-    [z, z, z, z]
-}
-
-// The call on the parts that it reads and changes, the wheels' sets lent.
-pub fn drive_parts(
+// Refused by the first cause that holds.
+#[tactic(auto, unfolding(crate::specs::Grader::Drive::drive_check))]
+fn drive_check(
+    most: u32,
     setup: Setup,
     progress: Progress,
-    car: Car,
+    action: u32,
+    motion: [Motion; 4],
+) -> Result<(), Cause>
+    ensures { result ≡ drive_check most setup progress action motion }
+{
+    if state::is_unfit(most, setup, progress) | progress.ended {
+        return Err(Cause::State);
+    }
+    if progress.driven {
+        return Err(Cause::Turn);
+    }
+    if setup.tick_limit <= progress.tick {
+        return Err(Cause::Limit);
+    }
+    if 4 < action {
+        return Err(Cause::Action);
+    }
+    if !motions_ok(motion) {
+        return Err(Cause::Range);
+    }
+    Ok(())
+}
+
+// The call on the parts that it reads and changes, the wheels' sets lent. A refusal leaves them.
+pub fn drive_parts(
+    setup: Setup,
+    progress: &mut Progress,
+    car: &mut Car,
     wheels: &[u64; WHEEL_WORDS],
     action: u32,
     motion: [Motion; 4],
-) -> DroveParts
-    ensures { result ≡ drive_parts_of full_words most_tiles setup progress car wheels.now action motion }
+) -> Result<[Force; 4], Cause>
+    ensures { drove_parts result progress.new car.new
+        ≡ drive_parts_of full_words most_tiles setup progress.old car.old wheels.now action motion }
 {
-    let number = drive_cause(MOST_TILES, setup, progress, action, motion);
-    if number != 0 {
-        return DroveParts {
-            answer: DriveAnswer::Refused(number),
-            forces: no_forces(),
-            progress,
-            car,
-        };
-    }
+    drive_check(MOST_TILES, setup, *progress, action, motion)?;
     let roads = roads_of(wheels, FULL_WORDS);
-    let p = pass(car, action, motion, roads);
-    let after = p.car;
-    let forces = p.forces;
-    DroveParts {
-        answer: DriveAnswer::Forces,
-        forces,
-        progress: await_settle(progress),
-        car: after,
-    }
+    let p = pass(*car, action, motion, roads);
+    *car = p.car;
+    // A settle is awaited.
+    progress.driven = true;
+    Ok(p.forces)
 }
 
-// Forces for the host, or the number of a cause and the state as it was.
-pub fn drive(run: Run, action: u32, motion: [Motion; 4]) -> Drove
-    ensures { driven result.answer result.forces (view result.run)
-        ≡ drive_of full_words most_tiles (view run) action motion }
+// Forces for the host; a refusal leaves the state.
+pub fn drive(run: &mut Run, action: u32, motion: [Motion; 4]) -> Result<[Force; 4], Cause>
+    ensures { driven result (view run.new)
+        ≡ drive_of full_words most_tiles (view run.old) action motion }
 {
-    let setup = run.setup;
-    let credited = run.credited;
-    let wheels = run.wheels;
-    let poses = run.poses;
-    let d = drive_parts(setup, run.progress, run.car, &wheels, action, motion);
-    let answer = d.answer;
-    let forces = d.forces;
-    let progress = d.progress;
-    let car = d.car;
-    let after = Run {
-        setup,
-        progress,
-        car,
-        credited,
-        wheels,
-        poses,
-        seed: run.seed,
-    };
-    Drove {
-        answer,
-        forces,
-        run: after,
-    }
+    drive_parts(
+        run.setup,
+        &mut run.progress,
+        &mut run.car,
+        &run.wheels,
+        action,
+        motion,
+    )
 }

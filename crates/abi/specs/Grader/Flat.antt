@@ -12,7 +12,6 @@ use Rattle.course.specs.declared.points.Laid.{Laid}
 use Rattle.course.specs.declared.curbs.CurbAnswer.{CurbAnswer}
 use Rattle.run.specs.Grader.State.{State}
 use Rattle.run.specs.Grader.Start.{Begun, start_cause_of, start_values_of}
-use Rattle.run.specs.Grader.Drive.{drive_cause_of}
 use Rattle.run.specs.Grader.Settle.{settle_cause_of, settle_values_of}
 use Rattle.run.specs.Grader.Sheet.{no_figures}
 use Rattle.run.specs.Grader.Save.{AfterSave, save_cause_of, save_length_of}
@@ -21,7 +20,7 @@ use Rattle.certificate.specs.Grader.Replay.{Replay}
 use Rattle.run.specs.declared.state.Run.{Run}
 use Rattle.run.specs.declared.start.StartAnswer.{StartAnswer}
 use Rattle.run.specs.declared.state.Progress.{Progress}
-use Rattle.run.specs.declared.drive.DriveAnswer.{DriveAnswer}
+use Rattle.run.specs.declared.dynamics.Force.{Force}
 use Rattle.run.specs.declared.settle.SettleAnswer.{SettleAnswer}
 use Rattle.run.specs.declared.sheet.RunSheet.{RunSheet}
 use Rattle.run.specs.declared.save.SaveAnswer.{SaveAnswer}
@@ -103,8 +102,8 @@ flat_started b =
       run = run_of b.state;
     }
 
-unfoldable pub flat_driven : DriveAnswer → Progress → FlatDriven
-flat_driven a p = record { cause = drive_cause_of a; progress = p }
+unfoldable pub flat_driven : Result (List Force) Cause → Progress → FlatDriven
+flat_driven r p = record { cause = cause_number r; progress = p }
 
 unfoldable pub flat_settled : SettleAnswer → Progress → FlatSettled
 flat_settled a p =

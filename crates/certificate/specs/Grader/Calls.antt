@@ -1,7 +1,7 @@
 -- Document 01, "The plain scorer" (demand 3), and document 02, order 1, the grader's side: a list of drives and settles, each handed the state that the one
 -- before it returned, refused or not; and a list that holds saves and restores too. What a call answers and returns is what its contract says. For states whose sets have m words and take n up
 -- to `most`. Assumes nothing.
-use Rattle.std.specs.Prelude.{List, [], ◌∷◌, ℕ, get_or, take, Float}
+use Rattle.std.specs.Prelude.{List, [], ◌∷◌, ℕ, get_or, take, Float, Result, Ok, Err}
 use Rattle.run.specs.Grader.State.{State, Columns}
 use Rattle.run.specs.Grader.Drive.{drive_of}
 use Rattle.run.specs.Grader.Settle.{settle_of}
@@ -13,8 +13,8 @@ use Rattle.certificate.specs.Rules.Answers.Reply.{answered, decided}
 use Rattle.run.specs.declared.state.Pose.{Pose}
 use Rattle.run.specs.declared.dynamics.Motion.{Motion}
 use Rattle.run.specs.declared.dynamics.Force.{Force}
-use Rattle.run.specs.declared.drive.DriveAnswer.{DriveAnswer}
-use Rattle.run.specs.declared.drive.DriveAnswer.TheVariants.{Forces, Refused as NotDriven}
+use Rattle.course.specs.Grader.Cause.{number_of}
+use Rattle.course.specs.declared.cause.Cause.{Cause}
 use Rattle.run.specs.declared.save.SaveAnswer.{SaveAnswer}
 use Rattle.run.specs.declared.save.SaveAnswer.TheVariants.{Saved, Refused as NotSaved}
 use Rattle.run.specs.declared.restore.RestoreAnswer.{RestoreAnswer}
@@ -32,9 +32,9 @@ pub record Replied : Type 0 where
   pub answer : Answer
   pub state : State
 
-abbrev pub drive_said : DriveAnswer → List Force → Answer
-drive_said Forces fs = drove fs
-drive_said (NotDriven k) fs = refused k
+abbrev pub drive_said : Result (List Force) Cause → Answer
+drive_said (Ok fs) = drove fs
+drive_said (Err c) = refused (number_of c)
 
 abbrev pub settle_said : SettleAnswer → Answer
 settle_said (Settled v) = settled v
@@ -43,7 +43,7 @@ settle_said (NotSettled k) = refused k
 unfoldable pub reply_of : ℕ → ℕ → State → Call → Replied
 reply_of m most s (drive a ms) =
     let d = drive_of m most s a ms in
-    record { answer = drive_said d.answer d.forces; state = d.state }
+    record { answer = drive_said d.answer; state = d.state }
 reply_of m most s (settle l x y ps) =
     let d = settle_of m most s l x y ps in
     record { answer = settle_said d.answer; state = d.state }

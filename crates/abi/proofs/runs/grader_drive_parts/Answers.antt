@@ -2,8 +2,12 @@
 use Rattle.abi.proofs.FlatLaws.{driven-accepted, driven-refused}
 use Rattle.abi.proofs.runs.grader_drive_parts.Goals as goal
 
-pub returns-then-cause-eq0 : goal.returns-then-cause-eq0
-returns-then-cause-eq0 c = driven-accepted _ _ _ _ _ _ _ _ _ c.drive_parts-d.result _ _ _ c.drive_parts-d.ensures c.car_from-before.ensures.value c.motions_lent-given.ensures c.drive_cause-cause.ensures _ _ c.if-cause-eq0.true c.put_car.ensures c.put_forces_lent.ensures
+pub returns-in-Ok : goal.returns-in-Ok
+returns-in-Ok c =
+    driven-accepted _ _ _ _ _ _ _ _ _ _ _ c.drive_parts-said.ensures c.car_from-after.ensures.value c.motions_lent-given.ensures c.cause_number-number.ensures
+    c.in-Ok.is c.put_car.ensures c.put_forces_lent.ensures
 
-pub returns-else-cause-eq0 : goal.returns-else-cause-eq0
-returns-else-cause-eq0 c = driven-refused _ _ _ _ _ _ _ _ _ c.drive_parts-d.result _ _ _ c.drive_parts-d.ensures c.car_from-before.ensures.value c.motions_lent-given.ensures c.drive_cause-cause.ensures c.if-cause-eq0.false c.car_from-before.ensures.result_value
+pub returns-in_default : goal.returns-in_default
+returns-in_default c =
+    driven-refused _ _ _ _ _ _ _ _ _ _ _ c.drive_parts-said.ensures c.car_from-after.ensures.value c.motions_lent-given.ensures c.cause_number-number.ensures
+    c.in_default.is c.car_from-after.ensures.result_value

@@ -11,8 +11,8 @@ pub returns-then-not-room_for : goal.returns-then-not-room_for
 unfolding replay_of laid_answer start_answer
 returns-then-not-room_for c = rw (sym c.room_for.ensures ∙ c.if-not-room_for.true)
 
-pub replies-last-requires : goal.replies-last-requires
-replies-last-requires c =
+pub replies-requires : goal.replies-requires
+replies-requires c =
     let r = room-each (sym c.room_for.ensures ∙ c.if-not-room_for.false) in
     record { many_in_bounds = r.calls; many_in_bounds_2 = r.given; many_in_bounds_3 = r.words; many_in_bounds_4 = r.numbers }
 
@@ -48,8 +48,8 @@ returns c =
       offsets = c.lay-laid.auto.offsets;
       values = c.laid_values-course.ensures;
       start = c.start-s.ensures;
-      state = c.replies-last.ensures.result_value;
-      answered = c.replies-last.ensures.words_after;
-      numbered = c.replies-last.ensures.numbers_after;
+      state = c.replies.ensures.run_after;
+      answered = c.replies.ensures.words_after;
+      numbered = c.replies.ensures.numbers_after;
       sheet = c.sheet.ensures;
     })

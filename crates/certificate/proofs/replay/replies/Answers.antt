@@ -6,8 +6,8 @@ use Rattle.certificate.proofs.replay.replies.Goals as goal
 pub loop-i-init : goal.loop-i-init
 loop-i-init c = no-reply
 
-pub reply-next-requires : goal.reply-next-requires
-reply-next-requires c =
+pub reply-requires : goal.reply-requires
+reply-requires c =
     let whole = own-parts c.loop-i.invariant (c.requires.many_in_bounds, (c.requires.many_in_bounds_2, (c.requires.many_in_bounds_3, c.requires.many_in_bounds_4))) c.loop-i-test.true in
     record { in_bounds = whole.0; in_bounds_2 = whole.1.0; words_len = whole.1.1.0; numbers_len = whole.1.1.1 }
 
@@ -18,7 +18,7 @@ pub loop-i-smaller : goal.loop-i-smaller
 loop-i-smaller c = omega (arith, c.loop-i-test.true)
 
 pub loop-i-preserved : goal.loop-i-preserved
-loop-i-preserved c = one-reply c.loop-i.invariant (c.requires.many_in_bounds, (c.requires.many_in_bounds_2, (c.requires.many_in_bounds_3, c.requires.many_in_bounds_4))) c.loop-i-test.true (c.reply-next.ensures.result_value, (c.reply-next.ensures.words_after, c.reply-next.ensures.numbers_after))
+loop-i-preserved c = one-reply c.loop-i.invariant (c.requires.many_in_bounds, (c.requires.many_in_bounds_2, (c.requires.many_in_bounds_3, c.requires.many_in_bounds_4))) c.loop-i-test.true (c.reply.ensures.run_after, (c.reply.ensures.words_after, c.reply.ensures.numbers_after))
 
 pub shape_of-words : goal.shape_of-words
 shape_of-words c = c.loop-i.invariant.words_long
@@ -29,4 +29,4 @@ shape_of-numbers c = c.loop-i.invariant.numbers-long
 pub returns : goal.returns
 returns c =
     let whole = all-replies c.loop-i.invariant c.loop-i-test.false in
-    record { result_value = whole.0; words_after = whole.1.0; numbers_after = whole.1.1 }
+    record { run_after = whole.0; words_after = whole.1.0; numbers_after = whole.1.1 }

@@ -6,7 +6,7 @@ use Rattle.run.specs.Grader.Widths.{full_words, most_tiles}
 use Rattle.certificate.proofs.replay.replies.Given as goal
 
 abbrev pub invariant-loop-i : goal.invariant-loop-i
-invariant-loop-i l = Replying full_words most_tiles (columns l.tiles l.offsets l.list) l.calls l.given (view l.initial.state) l.initial.words l.initial.numbers l.many (view l.state) l.words l.numbers l.i
+invariant-loop-i l = Replying full_words most_tiles (columns l.tiles l.offsets l.list) l.calls l.given (view l.initial.run) l.initial.words l.initial.numbers l.many (view l.run) l.words l.numbers l.i
 
 abbrev pub decreases-loop-i : goal.decreases-loop-i
 decreases-loop-i l = l.many - l.i

@@ -9,8 +9,8 @@ use Rattle.certificate.proofs.replay.reply.Goals as goal
 
 pub returns-then-asked-eq0 : goal.returns-then-asked-eq0
 returns-then-asked-eq0 c =
-    let whole = answered-as-drive full_words most_tiles (view c.args.run) (columns c.args.tiles.now c.args.offsets.now c.args.list.now) c.args.asked.now c.args.given.now (view c.reply_drive.result) _ _ (eq-eqb _ 0 c.if-asked-eq0.true) (c.reply_drive.ensures.result_value, (c.reply_drive.ensures.words_after, c.reply_drive.ensures.numbers_after)) in
-    record { result_value = whole.0; words_after = whole.1.0; numbers_after = whole.1.1 }
+    let whole = answered-as-drive full_words most_tiles (view c.args.run.now) (columns c.args.tiles.now c.args.offsets.now c.args.list.now) c.args.asked.now c.args.given.now (view c.reply_drive.new.run) _ _ (eq-eqb _ 0 c.if-asked-eq0.true) (c.reply_drive.ensures.run_after, (c.reply_drive.ensures.words_after, c.reply_drive.ensures.numbers_after)) in
+    record { run_after = whole.0; words_after = whole.1.0; numbers_after = whole.1.1 }
 
 pub slice_bounds-reply_settle-end : goal.slice_bounds-reply_settle-end
 slice_bounds-reply_settle-end c = sym (length-take-le _ _ c.upto-most.ensures.upper_bound)
@@ -20,5 +20,5 @@ slice_bounds-reply_settle-end-2 c = sym (length-take-le _ _ c.upto-last.ensures.
 
 pub returns : goal.returns
 returns c =
-    let whole = answered-as-settle full_words most_tiles (view c.args.run) (columns c.args.tiles.now c.args.offsets.now c.args.list.now) c.args.asked.now c.args.given.now (view c.reply_settle.result) _ _ c.upto-most.result c.upto-last.result (ne_eqb _ 0 c.if-asked-eq0.false) c.upto-most.ensures.value c.upto-last.ensures.value (c.reply_settle.ensures.result_value, (c.reply_settle.ensures.words_after, c.reply_settle.ensures.numbers_after)) in
-    record { result_value = whole.0; words_after = whole.1.0; numbers_after = whole.1.1 }
+    let whole = answered-as-settle full_words most_tiles (view c.args.run.now) (columns c.args.tiles.now c.args.offsets.now c.args.list.now) c.args.asked.now c.args.given.now (view c.reply_settle.new.run) _ _ c.upto-most.result c.upto-last.result (ne_eqb _ 0 c.if-asked-eq0.false) c.upto-most.ensures.value c.upto-last.ensures.value (c.reply_settle.ensures.run_after, (c.reply_settle.ensures.words_after, c.reply_settle.ensures.numbers_after)) in
+    record { run_after = whole.0; words_after = whole.1.0; numbers_after = whole.1.1 }

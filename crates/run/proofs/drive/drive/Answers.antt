@@ -5,4 +5,4 @@ use Rattle.run.proofs.drive.drive.Goals as goal
 
 pub returns : goal.returns
 unfolding view
-returns c = drove-from _ _ (view c.args.run) _ _ _ c.drive_parts-d.ensures
+returns c = drove-from _ _ (view c.args.run.now) _ _ c.drive_parts.ensures
