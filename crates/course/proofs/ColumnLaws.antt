@@ -1,5 +1,5 @@
 -- A column that is written from the front: the entries so far, and the rest as it was. Assumes nothing.
-use Rattle.std.proofs.Common.{◌≡◌, ℕ, suc, ◌+◌, ◌-◌, ◌<◌, ◌≤◌, List, [], ◌∷◌, ◌++◌, length, get_or, take, drop, set, replicate, sym, refl, ap, ap₂, ◌∙◌, subst, append-nil, append_assoc, add-one, arith, length-append, length-drop, length-set, length-take-le, take_at, drop-cons, drop-drop}
+use Rattle.std.proofs.Common.{◌≡◌, ℕ, suc, ◌+◌, ◌-◌, ◌<◌, ◌≤◌, List, [], ◌∷◌, ◌++◌, length, get_or, take, drop, set, replicate, sym, refl, ap, ap₂, ◌∙◌, append_assoc, add-one, arith, length-append, length-drop, length-set, length-take-le, take_at, drop-cons, drop-drop}
 use lib.Seq.{drop-append-add, set_at, append_snoc}
 use lib.Ieee.{Float}
 use Rattle.course.specs.Steps.Tiles.{puts}

@@ -9,7 +9,6 @@ use Rattle.course.specs.Grader.Points.{given_cause, given_of, all_good}
 use Rattle.course.specs.Grader.Curbs.{curb_room, after_of, bordered, curb_quad, white_of, quads_to, whites_to, filled_marks, Edged, edged, curb_answer, curb_cause_of, curb_count_of, curb_cause, curbs_at, curbs_call}
 use Rattle.course.specs.Steps.Tiles.{Curbed, CurbsTo}
 use Rattle.course.specs.declared.curbs.CurbAnswer.{CurbAnswer}
-use Rattle.course.specs.declared.tiles.TrackPoint.{TrackPoint}
 use Rattle.course.specs.declared.curbs.CurbAnswer.TheVariants.{Count, Refused}
 use Rattle.course.proofs.LengthLaws.{column_fits, column-small}
 use Rattle.course.proofs.ColumnLaws.{Grown, grown-more, puts-grown, drop_past}
@@ -63,27 +62,6 @@ module _ (b e n : List Float) (k : ℕ) (q : List Float) (w : List ℕ) where
   pub curbs-more : (i m : ℕ) (q1 : List Float) (w1 : List ℕ) (m' : ℕ) (q2 : List Float) (w2 : List ℕ) → i * 8 + 8 ≤ length q → i < length w → CurbsTo b e n k i m q w q1 w1
       → Curbed (bordered b k i) (curb_quad (point_at b e n i) (point_at b e n (before_of k i))) (white_of i) m q1 w1 m' q2 w2 → CurbsTo b e n k (i + 1) m' q w q2 w2
   curbs-more i m q1 w1 m' q2 w2 hq hw t s = subst (λ (z : ℕ). CurbsTo b e n k z m' q w q2 w2) (sym (add-one i)) (next i m q1 w1 m' q2 w2 hq hw t s)
-
--- a step of the code: the quad between a point and the one before
-pub quad-between : (b e n : List Float) (k i : ℕ) {c : List (List Float)} {p q : TrackPoint} {j : ℕ} → c ≡ curb_quad p q → p ≡ point_at b e n i → q ≡ point_at b e n j → j ≡ before_of k i
-    → c ≡ curb_quad (point_at b e n i) (point_at b e n (before_of k i))
-quad-between b e n k i ec ep eq ej = ec ∙ ap₂ curb_quad ep (eq ∙ ap (point_at b e n) ej)
-
-pub curb-kept : {has : Bool} {quad : List (List Float)} {mark m : ℕ} {q : List Float} {w : List ℕ} → has ≡ false → Curbed has quad mark m q w m q w
-curb-kept {has = true} h = absurd (subst (λ (z : Bool). cond z (Unit {0}) ⊥) h tt)
-curb-kept {has = false} {m = m} h = record { count = none m; quads = refl; white = refl }
-  where
-    none : (m : ℕ) → m ≡ m + 0
-    none m = omega arith
-
-pub curb-put : {has : Bool} {quad quad' : List (List Float)} {mark mark' m : ℕ} {q q' : List Float} {w w' : List ℕ} → has ≡ true → quad' ≡ quad → mark' ≡ mark
-    → q' ≡ puts (eight quad') (m * 8) q → w' ≡ set w m mark' → Curbed has quad mark m q w (m + 1) q' w'
-curb-put {has = true} {m = m} {q = q} {w = w} h eq em pq pw = record {
-  count = refl;
-  quads = pq ∙ ap (λ (z : List (List Float)). puts (eight z) (m * 8) q) eq;
-  white = pw ∙ ap (λ (z : ℕ). set w m z) em;
-}
-curb-put {has = false} h eq em pq pw = absurd (subst (λ (z : Bool). cond z ⊥ (Unit {0})) h tt)
 
 -- ---- the call
 -- what is known where no cause holds, with columns for z curbs
@@ -143,9 +121,6 @@ all-edged z b e n k m q q1 q2 w w1 w2 c h t pq pw =
   where
     same-edged : {r r' : CurbAnswer} {q q' : List Float} {w w' : List ℕ} → r ≡ r' → q ≡ q' → w ≡ w' → edged r q w ≡ edged r' q' w'
     same-edged pr pq pw = λ i. edged (pr i) (pq i) (pw i)
-
-pub curbs-at : (b e n : List Float) (k i m : ℕ) (q q1 : List Float) (w w1 : List ℕ) → CurbsTo b e n k i m q w q1 w1 → i ≡ k → CurbsTo b e n k k m q w q1 w1
-curbs-at b e n k i m q q1 w w1 t h = subst (λ (z : ℕ). CurbsTo b e n k z m q w q1 w1) h t
 
 -- ---- an answer gives its number back, and a count's answer the count
 pub curb-number-back : (k m : ℕ) → curb_cause_of (curb_answer k m) ≡ k

@@ -17,8 +17,7 @@ loop-i-init c = (edges-first _ _ _ _ _ _ c.edges_at-last.ensures c.point_at.ensu
 pub loop-i-preserved : goal.loop-i-preserved
 loop-i-preserved c =
     let l = c.loop-i in
-    let t = c.loop-i-test.true in
-    (
+    let t = c.loop-i-test.true in (
       edges-kept _ _ _ _ l.i _ _ c.edges_at-e.ensures c.point_at-in-loop-i.ensures,
       tiles_more _ _ _ _ _ l.i (omega (arith, t, c.requires)) (tile-given _ _ _ _ _ _ _ _ t c.tile_quad.ensures (c.edges_at-e.ensures ∙ ap edges_at c.point_at-in-loop-i.ensures) l.invariant.0) c.put_quad.ensures l.invariant.1,
     )

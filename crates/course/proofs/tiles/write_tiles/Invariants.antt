@@ -2,7 +2,7 @@
 use Rattle.course.proofs.ColumnLaws.{Grown}
 use Rattle.course.specs.Rules.Tiles.{point_at, points_of, before_of, tiles_to}
 use Rattle.course.specs.Steps.Tiles.{edges_at}
-use Rattle.std.proofs.Common.{◌≡◌, ◌*◌, ◌≤◌, length}
+use Rattle.std.proofs.Common.{◌≡◌, ◌*◌}
 use Rattle.course.proofs.tiles.write_tiles.Given as goal
 
 abbrev pub invariant-loop-i : goal.invariant-loop-i
