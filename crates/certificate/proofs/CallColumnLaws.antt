@@ -31,9 +31,7 @@ use Rattle.run.specs.Rules.Pass.{no_forces}
 use Rattle.std.specs.Prelude.{Result, Ok, Err}
 use Rattle.course.specs.Grader.Cause.{number_of}
 use Rattle.course.specs.declared.cause.Cause.{Cause}
-use Rattle.run.specs.declared.settle.SettleAnswer.{SettleAnswer}
 use Rattle.run.specs.declared.settle.SettleValues.{SettleValues}
-use Rattle.run.specs.declared.settle.SettleAnswer.TheVariants.{Settled, Refused as NotSettled}
 use Rattle.run.specs.declared.dynamics.Force.{Force}
 
 -- ---- writing
@@ -80,19 +78,20 @@ unfolding words_of numbers_of
 written-not-driven r ws ns c k e n h z =
     subst (λ (x : Result (List Force) Cause). DriveWritten x ws ns) (sym e) (h ∙ ap (λ (x : ℕ). 2 ∷ x ∷ 0 ∷ 0 ∷ []) n, z)
 
-abbrev SettleWritten : SettleAnswer → List ℕ → List Float → Type 0
-SettleWritten a ws ns = (ws ≡ words_of (settle_said a)) × (ns ≡ numbers_of (settle_said a))
+abbrev SettleWritten : Result SettleValues Cause → List ℕ → List Float → Type 0
+SettleWritten r ws ns = (ws ≡ words_of (settle_said r)) × (ns ≡ numbers_of (settle_said r))
 
-pub written-settled : (a : SettleAnswer) (ws : List ℕ) (ns : List Float) (v : SettleValues) (f : ℕ) → a ≡ Settled v
-    → f ≡ digit v.off + 2 * digit v.lap + 4 * digit v.ended → ws ≡ 1 ∷ v.new_tiles ∷ v.n ∷ f ∷ [] → ns ≡ replicate answer_numbers nought → SettleWritten a ws ns
+pub written-settled : (r : Result SettleValues Cause) (ws : List ℕ) (ns : List Float) (v : SettleValues) (f : ℕ) → r ≡ Ok v
+    → f ≡ digit v.off + 2 * digit v.lap + 4 * digit v.ended → ws ≡ 1 ∷ v.new_tiles ∷ v.n ∷ f ∷ [] → ns ≡ replicate answer_numbers nought → SettleWritten r ws ns
 unfolding words_of numbers_of
-written-settled a ws ns v f e g h k =
-    subst (λ (x : SettleAnswer). SettleWritten x ws ns) (sym e) (h ∙ ap (λ (x : ℕ). 1 ∷ v.new_tiles ∷ v.n ∷ x ∷ []) g, k)
+written-settled r ws ns v f e g h k =
+    subst (λ (x : Result SettleValues Cause). SettleWritten x ws ns) (sym e) (h ∙ ap (λ (x : ℕ). 1 ∷ v.new_tiles ∷ v.n ∷ x ∷ []) g, k)
 
-pub written-not-settled : (a : SettleAnswer) (ws : List ℕ) (ns : List Float) (c : ℕ) → a ≡ NotSettled c
-    → ws ≡ 2 ∷ c ∷ 0 ∷ 0 ∷ [] → ns ≡ replicate answer_numbers nought → SettleWritten a ws ns
+pub written-not-settled : (r : Result SettleValues Cause) (ws : List ℕ) (ns : List Float) (c : Cause) (k : ℕ) → r ≡ Err c → k ≡ number_of c
+    → ws ≡ 2 ∷ k ∷ 0 ∷ 0 ∷ [] → ns ≡ replicate answer_numbers nought → SettleWritten r ws ns
 unfolding words_of numbers_of
-written-not-settled a ws ns c e h k = subst (λ (x : SettleAnswer). SettleWritten x ws ns) (sym e) (h, k)
+written-not-settled r ws ns c k e n h z =
+    subst (λ (x : Result SettleValues Cause). SettleWritten x ws ns) (sym e) (h ∙ ap (λ (x : ℕ). 2 ∷ x ∷ 0 ∷ 0 ∷ []) n, z)
 
 -- ---- one call
 
@@ -109,7 +108,7 @@ answered-drive m most s a ms g r after ws ns e f h k =
     let q : driven r after ≡ drive_of m most s a (motions_from g) = f ∙ ap (drive_of m most s a) e in
     (ap (λ (d : Driven). d.state) q, (h ∙ ap (λ (d : Driven). words_of (drive_said d.answer)) q, k ∙ ap (λ (d : Driven). numbers_of (drive_said d.answer)) q))
 
-pub answered-settle : (m most : ℕ) (s : State) (l : Columns) (x y : Float) (ps : List Pose) (g : List Float) (a : SettleAnswer) (after : State) (ws : List ℕ) (ns : List Float)
+pub answered-settle : (m most : ℕ) (s : State) (l : Columns) (x y : Float) (ps : List Pose) (g : List Float) (a : Result SettleValues Cause) (after : State) (ws : List ℕ) (ns : List Float)
     → ps ≡ poses_from g → after_settle a after ≡ settle_of m most s l x y ps → ws ≡ words_of (settle_said a) → ns ≡ numbers_of (settle_said a)
     → Answered m most s (settle l x y (poses_from g)) after ws ns
 unfolding reply_of

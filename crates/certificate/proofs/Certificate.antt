@@ -31,7 +31,7 @@ use Rattle.run.specs.Grader.Save.{save_answer, save_cause, save_at, save_of, sav
 use Rattle.run.specs.Grader.Restore.{restore_answer, AfterRestore, after_restore, restore_of, restore_cause_of}
 use Rattle.run.specs.Grader.Drive.{drive_check, drive_at, drive_parts_of, drive_of}
 use Rattle.course.specs.Grader.Cause.{number_of}
-use Rattle.run.specs.Grader.Settle.{settle_answer, settle_cause, settle_at, settle_parts_of, poses_after, settle_poses_of, settle_of}
+use Rattle.run.specs.Grader.Settle.{settle_check, settle_at, settle_parts_of, poses_after, settle_poses_of, settle_of}
 use Rattle.certificate.specs.Rules.Answers.{Answer, Reply}
 use Rattle.certificate.specs.Rules.Answers.Answer.{refused}
 use Rattle.certificate.specs.Rules.Answers.Reply.{answered, decided}
@@ -58,7 +58,7 @@ fits64 x = fitsIn binary64 x
 
 -- ---- after a refused start: the state of zeros refuses every call by 4 and stays
 zeros-refuse : (m most : ℕ) (g : Call) → reply_of m most (zero_state m) g ≡ record { answer = refused 4; state = zero_state m }
-unfolding reply_of zero_state first_progress drive_of drive_parts_of drive_check drive_at number_of settle_of settle_poses_of settle_parts_of settle_cause settle_at settle_answer poses_after unfit
+unfolding reply_of zero_state first_progress drive_of drive_parts_of drive_check drive_at number_of settle_of settle_poses_of settle_parts_of settle_check settle_at poses_after unfit
 zeros-refuse m most (Call.drive a ms) = refl
 zeros-refuse m most (Call.settle l x y ps) = refl
 

@@ -25,7 +25,7 @@ use Rattle.run.specs.Rules.Pass.{pass_of}
 use Rattle.run.specs.Grader.Start.{setup_of, first_progress, start_answer, first_contact, started_by}
 use Rattle.run.specs.Grader.Drive.{DroveParts, drive_check, drive_at, drive_parts_of, drive_of}
 use Rattle.course.specs.Grader.Cause.{number_of, cause_number}
-use Rattle.run.specs.Grader.Settle.{settle_answer, settle_cause, settled_progress, SettledParts, settled_parts, settled_by, settle_at, settle_parts_of, poses_after, settle_poses_of, settle_of}
+use Rattle.run.specs.Grader.Settle.{settle_check, settled_progress, SettledParts, settled_parts, settled_by, settle_at, settle_parts_of, poses_after, settle_poses_of, settle_of}
 use Rattle.certificate.specs.Grader.Calls.{Call, Replied, drive_said, settle_said, reply_of}
 use Rattle.certificate.specs.Claim.Scorer.{Opening, Told, History, opening, drives, settles, last_poses, off, Scored, touch, touches, touched, touched_count, new_tiles, meets_lap, lap_done, over, ended, grip, grips, passed, drive_number, settle_number, drive_score, settle_score, score}
 use Rattle.certificate.specs.Claim.Scorer.History.{begun, then_drive, then_settle}
@@ -39,8 +39,9 @@ use Rattle.course.proofs.BoolLaws.{right-false, cond-else, cond-skip, cleared}
 use Rattle.run.proofs.WordLaws.{get_d-zeros, how_many-cong, how_many-or, set_of-cong}
 use Rattle.run.proofs.CreditLaws.{few, empty-words}
 use Rattle.run.proofs.AnyLaws.{any_none}
-use Rattle.run.proofs.RefusalLaws.{number-some}
+use Rattle.run.proofs.RefusalLaws.{number-some, none-number}
 use Rattle.run.proofs.DriveLaws.{drive-cause-number}
+use Rattle.run.proofs.CallLaws.{settle-cause-number}
 use Rattle.std.specs.Prelude.{Result, Ok, Err}
 use Rattle.course.specs.declared.cause.Cause.{Cause}
 use Rattle.certificate.specs.Rules.Answers.Answer.{refused}
@@ -189,10 +190,11 @@ module _ (m most : ℕ) (c : List TrackPoint) (room : most ≤ 64 * m) (some : 0
 
   -- ---- settle
   settle-number : (label : CourseLabel) (h : History) → InTurn h → (l : Columns) (x y : Float) (ps : List Pose) → (short_of (length c) l ≡ false → HoldsCourse l)
-      → settle_cause most (setup_of (settings_for (length c) label (opening h))) (progress_by c h) l x y ps ≡ settle_number c h (lengths_of l) x y ps
-  unfolding settle_cause settle_number short_of lengths_of setup_of
+      → cause_number (settle_check most (setup_of (settings_for (length c) label (opening h))) (progress_by c h) l x y ps) ≡ settle_number c h (lengths_of l) x y ps
+  unfolding settle_number short_of lengths_of setup_of
   settle-number label h v l x y ps w =
-      rw (fits-state label h)
+      settle-cause-number most (setup_of (settings_for (length c) label (opening h))) (progress_by c h) l x y ps
+      ∙ rw (fits-state label h)
       (cond-else (ended c h) 4 _ _ (λ e₁.
       cond-else (not (ltb (settles h) (drives h))) 5 _ _ (λ e₂.
       cond-skip (leb (opening h).limit (settles h)) 6 _ (lt-leb (opening h).limit (settles h) (v.time (ltb-true _ _ (not-false _ e₂))))
@@ -244,17 +246,22 @@ module _ (m most : ℕ) (c : List TrackPoint) (room : most ≤ 64 * m) (some : 0
         };
       }
 
-  settle-at : (label : CourseLabel) (h : History) → InTurn h → (l : Columns) (x y : Float) (ps : List Pose) (k : ℕ) → (k ≡ 0 → HoldsCourse l)
-      → settled_from label h ps (settle_at m k (setup_of (settings_for (length c) label (opening h))) (progress_by c h) (credited_by m (length c) held (touched c h)) (wheels_by m (length c) held (touch c (last_poses h))) l x y ps)
-      ≡ with_state label (settle_score c k h x y ps)
-  unfolding settle_at settle_answer settle_score settled_by poses_after setup_of off last_poses opening passed
-  settle-at label h v l x y ps zero w =
+  settle-refused : (k : ℕ) (h : History) (x y : Float) (ps : List Pose) → (k ≡ 0 → ⊥) → record { answer = refused k; kept = h } ≡ settle_score c k h x y ps
+  unfolding settle_score
+  settle-refused zero h x y ps n = absurd (n refl)
+  settle-refused (suc k) h x y ps n = refl
+
+  settle-at : (label : CourseLabel) (h : History) → InTurn h → (l : Columns) (x y : Float) (ps : List Pose) (r : Result Unit Cause) → (r ≡ Ok tt → HoldsCourse l)
+      → settled_from label h ps (settle_at m r (setup_of (settings_for (length c) label (opening h))) (progress_by c h) (credited_by m (length c) held (touched c h)) (wheels_by m (length c) held (touch c (last_poses h))) l x y ps)
+      ≡ with_state label (settle_score c (cause_number r) h x y ps)
+  unfolding cause_number settle_at settle_score settled_by poses_after setup_of off last_poses opening passed
+  settle-at label h v l x y ps (Ok none) w =
       ap (λ (g : Contacted). settled_from label h ps (settled_by (setup_of (settings_for (length c) label (opening h))) (progress_by c h) (off_field x y) g)) (settle-contact h l x y ps (w refl))
-      ∙ ap (λ (p : Progress). settled_from label h ps (settled_parts (settle_answer zero (values p)) p (credited_by m (length c) held (touched c (then_settle h x y ps))) (wheels_by m (length c) held (touch c ps)))) (settled-progress label h v x y ps)
+      ∙ ap (λ (p : Progress). settled_from label h ps (settled_parts (Ok (values p)) p (credited_by m (length c) held (touched c (then_settle h x y ps))) (wheels_by m (length c) held (touch c ps)))) (settled-progress label h v x y ps)
     where
       values : Progress → SettleValues
       values p = record { new_tiles = new_tiles c h ps; n = length c; off = off_field x y; lap = p.lap; ended = p.ended }
-  settle-at label h v l x y ps (suc k) w = refl
+  settle-at label h v l x y ps (Err b) w = ap (with_state label) (settle-refused (number_of b) h x y ps (number-some b))
 
   -- an accepted settle was lent columns that are long enough
   long-enough : (h : History) (l : Columns) (x y : Float) (ps : List Pose) → settle_number c h (lengths_of l) x y ps ≡ 0 → short_of (length c) l ≡ false
@@ -278,6 +285,6 @@ module _ (m most : ℕ) (c : List TrackPoint) (room : most ≤ 64 * m) (some : 0
       drive-at label h v a ms (roads_of m (wheels_by m (length c) held (touch c (last_poses h)))) (drive_check most (setup_of (settings_for (length c) label (opening h))) (progress_by c h) a ms) (roads-are h)
       ∙ ap (λ (k : ℕ). with_state label (drive_score c k h a ms)) (drive-number label h a ms)
   reply-is label h v (Call.settle l x y ps) w =
-      ap (λ (k : ℕ). settled_from label h ps (settle_at m k (setup_of (settings_for (length c) label (opening h))) (progress_by c h) (credited_by m (length c) held (touched c h)) (wheels_by m (length c) held (touch c (last_poses h))) l x y ps))
-      (settle-number label h v l x y ps w)
-      ∙ settle-at label h v l x y ps (settle_number c h (lengths_of l) x y ps) (λ e. w (long-enough h l x y ps e))
+      let r = settle_check most (setup_of (settings_for (length c) label (opening h))) (progress_by c h) l x y ps in
+      settle-at label h v l x y ps r (λ e. w (long-enough h l x y ps (sym (settle-number label h v l x y ps w) ∙ ap cause_number e ∙ none-number tt)))
+      ∙ ap (λ (k : ℕ). with_state label (settle_score c k h x y ps)) (settle-number label h v l x y ps w)

@@ -8,7 +8,7 @@ ghost use Rattle.certificate.specs.Grader.CallColumns.{answer_numbers, words_of,
 
 use course::cause::Cause;
 use run::dynamics::Force;
-use run::settle::SettleAnswer;
+use run::settle::SettleValues;
 
 // An answer's four words.
 fn put_words(a: u32, b: u32, c: u32, d: u32, words: &mut [u32])
@@ -103,7 +103,11 @@ fn flags(off: bool, lap: bool, ended: bool) -> u32
 }
 
 // The answer to a settle.
-pub(crate) fn put_settle(answer: SettleAnswer, words: &mut [u32], numbers: &mut [f64])
+pub(crate) fn put_settle(
+    answer: Result<SettleValues, Cause>,
+    words: &mut [u32],
+    numbers: &mut [f64],
+)
     requires words_len { length words.old ≡ 4 }
     requires numbers_len { length numbers.old ≡ 12 }
     ensures words_after { words.new ≡ words_of (settle_said answer) }
@@ -111,11 +115,11 @@ pub(crate) fn put_settle(answer: SettleAnswer, words: &mut [u32], numbers: &mut 
 {
     put_zeros(numbers);
     match answer {
-        SettleAnswer::Settled(v) => {
+        Ok(v) => {
             put_words(1, v.new_tiles, v.n, flags(v.off, v.lap, v.ended), words);
         }
-        SettleAnswer::Refused(k) => {
-            put_words(2, k, 0, 0, words);
+        Err(cause) => {
+            put_words(2, cause.number(), 0, 0, words);
         }
     }
 }

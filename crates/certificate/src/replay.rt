@@ -51,11 +51,8 @@ fn reply_drive(run: &mut Run, action: u32, given: &[f64], words: &mut [u32], num
         ≡ numbers_of
         (reply_of full_words most_tiles (view run.old) (Call.drive action (motions_from given.now))).answer }
 {
-    answer::put_drive(
-        drive::drive(run, action, call::motions(given)),
-        words,
-        numbers,
-    );
+    let said = drive::drive(run, action, call::motions(given));
+    answer::put_drive(said, words, numbers);
 }
 
 // A settle on the lent columns from the numbers of its call, and its answer.
@@ -84,8 +81,8 @@ fn reply_settle(
         (Call.settle (columns tiles.now offsets.now list.now)
         (number_at given.now 0) (number_at given.now 1) (poses_from given.now))).answer }
 {
-    let d = settle::settle(
-        *run,
+    let said = settle::settle(
+        run,
         tiles,
         offsets,
         list,
@@ -93,8 +90,7 @@ fn reply_settle(
         given[1],
         call::poses(given),
     );
-    answer::put_settle(d.answer, words, numbers);
-    *run = d.run;
+    answer::put_settle(said, words, numbers);
 }
 
 // The call that four words and twenty numbers hold, and its answer.

@@ -1,5 +1,5 @@
 -- What start and settle answer, by their causes and by the contact. Assumes nothing.
-use mathlib.Core.Bool.{Bool, true, false, not, ◌&&◌, ◌||◌}
+use mathlib.Core.Bool.{Bool, true, false, cond, not, ◌&&◌, ◌||◌}
 use mathlib.Core.List.{List}
 use mathlib.Core.Path.{◌≡◌, refl, sym, ap, ap₂, ◌∙◌, subst}
 use Prim.Native.Nat.{ℕ, zero, suc, ◌*◌, ◌≤◌, ◌<◌}
@@ -22,14 +22,18 @@ use Rattle.run.specs.Grader.Numbers.{pose_numbers}
 use Rattle.run.specs.Rules.Lap.{lap_of, off_field}
 use Rattle.run.specs.Grader.Start.{Settings, start_short, start_cause, start_answer, setup_of, first_progress, zero_state, begun, first_contact, started_by, start_at, start_of}
 use Rattle.run.specs.Rules.Pass.{still_car}
-use Rattle.run.specs.Grader.Settle.{settle_cause, settle_answer, settled_progress, SettledParts, settled_parts, settled_by, settle_at, settle_parts_of, poses_after, SettledPoses, settled_poses, settle_poses_of, after_settle, settle_of}
+use Rattle.run.specs.Grader.Settle.{settle_check, settled_progress, SettledParts, settled_parts, settled_by, settle_at, settle_parts_of, poses_after, SettledPoses, settled_poses, settle_poses_of, after_settle, settle_of}
 use Rattle.run.specs.declared.state.Setup.{Setup}
 use Rattle.run.specs.declared.state.Progress.{Progress}
 use Rattle.run.specs.declared.state.Car.{Car}
 use Rattle.run.specs.declared.state.Pose.{Pose}
 use Rattle.run.specs.declared.start.StartAnswer.TheVariants.{Started, Refused}
-use Rattle.run.specs.declared.settle.SettleAnswer.{SettleAnswer}
-use Rattle.run.specs.declared.settle.SettleAnswer.TheVariants.{Settled, Refused as NotSettled}
+use Rattle.run.specs.declared.settle.SettleValues.{SettleValues}
+use Rattle.std.specs.Prelude.{Result, Ok, Err}
+use Rattle.course.specs.Grader.Cause.{number_of, cause_number}
+use Rattle.course.specs.declared.cause.Cause.{Cause}
+use Rattle.course.specs.declared.cause.Cause.TheVariants.{State as NoRun, Length, Turn, Limit, Range, Index}
+use Rattle.run.proofs.RefusalLaws.{first-number, none-number, met-none}
 
 -- the lent tiles are long enough for n of them
 pub long : (tiles offsets n most : ℕ) → short_columns n tiles offsets ≡ false → ltb most n ≡ false → most ≤ most_points → n * 8 ≤ tiles
@@ -85,15 +89,15 @@ pub record SettleFacts (most : ℕ) (u : Setup) (p : Progress) (l : Columns) (ps
   pub tiles : u.n * 8 ≤ length l.tiles
   pub sound : sound_poses l.offsets l.list u.n ps ≡ true
 
-pub settle-facts : (most : ℕ) (u : Setup) (p : Progress) (l : Columns) (x y : Float) (ps : List Pose) → most ≤ most_points → settle_cause most u p l x y ps ≡ 0 → SettleFacts most u p l ps
-unfolding settle_cause unfit short_of
+pub settle-facts : (most : ℕ) (u : Setup) (p : Progress) (l : Columns) (x y : Float) (ps : List Pose) → most ≤ most_points → Ok tt ≡ settle_check most u p l x y ps → SettleFacts most u p l ps
+unfolding settle_check unfit short_of
 settle-facts most u p l x y ps m h =
-    let a = cleared (unfit most u p || p.ended) 3 _ h in
-    let b = cleared (not p.driven) 4 _ a.1 in
-    let c = cleared (leb u.tick_limit p.tick) 5 _ b.1 in
-    let d = cleared (short_of u.n l) 1 _ c.1 in
-    let e = cleared (not (places_ok x y ps)) 7 _ d.1 in
-    let v = cleared (not (sound_poses l.offsets l.list u.n ps)) 9 0 e.1 in
+    let a = met-none (unfit most u p || p.ended) NoRun _ h in
+    let b = met-none (not p.driven) Turn _ a.1 in
+    let c = met-none (leb u.tick_limit p.tick) Limit _ b.1 in
+    let d = met-none (short_of u.n l) Length _ c.1 in
+    let e = met-none (not (places_ok x y ps)) Range _ d.1 in
+    let v = met-none (not (sound_poses l.offsets l.list u.n ps)) Index _ e.1 in
     let f = or_no (unfit most u p) p.ended a.0 in
     let g = or_no (ltb u.n 1 || ltb most u.n) (ltb u.n p.visited_count) f.0 in
     let k = or_no (ltb u.n 1) (ltb most u.n) g.0 in
@@ -106,42 +110,46 @@ settle-facts most u p l x y ps m h =
       sound = not-false (sound_poses l.offsets l.list u.n ps) v.0;
     }
 
--- the number of a cause, 0 for none, was found for a settle
-pub record SettleCaused (most : ℕ) (u : Setup) (p : Progress) (l : Columns) (x y : Float) (ps : List Pose) (k : ℕ) : Type 0 where
-  pub cause : k ≡ settle_cause most u p l x y ps
+-- the number of its cause
+pub settle-cause-number : (most : ℕ) (u : Setup) (p : Progress) (l : Columns) (x y : Float) (ps : List Pose)
+    → cause_number (settle_check most u p l x y ps)
+    ≡ cond (unfit most u p || p.ended) 4
+    (cond (not p.driven) 5
+    (cond (leb u.tick_limit p.tick) 6
+    (cond (short_of u.n l) 2 (cond (not (places_ok x y ps)) 8 (cond (not (sound_poses l.offsets l.list u.n ps)) 10 0)))))
+unfolding settle_check number_of
+settle-cause-number most u p l x y ps = simp (first-number, none-number)
 
-pub settle-refused : (m : ℕ) {most : ℕ} {u : Setup} {p : Progress} {c w : List ℕ} {l : Columns} {x y : Float} {ps : List Pose} {k : ℕ} → SettleCaused most u p l x y ps k → (k ≡ 0 → ⊥)
-    → settled_parts (NotSettled k) p c w ≡ settle_parts_of m most u p c w l x y ps
-unfolding settle_parts_of settle_at settle_answer
-settle-refused m {k = zero} h n = absurd (n refl)
-settle-refused m {u = u} {p = p} {c = c} {w = w} {l = l} {x = x} {y = y} {ps = ps} {k = suc k} h n = ap (λ (j : ℕ). settle_at m j u p c w l x y ps) h.cause
+-- a cause was found for a settle
+pub record SettleCaused (most : ℕ) (u : Setup) (p : Progress) (l : Columns) (x y : Float) (ps : List Pose) (e : Cause) : Type 0 where
+  pub cause : Err e ≡ settle_check most u p l x y ps
+
+pub settle-refused : (m : ℕ) {most : ℕ} {u : Setup} {p : Progress} {c w : List ℕ} {last : List Float} {l : Columns} {x y : Float} {ps : List Pose} {r : Result SettleValues Cause} {e : Cause}
+    → SettleCaused most u p l x y ps e → r ≡ Err e → settled_poses (settled_parts r p c w) last ≡ settle_poses_of m most u p c w last l x y ps
+unfolding settle_poses_of settle_parts_of settle_at poses_after
+settle-refused m {u = u} {p = p} {c = c} {w = w} {last = last} {l = l} {x = x} {y = y} {ps = ps} h is =
+    ap (λ (r : Result SettleValues Cause). settled_poses (settled_parts r p c w) last) is
+    ∙ ap (λ (d : SettledParts). settled_poses d (poses_after d.answer ps last)) (ap (λ (r : Result Unit Cause). settle_at m r u p c w l x y ps) h.cause)
 
 -- what each call of an accepted settle leaves
-pub record SettleCalls (m most : ℕ) (u : Setup) (p : Progress) (c w : List ℕ) (l : Columns) (x y : Float) (ps : List Pose) (k : ℕ) (c' w' : List ℕ) (f : ℕ) (z o : Bool) (next : Progress) : Type 0 where
-  pub cause : k ≡ settle_cause most u p l x y ps
-  pub none : k ≡ 0
+pub record SettleCalls (m most : ℕ) (u : Setup) (p : Progress) (c w : List ℕ) (l : Columns) (x y : Float) (ps : List Pose) (c' w' : List ℕ) (f : ℕ) (z o : Bool) (next : Progress) (last' : List Float) : Type 0 where
+  pub none : Ok tt ≡ settle_check most u p l x y ps
   pub contact : contacted c' w' f z ≡ contact_of m c w (λ v. touched_by l.tiles l.offsets l.list (quad_of ps v))
   pub off : o ≡ off_field x y
   pub progress : next ≡ settled_progress u p f z o
+  pub poses : last' ≡ pose_numbers ps
 
-pub settle-accepted : {m most : ℕ} {u : Setup} {p : Progress} {c w : List ℕ} {l : Columns} {x y : Float} {ps : List Pose} {k : ℕ} {c' w' : List ℕ} {f : ℕ} {z o : Bool} {next : Progress}
-    → SettleCalls m most u p c w l x y ps k c' w' f z o next
-    → settled_parts (Settled (record { new_tiles = f; n = u.n; off = o; lap = next.lap; ended = next.ended })) next c' w' ≡ settle_parts_of m most u p c w l x y ps
-unfolding settle_parts_of settle_at settle_answer settled_by
-settle-accepted {m} {u = u} {p = p} {c = c} {w = w} {l = l} {x = x} {y = y} {ps = ps} {c' = c'} {w' = w'} {f = f} {o = o} h =
-    (λ i. settled_parts (Settled (record { new_tiles = f; n = u.n; off = o; lap = (h.progress i).lap; ended = (h.progress i).ended })) (h.progress i) c' w')
-    ∙ ap₂ (settled_by u p) h.off h.contact ∙ ap (λ (j : ℕ). settle_at m j u p c w l x y ps) (sym h.none ∙ h.cause)
-
--- the same with the last poses, kept by the answer
-pub settled-poses : (m most : ℕ) (u : Setup) (p : Progress) (c w : List ℕ) (last : List Float) (l : Columns) (x y : Float) (ps : List Pose) (r : SettleAnswer) (p' : Progress) (c' w' : List ℕ) (last' : List Float)
-    → settled_parts r p' c' w' ≡ settle_parts_of m most u p c w l x y ps → last' ≡ poses_after r ps last
-    → settled_poses (settled_parts r p' c' w') last' ≡ settle_poses_of m most u p c w last l x y ps
-unfolding settle_poses_of
-settled-poses m most u p c w last l x y ps r p' c' w' last' e k =
-    ap (settled_poses (settled_parts r p' c' w')) k ∙ ap (λ (d : SettledParts). settled_poses d (poses_after d.answer ps last)) e
+pub settle-accepted : {m most : ℕ} {u : Setup} {p : Progress} {c w : List ℕ} {l : Columns} {x y : Float} {ps : List Pose} {c' w' : List ℕ} {f : ℕ} {z o : Bool} {next : Progress} {last' : List Float} (last : List Float)
+    → SettleCalls m most u p c w l x y ps c' w' f z o next last'
+    → settled_poses (settled_parts (Ok (record { new_tiles = f; n = u.n; off = o; lap = next.lap; ended = next.ended })) next c' w') last' ≡ settle_poses_of m most u p c w last l x y ps
+unfolding settle_poses_of settle_parts_of settle_at settled_by poses_after
+settle-accepted {m} {u = u} {p = p} {c = c} {w = w} {l = l} {x = x} {y = y} {ps = ps} {c' = c'} {w' = w'} {f = f} {o = o} last h =
+    (λ i. settled_poses (settled_parts (Ok (record { new_tiles = f; n = u.n; off = o; lap = (h.progress i).lap; ended = (h.progress i).ended })) (h.progress i) c' w') (h.poses i))
+    ∙ ap (λ (d : SettledParts). settled_poses d (poses_after d.answer ps last))
+    (ap₂ (settled_by u p) h.off h.contact ∙ ap (λ (r : Result Unit Cause). settle_at m r u p c w l x y ps) h.none)
 
 -- the call on a whole state, put together around the parts that it leaves
-pub settled-from : (m most : ℕ) (s : State) (l : Columns) (x y : Float) (ps : List Pose) (r : SettleAnswer) (p : Progress) (c w : List ℕ) (last : List Float)
+pub settled-from : (m most : ℕ) (s : State) (l : Columns) (x y : Float) (ps : List Pose) (r : Result SettleValues Cause) (p : Progress) (c w : List ℕ) (last : List Float)
     → settled_poses (settled_parts r p c w) last ≡ settle_poses_of m most s.setup s.progress s.credited s.wheels s.poses l x y ps
     → after_settle r (state_of s.setup p s.car c w last s.seed) ≡ settle_of m most s l x y ps
 unfolding settle_of

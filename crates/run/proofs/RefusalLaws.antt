@@ -2,7 +2,6 @@
 use Rattle.std.specs.Prelude.{Result, Ok, Err}
 use mathlib.Core.Bool.{Bool, true, false, cond}
 use mathlib.Core.Path.{◌≡◌, refl}
-use Prim.Native.Nat.{ℕ}
 use native.Mathlib.Omega.{arith}
 use Rattle.course.specs.Grader.Cause.{number_of, cause_number}
 use Rattle.course.specs.declared.cause.Cause.{Cause}

@@ -19,8 +19,7 @@ use Rattle.run.specs.declared.save.SaveAnswer.{SaveAnswer}
 use Rattle.run.specs.declared.save.SaveAnswer.TheVariants.{Saved, Refused as NotSaved}
 use Rattle.run.specs.declared.restore.RestoreAnswer.{RestoreAnswer}
 use Rattle.run.specs.declared.restore.RestoreAnswer.TheVariants.{Restored, Refused as NotRestored}
-use Rattle.run.specs.declared.settle.SettleAnswer.{SettleAnswer}
-use Rattle.run.specs.declared.settle.SettleAnswer.TheVariants.{Settled, Refused as NotSettled}
+use Rattle.run.specs.declared.settle.SettleValues.{SettleValues}
 
 -- a call with all that it is handed but the state
 pub data Call : Type 0 where
@@ -36,9 +35,9 @@ abbrev pub drive_said : Result (List Force) Cause → Answer
 drive_said (Ok fs) = drove fs
 drive_said (Err c) = refused (number_of c)
 
-abbrev pub settle_said : SettleAnswer → Answer
-settle_said (Settled v) = settled v
-settle_said (NotSettled k) = refused k
+abbrev pub settle_said : Result SettleValues Cause → Answer
+settle_said (Ok v) = settled v
+settle_said (Err c) = refused (number_of c)
 
 unfoldable pub reply_of : ℕ → ℕ → State → Call → Replied
 reply_of m most s (drive a ms) =

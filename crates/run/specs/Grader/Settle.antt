@@ -1,6 +1,8 @@
 -- Document 01, "Settle: contact after physics" and "Refusals by cause": settle 4, 5, 6, 2, 8, 10; document 02, order 1: the last poses. For states whose sets have m words and
 -- take n up to `most`. Assumes nothing.
-use Rattle.std.specs.Prelude.{Bool, false, cond, not, ◌||◌, List, ℕ, zero, suc, ◌+◌, leb, Float}
+use Rattle.std.specs.Prelude.{Bool, false, cond, not, ◌||◌, List, ℕ, ◌+◌, leb, Float, Result, Ok, Err}
+use Rattle.course.specs.declared.cause.Cause.{Cause}
+use Rattle.course.specs.declared.cause.Cause.TheVariants.{State as NoRun, Length, Turn, Limit, Range, Index}
 use Rattle.run.specs.Grader.State.{State, state_of, Columns, short_of, unfit}
 use Rattle.run.specs.Rules.Arguments.{places_ok}
 use Rattle.run.specs.Rules.Wheel.{quad_of}
@@ -12,39 +14,18 @@ use Rattle.run.specs.declared.state.Pose.{Pose}
 use Rattle.run.specs.declared.state.Setup.{Setup}
 use Rattle.run.specs.declared.state.Progress.{Progress}
 use Rattle.run.specs.declared.settle.SettleValues.{SettleValues}
-use Rattle.run.specs.declared.settle.SettleAnswer.{SettleAnswer}
-use Rattle.run.specs.declared.settle.SettleAnswer.TheVariants.{Settled, Refused}
-
--- ---- number and values of each case of the answer
-
-unfoldable pub settle_answer : ℕ → SettleValues → SettleAnswer
-settle_answer zero v = Settled v
-settle_answer (suc k) v = Refused (suc k)
-
--- a refusal has none
-abbrev pub no_settle : SettleValues
-no_settle = record { new_tiles = 0; n = 0; off = false; lap = false; ended = false }
-
--- read back
-unfoldable pub settle_cause_of : SettleAnswer → ℕ
-settle_cause_of (Settled v) = 0
-settle_cause_of (Refused k) = k
-
-unfoldable pub settle_values_of : SettleAnswer → SettleValues
-settle_values_of (Settled v) = v
-settle_values_of (Refused k) = no_settle
 
 -- ---- refusals
 
--- the first cause that holds, 0 if none does
-unfoldable pub settle_cause : ℕ → Setup → Progress → Columns → Float → Float → List Pose → ℕ
-settle_cause most u p l x y ps =
-    cond (unfit most u p || p.ended) 4
-    (cond (not p.driven) 5
-    (cond (leb u.tick_limit p.tick) 6
-    (cond (short_of u.n l) 2
-    (cond (not (places_ok x y ps)) 8
-    (cond (not (sound_poses l.offsets l.list u.n ps)) 10 0)))))
+-- the first cause that holds, if one does
+unfoldable pub settle_check : ℕ → Setup → Progress → Columns → Float → Float → List Pose → Result Unit Cause
+settle_check most u p l x y ps =
+    cond (unfit most u p || p.ended) (Err NoRun)
+    (cond (not p.driven) (Err Turn)
+    (cond (leb u.tick_limit p.tick) (Err Limit)
+    (cond (short_of u.n l) (Err Length)
+    (cond (not (places_ok x y ps)) (Err Range)
+    (cond (not (sound_poses l.offsets l.list u.n ps)) (Err Index) (Ok tt))))))
 
 -- ---- the call
 
@@ -57,33 +38,33 @@ settled_progress u p fresh enters_zero off =
 
 -- an answer, and the parts that a settle changes
 pub record SettledParts : Type 0 where
-  pub answer : SettleAnswer
+  pub answer : Result SettleValues Cause
   pub progress : Progress
   pub credited : List ℕ
   pub wheels : List ℕ
 
-abbrev pub settled_parts : SettleAnswer → Progress → List ℕ → List ℕ → SettledParts
+abbrev pub settled_parts : Result SettleValues Cause → Progress → List ℕ → List ℕ → SettledParts
 settled_parts r p c ws = record { answer = r; progress = p; credited = c; wheels = ws }
 
 -- the answer says of the progress what a host is told
 unfoldable pub settled_by : Setup → Progress → Bool → Contacted → SettledParts
 settled_by u p off c =
     let next = settled_progress u p c.fresh c.zero off in
-    settled_parts (settle_answer zero (record { new_tiles = c.fresh; n = u.n; off = off; lap = next.lap; ended = next.ended })) next c.credited c.wheels
+    settled_parts (Ok (record { new_tiles = c.fresh; n = u.n; off = off; lap = next.lap; ended = next.ended })) next c.credited c.wheels
 
--- no cause: the contact; a cause: its number, and all as before
-unfoldable pub settle_at : ℕ → ℕ → Setup → Progress → List ℕ → List ℕ → Columns → Float → Float → List Pose → SettledParts
-settle_at m zero u p credited wheels l x y ps = settled_by u p (off_field x y) (contact_of m credited wheels (λ w. touched_by l.tiles l.offsets l.list (quad_of ps w)))
-settle_at m (suc k) u p credited wheels l x y ps = settled_parts (settle_answer (suc k) no_settle) p credited wheels
+-- no cause: the contact; a cause: all as before
+unfoldable pub settle_at : ℕ → Result Unit Cause → Setup → Progress → List ℕ → List ℕ → Columns → Float → Float → List Pose → SettledParts
+settle_at m (Ok none) u p credited wheels l x y ps = settled_by u p (off_field x y) (contact_of m credited wheels (λ w. touched_by l.tiles l.offsets l.list (quad_of ps w)))
+settle_at m (Err c) u p credited wheels l x y ps = settled_parts (Err c) p credited wheels
 
 -- on the parts that it reads and changes, in sets of m words, which hold `most` tiles
 unfoldable pub settle_parts_of : ℕ → ℕ → Setup → Progress → List ℕ → List ℕ → Columns → Float → Float → List Pose → SettledParts
-settle_parts_of m most u p credited wheels l x y ps = settle_at m (settle_cause most u p l x y ps) u p credited wheels l x y ps
+settle_parts_of m most u p credited wheels l x y ps = settle_at m (settle_check most u p l x y ps) u p credited wheels l x y ps
 
 -- the last poses after it: an accepted settle's, else as they were
-unfoldable pub poses_after : SettleAnswer → List Pose → List Float → List Float
-poses_after (Settled v) ps last = pose_numbers ps
-poses_after (Refused k) ps last = last
+unfoldable pub poses_after : Result SettleValues Cause → List Pose → List Float → List Float
+poses_after (Ok v) ps last = pose_numbers ps
+poses_after (Err c) ps last = last
 
 -- the same with the last poses
 pub record SettledPoses : Type 0 where
@@ -100,10 +81,10 @@ settle_poses_of m most u p credited wheels last l x y ps =
 
 -- an answer and the state beside it
 pub record AfterSettle : Type 0 where
-  pub answer : SettleAnswer
+  pub answer : Result SettleValues Cause
   pub state : State
 
-abbrev pub after_settle : SettleAnswer → State → AfterSettle
+abbrev pub after_settle : Result SettleValues Cause → State → AfterSettle
 after_settle r s = record { answer = r; state = s }
 
 -- on a whole state

@@ -2,12 +2,12 @@
 use Rattle.certificate.proofs.CallColumnLaws.{written-settled, written-not-settled}
 use Rattle.certificate.proofs.answer.put_settle.Goals as goal
 
-pub returns-in-Settled : goal.returns-in-Settled
-returns-in-Settled c =
-    let whole = written-settled _ _ _ _ _ c.in-Settled.is c.flags.ensures c.put_words.ensures c.put_zeros.ensures in
+pub returns-in-Ok : goal.returns-in-Ok
+returns-in-Ok c =
+    let whole = written-settled _ _ _ _ _ c.in-Ok.is c.flags.ensures c.put_words.ensures c.put_zeros.ensures in
     record { words_after = whole.0; numbers_after = whole.1 }
 
-pub returns-in-Refused : goal.returns-in-Refused
-returns-in-Refused c =
-    let whole = written-not-settled _ _ _ _ c.in-Refused.is c.put_words-in-Refused.ensures c.put_zeros.ensures in
+pub returns-in-Err : goal.returns-in-Err
+returns-in-Err c =
+    let whole = written-not-settled _ _ _ _ _ c.in-Err.is c.number.ensures c.put_words-in-Err.ensures c.put_zeros.ensures in
     record { words_after = whole.0; numbers_after = whole.1 }

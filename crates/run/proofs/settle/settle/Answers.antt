@@ -8,6 +8,5 @@ pub returns : goal.returns
 unfolding view
 returns c =
     let a = c.args in
-    let r = c.settle_parts-s.result in
-    settled-from full_words most_tiles (view a.run) (columns a.tiles.now a.offsets.now a.list.now) a.x a.y a.poses r.answer r.progress _ _ _
-    c.settle_parts-s.ensures
+    settled-from full_words most_tiles (view a.run.now) (columns a.tiles.now a.offsets.now a.list.now) a.x a.y a.poses c.settle_parts.result _ _ _ _
+    c.settle_parts.ensures

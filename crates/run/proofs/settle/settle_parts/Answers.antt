@@ -1,12 +1,38 @@
 -- `run::settle::settle_parts` meets its contract. Assumes nothing.
-use Rattle.run.proofs.CallLaws.{settled-poses}
-use Rattle.run.specs.Grader.Widths.{most_tiles, full_words}
+use mathlib.Core.Path.{ap, sym, ◌∙◌}
+use native.Mathlib.Omega.{arith}
+use lib.Dec.{lit≤}
+use Rattle.std.specs.Prelude.{Err}
+use Rattle.std.proofs.lemmas.Result.{err_from_is_err_and}
 use Rattle.run.specs.Grader.State.{columns}
+use Rattle.run.specs.Grader.Widths.{full_words, most_tiles}
+use Rattle.run.proofs.CallLaws.{settle-facts, settle-refused, settle-accepted, contact-few}
 use Rattle.run.proofs.settle.settle_parts.Goals as goal
+
+pub returns-in_err-settle_check : goal.returns-in_err-settle_check
+returns-in_err-settle_check c =
+    let p = err_from_is_err_and c.from_residual.result c.from_residual.ensures.1 in
+    rw (sym c.at-stance.ensures) (settle-refused full_words (record { cause = c.in_err-settle_check.ensures }) (p.1 ∙ ap Err p.2))
+
+pub full_contact-c-requires : goal.full_contact-c-requires
+full_contact-c-requires c =
+    let a = c.args in
+    let h = settle-facts most_tiles a.setup a.progress.now (columns a.tiles.now a.offsets.now a.list.now) a.x a.y c.at-stance.result.poses (lit≤ tt) c.in_ok-settle_check.ensures in
+    (h.some, h.few, h.tiles, h.sound)
+
+pub settled_progress-next-requires : goal.settled_progress-next-requires
+settled_progress-next-requires c =
+    let a = c.args in
+    let h = settle-facts most_tiles a.setup a.progress.now (columns a.tiles.now a.offsets.now a.list.now) a.x a.y c.at-stance.result.poses (lit≤ tt) c.in_ok-settle_check.ensures in
+    (omega (arith, h.few, h.count, contact-few full_words _ _ _ c.full_contact-c.ensures), h.time)
 
 pub returns : goal.returns
 returns c =
-    let a = c.args in
-    let r = c.settle_sets-s.result in
-    settled-poses full_words most_tiles a.setup a.progress a.credited.now a.wheels.now a.last.now
-    (columns a.tiles.now a.offsets.now a.list.now) a.x a.y a.poses r.answer r.progress _ _ _ c.settle_sets-s.ensures c.keep_poses.ensures
+    rw (sym c.at-stance.ensures) (settle-accepted _
+    (record {
+      none = c.in_ok-settle_check.ensures;
+      contact = c.full_contact-c.ensures;
+      off = c.is_off-off.ensures;
+      progress = c.settled_progress-next.ensures;
+      poses = c.put_poses.ensures;
+    }))
