@@ -8,15 +8,13 @@ ghost use Rattle.run.specs.Grader.Restore.{restore_cause_of};
 ghost use Rattle.abi.specs.Grader.Flat.{flat_laid, flat_curbs, flat_sheet, flat_saved, flat_saved_for, flat_angle, flat_answers};
 
 use certificate::replay::Replayed;
-use course::cause;
 use course::cause::Cause;
 use course::curbs::CurbAnswer;
-use course::points;
 use course::points::Laid;
 use course::trig::Angle;
+use course::{cause, points};
 use run::drive::DriveAnswer;
 use run::restore::{RestoreAnswer, SavedCourse};
-use run::save::SaveAnswer;
 use run::settle::{SettleAnswer, SettleValues};
 use run::sheet::RunSheet;
 use run::start::{StartAnswer, StartValues};
@@ -293,12 +291,15 @@ impl From<Result<RunSheet, Cause>> for FlatSheet {
 }
 
 // The answer of save.
-pub(crate) fn saved(answer: SaveAnswer) -> FlatSaved
-    ensures { result ≡ flat_saved answer }
-{
-    match answer {
-        SaveAnswer::Saved(length) => FlatSaved { cause: 0, length },
-        SaveAnswer::Refused(cause) => FlatSaved { cause, length: 0 },
+impl From<Result<u32, Cause>> for FlatSaved {
+    ghost from_gives = { λ a f. f ≡ flat_saved a };
+
+    #[tactic(auto, unfolding(crate::specs::Grader::Flat::flat_saved))]
+    fn from(answer: Result<u32, Cause>) -> FlatSaved {
+        FlatSaved {
+            cause: cause::cause_number(&answer),
+            length: answer.unwrap_or(0),
+        }
     }
 }
 

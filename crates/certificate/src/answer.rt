@@ -1,13 +1,13 @@
 // An answer written into its columns: four words and twelve numbers, a value of its own for every answer.
-ghost use Rattle.std.specs.Prelude.{◌≡◌, [], ◌∷◌, ◌+◌, ◌*◌, ◌≤◌, length, set, replicate};
+ghost use Rattle.std.specs.Prelude.{◌≡◌, [], ◌∷◌, ◌+◌, ◌≤◌, length, set, replicate};
 ghost use Rattle.course.specs.Rules.Arithmetic.{nought};
-ghost use Rattle.course.specs.Rules.Counting.{digit};
 ghost use Rattle.certificate.specs.Grader.Calls.{drive_said, settle_said};
 ghost use Rattle.run.specs.Grader.Numbers.{force_numbers};
 ghost use Rattle.certificate.specs.Grader.CallColumns.{answer_numbers, words_of, numbers_of};
 
 use run::drive::DriveAnswer;
 use run::dynamics::Force;
+use run::save::flags_of;
 use run::settle::SettleAnswer;
 
 // An answer's four words.
@@ -86,27 +86,6 @@ pub(crate) fn put_drive(
     }
 }
 
-// A flag as a number.
-fn bit(b: bool) -> u32
-    ensures value { result ≡ digit b }
-    ensures upper_bound { result ≤ 1 }
-{
-    if b {
-        return 1;
-    }
-    0
-}
-
-// The flags of a settle as bits of a word.
-fn flags(off: bool, lap: bool, ended: bool) -> u32
-    ensures { result ≡ digit off + 2 * digit lap + 4 * digit ended }
-{
-    let a = bit(off);
-    let b = bit(lap);
-    let c = bit(ended);
-    a + 2 * b + 4 * c
-}
-
 // The answer to a settle.
 pub(crate) fn put_settle(answer: SettleAnswer, words: &mut [u32], numbers: &mut [f64])
     requires words_len { length words.old ≡ 4 }
@@ -117,7 +96,7 @@ pub(crate) fn put_settle(answer: SettleAnswer, words: &mut [u32], numbers: &mut 
     put_zeros(numbers);
     match answer {
         SettleAnswer::Settled(v) => {
-            put_words(1, v.new_tiles, v.n, flags(v.off, v.lap, v.ended), words);
+            put_words(1, v.new_tiles, v.n, flags_of(v.off, v.lap, v.ended), words);
         }
         SettleAnswer::Refused(k) => {
             put_words(2, k, 0, 0, words);

@@ -2,8 +2,8 @@
 ghost use Rattle.std.specs.Prelude.{◌≤◌};
 
 use crate::{change, hash, read};
+use course::cause::Cause;
 use run::restore::{RestoreAnswer, SavedCourse};
-use run::save::SaveAnswer;
 use run::state::Run;
 use run::{restore, save};
 use std::io;
@@ -104,10 +104,15 @@ fn line_form<W: Write>(to: &mut W, length: u32, shown: u64, out: &[u8]) -> io::R
     line_bytes(to, front(out, shown))
 }
 
-fn line_saved<W: Write>(to: &mut W, answer: SaveAnswer, shown: u64, out: &[u8]) -> io::Result<()> {
+fn line_saved<W: Write>(
+    to: &mut W,
+    answer: Result<u32, Cause>,
+    shown: u64,
+    out: &[u8],
+) -> io::Result<()> {
     match answer {
-        SaveAnswer::Saved(length) => line_form(to, length, shown, out),
-        SaveAnswer::Refused(cause) => vectors::line_refused(to, cause),
+        Ok(length) => line_form(to, length, shown, out),
+        Err(cause) => vectors::line_refused(to, cause.number()),
     }
 }
 
