@@ -32,7 +32,6 @@ use Rattle.std.specs.Prelude.{Ok, Err}
 use Rattle.run.specs.declared.settle.SettleAnswer.{SettleAnswer}
 use Rattle.run.specs.declared.settle.SettleValues.{SettleValues}
 use Rattle.run.specs.declared.sheet.RunSheet.{RunSheet}
-use Rattle.run.specs.declared.save.SaveAnswer.{SaveAnswer}
 use Rattle.run.specs.declared.restore.RestoreAnswer.{RestoreAnswer}
 use Rattle.run.proofs.DriveLaws.{refused-keeps}
 use Rattle.abi.specs.Grader.Flat.{flat_laid, flat_curbs, run_of, flat_started, flat_driven, flat_settled, flat_sheet, flat_saved, saved_out, flat_save, flat_restored, flat_answers, flat_replayed, replay_columns, columns_after}
@@ -110,7 +109,7 @@ settled-whole {next = next} {c = c} {w = w} {last = last} ek ev e =
 
 -- ---- saves
 
-pub saved-whole : (f : FlatSaved) (a : SaveAnswer) (out : List ℕ) (d : AfterSave) → f ≡ flat_saved a → after_save a out ≡ d → saved_out f out ≡ flat_save d
+pub saved-whole : (f : FlatSaved) (a : Result ℕ Cause) (out : List ℕ) (d : AfterSave) → f ≡ flat_saved a → after_save a out ≡ d → saved_out f out ≡ flat_save d
 unfolding flat_save
 saved-whole f a out d e p = ap (λ (g : FlatSaved). saved_out g out) e ∙ ap flat_save p
 

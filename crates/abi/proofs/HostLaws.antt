@@ -4,9 +4,13 @@ use mathlib.Core.List.{List, [], ◌∷◌, map}
 use mathlib.Core.Path.{◌≡◌, refl, ap, ◌∙◌}
 use Prim.Native.Nat.{ℕ, zero, suc}
 use native.Mathlib.Omega.{arith}
+use Rattle.std.specs.Prelude.{Result, Ok, Err}
 use lib.ListN.{length, get_or}
 use lib.Ieee.{Float}
 use borrow.Author.Tests.{ne_eqb}
+use Rattle.course.specs.Grader.Cause.{number_of, cause_number}
+use Rattle.course.specs.declared.cause.Cause.{Cause}
+use Rattle.run.proofs.CheckLaws.{number-some}
 use Rattle.run.specs.Grader.State.{State, state_of, view, Columns}
 use Rattle.run.specs.Rules.Pass.{gathered_of, pass_of, still_car}
 use Rattle.run.specs.Grader.Drive.{drive_check, drive_at, drive_parts_of, drive_of}
@@ -18,7 +22,7 @@ use Rattle.run.specs.Grader.Settle.{settle_answer, settle_cause_of, settle_value
 use Rattle.run.specs.Grader.Start.{zero_state, started_by, start_at, start_of}
 use Rattle.run.specs.Grader.Saved.{Loaded, loaded}
 use Rattle.run.specs.Grader.Saved.Loaded.{kept, not_kept}
-use Rattle.run.specs.Grader.Save.{save_answer, save_cause_of, save_length_of, save_cause, save_at, save_of}
+use Rattle.run.specs.Grader.Save.{save_check, save_at, save_of}
 use Rattle.run.specs.Grader.Restore.{restore_answer, restore_cause_of, restore_cause, restored_state, restore_at, restore_of}
 use Rattle.certificate.specs.Rules.Answers.{Answer, Reply}
 use Rattle.certificate.specs.Rules.Answers.Reply.{answered, decided}
@@ -95,10 +99,12 @@ host-list m most l a cs = (
 abbrev went_as : HostWent → Went
 went_as r = went r.reply (value_going r.going)
 
-save-at : (k : ℕ) (s : State) (out : List ℕ) (bs : List (List ℕ)) → saves_kept (flat_save (save_at k s out)) bs ≡ saves_after (save_at k s out).answer (save_at k s out).out bs
-unfolding saves_kept flat_save flat_saved save_at save_answer save_cause_of save_length_of
-save-at zero s out bs = refl
-save-at (suc k) s out bs = rw (ne_eqb (suc k) 0 (λ z. omega (arith, z)))
+save-at : (k : Result Unit Cause) (s : State) (out : List ℕ) (bs : List (List ℕ)) → saves_kept (flat_save (save_at k s out)) bs ≡ saves_after (save_at k s out).answer (save_at k s out).out bs
+unfolding saves_kept flat_save flat_saved save_at cause_number
+save-at (Ok none) s out bs = refl
+save-at (Err e) s out bs =
+    let p = number-some e in
+    rw (ne_eqb (number_of e) 0 (λ z. omega (arith, p.1, z)))
 
 restore-at : (m k : ℕ) (l : Columns) (r : Loaded) (h : Kept) → kept_state (run_kept (flat_restored (restore_at m k l r)) h) ≡ state_next (restore_at m k l r).answer (restore_at m k l r).state (kept_state h)
 unfolding run_kept flat_restored run_of view restore_at restore_answer restore_cause_of restored_state kept_state kept_from car_from car_numbers wheel_from
@@ -111,8 +117,8 @@ unfolding host_request request_of value_request value_going flat_save flat_saved
 one-request m most g (HostRequest.call c) = ap (λ (r : Replied). went (answered r.answer) (going r.state g.saves)) (one-call m most g.kept c)
 one-request m most g (HostRequest.save out) =
     let s = kept_state g.kept in
-    let k = save_cause most s.setup s.progress (length out) in
-    ap (λ (bs : List (List ℕ)). went (decided (save_cause_of (save_at k s out).answer)) (going s bs)) (save-at k s out g.saves)
+    let k = save_check most s.setup s.progress (length out) in
+    ap (λ (bs : List (List ℕ)). went (decided (cause_number (save_at k s out).answer)) (going s bs)) (save-at k s out g.saves)
 one-request m most g (HostRequest.restore l n i) =
     let r = loaded m most (get_or g.saves i []) in
     let k = restore_cause l n r in

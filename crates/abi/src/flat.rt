@@ -12,7 +12,6 @@ use course::curbs::CurbAnswer;
 use course::points::Laid;
 use course::{cause, points};
 use run::restore::{RestoreAnswer, SavedCourse};
-use run::save::SaveAnswer;
 use run::settle::{SettleAnswer, SettleValues};
 use run::sheet::RunSheet;
 use run::start::{StartAnswer, StartValues};
@@ -279,12 +278,15 @@ impl From<Result<RunSheet, Cause>> for FlatSheet {
 }
 
 // The answer of save.
-pub(crate) fn saved(answer: SaveAnswer) -> FlatSaved
-    ensures { result ≡ flat_saved answer }
-{
-    match answer {
-        SaveAnswer::Saved(length) => FlatSaved { cause: 0, length },
-        SaveAnswer::Refused(cause) => FlatSaved { cause, length: 0 },
+impl From<Result<u32, Cause>> for FlatSaved {
+    ghost from_gives = { λ a f. f ≡ flat_saved a };
+
+    #[tactic(auto, unfolding(crate::specs::Grader::Flat::flat_saved))]
+    fn from(answer: Result<u32, Cause>) -> FlatSaved {
+        FlatSaved {
+            cause: cause::cause_number(&answer),
+            length: answer.unwrap_or(0),
+        }
     }
 }
 

@@ -17,7 +17,7 @@ use run::{restore, save};
 pub extern "C" fn grader_save(run: Run, out: &mut [u8]) -> FlatSaved
     ensures { saved_out result out.new ≡ flat_save (save_of most_tiles (view run) out.old) }
 {
-    flat::saved(save::save(run, out))
+    FlatSaved::from(save::save(run, out))
 }
 
 // The run that was saved, on the lent course; the state of zeros where it is refused.

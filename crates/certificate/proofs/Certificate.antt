@@ -15,6 +15,7 @@ use Rattle.course.specs.Grader.Course.{cells_of}
 use Rattle.course.specs.Grader.Outcome as course
 use Rattle.course.specs.Grader.Outcome.{Outcome, lay_into, laid_values_of}
 use Rattle.course.specs.Rules.Lay.{course_of}
+use Rattle.course.specs.Grader.Cause.{number_of, cause_number}
 use Rattle.course.specs.declared.tiles.TrackPoint.{TrackPoint}
 use Rattle.course.proofs.CourseSizes.{course-sized}
 use Rattle.course.proofs.LayLaws.{roomy, lay-cause, lay-course, lay-columns}
@@ -27,7 +28,7 @@ use Rattle.run.specs.Grader.Touch.{sound_poses}
 use Rattle.run.specs.Grader.Start.{Settings, start_short, start_cause, start_answer, setup_of, first_progress, zero_state, Begun, started_by, start_at, start_of, start_cause_of, start_values_of}
 use Rattle.run.specs.Grader.Numbers.{pose_numbers}
 use Rattle.run.specs.Grader.Saved.{fields_of, saved_form}
-use Rattle.run.specs.Grader.Save.{save_answer, save_cause, save_at, save_of, save_cause_of}
+use Rattle.run.specs.Grader.Save.{save_check, save_at, save_of}
 use Rattle.run.specs.Grader.Restore.{restore_answer, AfterRestore, after_restore, restore_of, restore_cause_of}
 use Rattle.run.specs.Grader.Drive.{drive_check, drive_at, drive_parts_of, drive_of}
 use Rattle.course.specs.Grader.Cause.{number_of}
@@ -76,7 +77,7 @@ zeros-after m most (g ∷ gs) = ap (λ (r : Replied). state_after m most r.state
 
 -- and every save by 4, every restore by 11, since there is no save
 zeros-item : (m most : ℕ) {n : ℕ} (o : Outcome) (i : CourseItem n) → request_of m most (going (zero_state m) []) (request_by o i) ≡ went (turned_down i) (going (zero_state m) [])
-unfolding request_of request_by turned_down save_of save_cause save_at save_answer save_cause_of restore_answer restore_cause_of zero_state first_progress unfit
+unfolding request_of request_by turned_down save_of save_check save_at cause_number number_of restore_answer restore_cause_of zero_state first_progress unfit
 zeros-item m most o (CourseItem.call g) = ap (λ (r : Replied). went (answered r.answer) (going r.state [])) (zeros-refuse m most (call_of o g))
 zeros-item m most o (CourseItem.save out) = refl
 zeros-item m most o (CourseItem.restore by i) =
@@ -230,7 +231,7 @@ module _ (m most : ℕ) (c : List TrackPoint) (room : most ≤ 64 * m) (some : 0
       step : (h : History) → Fine h → (g : CourseCall (length c)) → reply_of m most (history_state m most c room some fits label h) (call_of o g) ≡ with_state m most c room some fits label (score c h (told_of o g))
       step h f g = one-reply label h f.0 g
 
-      number : (h : History) → Fine h → (n : ℕ) → save_cause most (history_state m most c room some fits label h).setup (history_state m most c room some fits label h).progress n ≡ save_number c h n
+      number : (h : History) → Fine h → (n : ℕ) → cause_number (save_check most (history_state m most c room some fits label h).setup (history_state m most c room some fits label h).progress n) ≡ save_number c h n
       number h f n = save-number m most c room some fits small label h n
 
       trip : R → (h : History) → Fine h → ltb (settles h) (drives h) ≡ false → (lent : Lending (length c))

@@ -4,17 +4,21 @@ use mathlib.Core.Bool.{Bool, true, false, cond}
 use mathlib.Core.List.{List, [], ◌∷◌, map}
 use mathlib.Core.Path.{◌≡◌, refl, sym, ap, ◌∙◌}
 use Prim.Native.Nat.{ℕ, zero, suc}
+use Rattle.std.specs.Prelude.{Result}
 use lib.Dec.{ltb, leb, leb-zero, leb-suc-zero, leb-suc-suc}
 use lib.ListN.{length, get_or, drop}
 use lib.Seq.{take-append_seam}
 use Rattle.course.specs.Grader.Outcome.{Outcome, laid_values_of}
+use Rattle.course.specs.Grader.Cause.{cause_number}
+use Rattle.course.specs.declared.cause.Cause.{Cause}
 use Rattle.course.specs.declared.tiles.TrackPoint.{TrackPoint}
 use Rattle.course.proofs.BoolLaws.{cleared}
 use Rattle.run.specs.Grader.State.{State, Columns, short_of}
 use Rattle.run.specs.Grader.Start.{zero_state}
 use Rattle.run.specs.Grader.Saved.{fields_of, saved_form}
-use Rattle.run.specs.Grader.Save.{save_answer, save_cause, save_at, save_of, save_cause_of}
+use Rattle.run.specs.Grader.Save.{save_check, save_at, save_of}
 use Rattle.run.specs.Grader.Restore.{restore_answer, AfterRestore, after_restore, restore_cause, restore_at, restore_of, restore_cause_of}
+use Rattle.run.proofs.CheckLaws.{number-some}
 use Rattle.run.proofs.SavedLaws.{none-loaded}
 use Rattle.certificate.specs.Rules.Answers.{Reply}
 use Rattle.certificate.specs.Rules.Answers.Reply.{answered, decided}
@@ -32,7 +36,7 @@ module _ (m most : ℕ) (c : List TrackPoint) (o : Outcome) (counted : (laid_val
     (state_at : History → State) (Fine : History → Type 0) (Ok : CourseCall (length c) → Type 0) (Restores : Type 0)
     (step : (h : History) → Fine h → (g : CourseCall (length c)) → reply_of m most (state_at h) (call_of o g) ≡ record { answer = (score c h (told_of o g)).answer; state = state_at (score c h (told_of o g)).kept })
     (keeps : (h : History) → Fine h → (g : CourseCall (length c)) → Ok g → Fine (score c h (told_of o g)).kept)
-    (save-number : (h : History) → Fine h → (room : ℕ) → save_cause most (state_at h).setup (state_at h).progress room ≡ save_number c h room)
+    (save-number : (h : History) → Fine h → (room : ℕ) → cause_number (save_check most (state_at h).setup (state_at h).progress room) ≡ save_number c h room)
     (round_trip : Restores → (h : History) → Fine h → ltb (settles h) (drives h) ≡ false → (by : Lending (length c))
     → restore_of m most (saved_form (fields_of (state_at h))) (lent_by o by) (length c)
     ≡ cond (short_of (length c) (lent_by o by)) (after_restore (restore_answer 2) (zero_state m)) (after_restore (restore_answer 0) (state_at h)))
@@ -60,17 +64,17 @@ module _ (m most : ℕ) (c : List TrackPoint) (o : Outcome) (counted : (laid_val
     OkAll [] = Unit
     OkAll (i ∷ is) = OkItem i × OkAll is
 
-    -- ---- a save, by the number of its cause
-    abbrev after_saving : ℕ → KeptCalls → List ℕ → Went
-    after_saving j k out =
-        let d = save_at j (state_at k.calls) out in
-        went (decided (save_cause_of d.answer)) (going (state_at k.calls) (saves_after d.answer d.out (map bytes_at k.saves)))
+    -- ---- a save, by its check
+    abbrev after_saving : Result Unit Cause → KeptCalls → List ℕ → Went
+    after_saving r k out =
+        let d = save_at r (state_at k.calls) out in
+        went (decided (cause_number d.answer)) (going (state_at k.calls) (saves_after d.answer d.out (map bytes_at k.saves)))
 
-    save-at : (j : ℕ) (k : KeptCalls) (out : List ℕ) → after_saving j k out ≡ went (decided j) (going_of (noted c j k))
-    unfolding save_at save_answer save_cause_of noted
-    save-at zero k out =
+    save-at : (r : Result Unit Cause) (k : KeptCalls) (out : List ℕ) → after_saving r k out ≡ went (decided (cause_number r)) (going_of (noted c (cause_number r) k))
+    unfolding save_at cause_number noted
+    save-at (Result.Ok none) k out =
         ap (λ (bs : List ℕ). went (decided 0) (going (state_at k.calls) (bs ∷ map bytes_at k.saves))) (take-append_seam (bytes_at k.calls) (drop (length (bytes_at k.calls)) out))
-    save-at (suc j) k out = refl
+    save-at (Result.Err e) k out = rw (number-some e).1
 
     -- ---- a restore, by the number of its cause
     abbrev restored_by : ℕ → History → AfterRestore
@@ -106,8 +110,8 @@ module _ (m most : ℕ) (c : List TrackPoint) (o : Outcome) (counted : (laid_val
     unfolding request_of request_by item_by reply_to after_item save_of restore_number lengths_of short_of
     request-is k f (CourseItem.call g) w = ap (λ (r : Replied). went (answered r.answer) (going r.state (map bytes_at k.saves))) (step k.calls f.0 g)
     request-is k f (CourseItem.save out) w =
-        ap (λ (j : ℕ). after_saving j k out) (save-number k.calls f.0 (length out))
-        ∙ save-at (save_number c k.calls (length out)) k out
+        save-at (save_check most (state_at k.calls).setup (state_at k.calls).progress (length out)) k out
+        ∙ ap (λ (j : ℕ). went (decided j) (going_of (noted c j k))) (save-number k.calls f.0 (length out))
     request-is k f (CourseItem.restore by i) w =
         ap (λ (n : ℕ). after_restoring k (restore_of m most (get_or (map bytes_at k.saves) i []) (lent_by o by) n)) counted
         ∙ ap (after_restoring k) (one-restore w k.saves f.1 i k.calls by)

@@ -5,15 +5,18 @@ use mathlib.Core.List.{List, [], ◌∷◌}
 use mathlib.Core.Path.{◌≡◌, refl, sym, ap, ◌∙◌, subst}
 use Prim.Native.Nat.{ℕ, ◌*◌, ◌^◌, ◌≤◌, ◌<◌}
 use native.Mathlib.Omega.{arith}
+use Rattle.std.specs.Prelude.{Result, Ok}
 use lib.Dec.{T, ltb, leb}
 use lib.ListN.{length}
 use lib.Ieee.{Float, binary64, fits, le}
 use borrow.Author.Tests.{leb-true, le-leb, eq-eqb}
 use Rattle.course.specs.Rules.Arithmetic.{natural}
+use Rattle.course.specs.Grader.Cause.{cause_number, number_of}
+use Rattle.course.specs.declared.cause.Cause.{Cause}
 use Rattle.course.specs.declared.tiles.TrackPoint.{TrackPoint}
 use Rattle.course.proofs.BoolLaws.{and_left, and_right, both}
 use Rattle.form.proofs.ByteLaws.{All, Fitting}
-use Rattle.run.specs.Rules.Arguments.{settings_ok, poses_ok}
+use Rattle.run.specs.Rules.Arguments.{settings_ok, poses_ok, save_room}
 use Rattle.run.specs.Rules.Wheel.{quad_of}
 use Rattle.run.specs.Grader.State.{State, Columns, short_of}
 use Rattle.run.specs.Grader.Words.{set_of}
@@ -23,8 +26,9 @@ use Rattle.run.specs.Grader.Numbers.{pose_from, poses_at, pose_numbers}
 use Rattle.run.specs.Grader.Start.{setup_of, zero_state, first_contact}
 use Rattle.run.specs.Grader.Saved.{fields_of, saved_form, sound_fields, Loaded}
 use Rattle.run.specs.Grader.Saved.Loaded.{kept}
-use Rattle.run.specs.Grader.Save.{save_cause}
+use Rattle.run.specs.Grader.Save.{save_check}
 use Rattle.run.specs.Grader.Restore.{restore_answer, bit_count, restore_cause, restored_state, AfterRestore, after_restore, restore_at, restore_of}
+use Rattle.run.proofs.CheckLaws.{cause-by}
 use Rattle.run.proofs.BelowLaws.{below}
 use Rattle.run.proofs.PlainContact.{wheels_by}
 use Rattle.run.proofs.NumbersFit.{CarFits, pass_fits, still-fits, car-back, control-many, pose-many}
@@ -165,6 +169,8 @@ module _ (m most : ℕ) (c : List TrackPoint) (room : most ≤ 64 * m) (some : 0
           ∙ ap (λ (b : Bool). restore_at m (cond (not b) 12 (cause_left (short_of (length c) l) sound_at)) l (kept (fields_of (state_at h)))) (eq-eqb (length c) (length c) refl)
           ∙ go (short_of (length c) l) refl
 
-  pub save-number : (h : History) (n : ℕ) → save_cause most (state_at h).setup (state_at h).progress n ≡ save_number c h n
-  unfolding save_cause save_number
-  save-number h n = rw (fits-state m most c room some few label h)
+  pub save-number : (h : History) (n : ℕ) → cause_number (save_check most (state_at h).setup (state_at h).progress n) ≡ save_number c h n
+  unfolding save_check save_number cause_number number_of
+  save-number h n =
+      rw (fits-state m most c room some few label h)
+      (cause-by (ltb (settles h) (drives h)) Cause.Turn _ ∙ ap (cond (ltb (settles h) (drives h)) 5) (cause-by (ltb n save_room) Cause.Length (Ok tt)))

@@ -1,7 +1,6 @@
 // An answer written into its columns: four words and twelve numbers, a value of its own for every answer.
-ghost use Rattle.std.specs.Prelude.{◌≡◌, [], ◌∷◌, ◌+◌, ◌*◌, ◌≤◌, length, set, replicate};
+ghost use Rattle.std.specs.Prelude.{◌≡◌, [], ◌∷◌, ◌+◌, ◌≤◌, length, set, replicate};
 ghost use Rattle.course.specs.Rules.Arithmetic.{nought};
-ghost use Rattle.course.specs.Rules.Counting.{digit};
 ghost use Rattle.certificate.specs.Grader.Calls.{drive_said, settle_said};
 ghost use Rattle.run.specs.Grader.Numbers.{force_numbers};
 ghost use Rattle.certificate.specs.Grader.CallColumns.{answer_numbers, words_of, numbers_of};
@@ -9,6 +8,7 @@ ghost use Rattle.certificate.specs.Grader.CallColumns.{answer_numbers, words_of,
 use course::cause::Cause;
 use run::dynamics::Force;
 use run::settle::SettleValues;
+use run::save::flags_of;
 
 // An answer's four words.
 fn put_words(a: u32, b: u32, c: u32, d: u32, words: &mut [u32])
@@ -81,27 +81,6 @@ pub(crate) fn put_drive(answer: Result<[Force; 4], Cause>, words: &mut [u32], nu
     }
 }
 
-// A flag as a number.
-fn bit(b: bool) -> u32
-    ensures value { result ≡ digit b }
-    ensures upper_bound { result ≤ 1 }
-{
-    if b {
-        return 1;
-    }
-    0
-}
-
-// The flags of a settle as bits of a word.
-fn flags(off: bool, lap: bool, ended: bool) -> u32
-    ensures { result ≡ digit off + 2 * digit lap + 4 * digit ended }
-{
-    let a = bit(off);
-    let b = bit(lap);
-    let c = bit(ended);
-    a + 2 * b + 4 * c
-}
-
 // The answer to a settle.
 pub(crate) fn put_settle(
     answer: Result<SettleValues, Cause>,
@@ -116,7 +95,7 @@ pub(crate) fn put_settle(
     put_zeros(numbers);
     match answer {
         Ok(v) => {
-            put_words(1, v.new_tiles, v.n, flags(v.off, v.lap, v.ended), words);
+            put_words(1, v.new_tiles, v.n, flags_of(v.off, v.lap, v.ended), words);
         }
         Err(cause) => {
             put_words(2, cause.number(), 0, 0, words);

@@ -23,6 +23,7 @@ pub mod WordBounds
 pub mod FieldSizes
 pub mod SavedLaws
 pub mod SavedExamples
+pub mod CheckLaws
 pub mod SaveLaws
 pub mod LoadLaws
 pub mod RestoreLaws

@@ -8,7 +8,8 @@ use lib.Dec.{ltb}
 use lib.ListN.{length, take, drop}
 use lib.Ieee.{Float}
 use borrow.Author.Tests.{ltb-false}
-use Rattle.course.proofs.BoolLaws.{cleared}
+use Rattle.std.specs.Prelude.{Result, Ok, Err}
+use Rattle.course.specs.declared.cause.Cause.{Cause}
 use Rattle.form.specs.Rules.Bytes.{low, all_zero, word_bytes, leaves, store}
 use Rattle.form.specs.Rules.Form.{cut, joined, most_rows, map_of, standing, packed, Wrote, wrote, pack_into}
 use Rattle.form.proofs.ByteLaws.{low-length, stored-whole}
@@ -20,10 +21,10 @@ use Rattle.run.specs.Rules.Arguments.{save_room}
 use Rattle.run.specs.Grader.Widths.{full_words}
 use Rattle.run.specs.Grader.State.{State, unfit}
 use Rattle.run.specs.Grader.Saved.{Fields, fields_of, flags_of, wide_seed, narrow_part, wide_part, ten_fields, bytes_of, field_bytes, saved_form}
-use Rattle.run.specs.Grader.Save.{save_answer, save_cause, after_save, save_at, save_of}
+use Rattle.run.specs.Grader.Save.{save_check, after_save, save_at, save_of}
 use Rattle.run.specs.Steps.Save.{seed_parts, first_fields, last_fields, first_bytes, all_bytes}
 use Rattle.run.specs.declared.saved.SeedParts.{SeedParts}
-use Rattle.run.specs.declared.save.SaveAnswer.TheVariants.{Saved, Refused}
+use Rattle.run.proofs.CheckLaws.{passed}
 use Rattle.run.proofs.FieldSizes.{first_of, last_of, apart, words_long, Whole, bytes-sized, sized-length, first-length, last-length, all-bytes}
 
 -- ---- how long
@@ -108,19 +109,18 @@ fields-put f full p q v r seed flags controls h n s a b x y z =
 
 -- ---- the answer
 
-pub save-refused : (most : ℕ) (s : State) (out : List ℕ) (k : ℕ) → k ≡ save_cause most s.setup s.progress (length out) → (k ≡ 0 → ⊥)
-    → after_save (Refused k) out ≡ save_of most s out
-unfolding save_of save_at save_answer
-save-refused most s out zero e z = absurd (z refl)
-save-refused most s out (suc k) e z = ap (λ (j : ℕ). save_at j s out) e
+pub save-refused : (most : ℕ) (s : State) (out : List ℕ) (r : Result Unit Cause) (k : Cause) → r ≡ save_check most s.setup s.progress (length out) → r ≡ Err k
+    → after_save (Err k) out ≡ save_of most s out
+unfolding save_of save_at
+save-refused most s out r k e z = ap (λ (j : Result Unit Cause). save_at j s out) (sym z ∙ e)
 
 -- an output that is not refused has the room
-save-fits : (most : ℕ) (s : State) (room k : ℕ) → k ≡ save_cause most s.setup s.progress room → k ≡ 0 → save_room ≤ room
-unfolding save_cause
-save-fits most s room k e z =
-    let a = cleared (unfit most s.setup s.progress) 3 _ (sym e ∙ z) in
-    let b = cleared s.progress.driven 4 _ a.1 in
-    ltb-false room save_room (cleared (ltb room save_room) 1 0 b.1).0
+save-fits : (most : ℕ) (s : State) (room : ℕ) → save_check most s.setup s.progress room ≡ Ok tt → save_room ≤ room
+unfolding save_check
+save-fits most s room e =
+    let a = passed (unfit most s.setup s.progress) _ _ e in
+    let b = passed s.progress.driven _ _ a.1 in
+    ltb-false room save_room (passed (ltb room save_room) _ _ b.1).0
 
 -- what is packed by the table and the map is the saved form
 pub form-packed : (f : Fields) (ws full out out' : List ℕ) (m n : ℕ) → Whole full_words f → ws ≡ field_bytes full_words → full ≡ joined (bytes_of f)
@@ -132,13 +132,13 @@ form-packed f ws full out out' m n h w b e p =
     let map = e ∙ ap (λ (l : List ℕ). map_of (cut l full)) t ∙ ap map_of all in
     p ∙ ap₂ (λ (j : ℕ) (fs : List (List ℕ)). pack_into (packed j fs) out) map all
 
-pub save-accepted : (most : ℕ) (s : State) (out out' : List ℕ) (k n : ℕ) → Whole full_words (fields_of s) → k ≡ save_cause most s.setup s.progress (length out) → k ≡ 0
-    → wrote n out' ≡ pack_into (saved_form (fields_of s)) out → after_save (Saved n) out' ≡ save_of most s out
-unfolding save_of save_at save_answer
-save-accepted most s out out' k n h e z w =
-    let room = save-fits most s (length out) k e z in
-    ap (λ (x : Wrote). after_save (Saved x.length) x.out) (w ∙ sym (pack-room (saved_form (fields_of s)) out _ _ refl (omega (arith, room, form_small (fields_of s) h)) refl))
-    ∙ ap (λ (j : ℕ). save_at j s out) (sym z ∙ e)
+pub save-accepted : (most : ℕ) (s : State) (out out' : List ℕ) (r : Result Unit Cause) (n : ℕ) → Whole full_words (fields_of s) → r ≡ save_check most s.setup s.progress (length out) → r ≡ Ok tt
+    → wrote n out' ≡ pack_into (saved_form (fields_of s)) out → after_save (Ok n) out' ≡ save_of most s out
+unfolding save_of save_at
+save-accepted most s out out' r n h e z w =
+    let room = save-fits most s (length out) (sym e ∙ z) in
+    ap (λ (x : Wrote). after_save (Ok x.length) x.out) (w ∙ sym (pack-room (saved_form (fields_of s)) out _ _ refl (omega (arith, room, form_small (fields_of s) h)) refl))
+    ∙ ap (λ (j : Result Unit Cause). save_at j s out) (sym z ∙ e)
 
 -- the length is small
 pub save-length : (f : Fields) (out out' : List ℕ) (n : ℕ) → Whole full_words f → wrote n out' ≡ pack_into (saved_form f) out → n ≤ save_room

@@ -1,12 +1,11 @@
 // The call `save`: a run between ticks as bytes (document 02, orders 1 and 3).
 ghost use Rattle.std.specs.Prelude.{◌≡◌, ◌≤◌, length};
-ghost use Rattle.course.specs.Rules.Counting.{digit};
 ghost use Rattle.form.specs.Rules.Form.{joined};
 ghost use Rattle.run.specs.Grader.Widths.{most_tiles};
 ghost use Rattle.run.specs.Grader.State.{view};
 ghost use Rattle.run.specs.Grader.Numbers.{control_count, pose_count};
 ghost use Rattle.run.specs.Grader.Saved.{fields_of, flags_of, bytes_of};
-ghost use Rattle.run.specs.Grader.Save.{save_cause, after_save, save_of};
+ghost use Rattle.run.specs.Grader.Save.{save_check, after_save, save_of};
 ghost use Rattle.run.specs.Steps.Save.{first_fields, last_fields, first_bytes, last_bytes, all_bytes};
 
 use crate::numbers::CAR_NUMBERS;
@@ -14,14 +13,8 @@ use crate::saved::ALL_BYTES;
 use crate::state::{Progress, Run, Setup};
 use crate::widths::{FULL_WORDS, MOST_TILES};
 use crate::{numbers, saved, state};
+use course::cause::Cause;
 use form::{float, number, pack, table};
-
-// How a save is answered: with the length of what is written, or refused by a cause's number.
-#[derive(Clone, Copy)]
-pub enum SaveAnswer {
-    Saved(u32),
-    Refused(u32),
-}
 
 // The room of the longest form: the map, and every field but the narrow seed's four bytes, where the wide one stands (cause 2).
 pub const SAVE_ROOM: usize = 2 + ALL_BYTES - 4;
@@ -34,41 +27,29 @@ const SET_FROM: usize = 20;
 
 const SET_END: usize = SET_FROM + 8 * FULL_WORDS;
 
-// The first of the causes 4, 5 and 2 that holds, else 0; n is at most `most`.
-fn save_cause(most: u32, setup: Setup, progress: Progress, room: usize) -> u32
-    ensures { result ≡ save_cause most setup progress room }
+// Refused by the first of the causes 4, 5 and 2 that holds; n is at most `most`.
+#[tactic(auto, unfolding(crate::specs::Grader::Save::save_check))]
+fn save_check(most: u32, setup: Setup, progress: Progress, room: usize) -> Result<(), Cause>
+    ensures { result ≡ save_check most setup progress room }
 {
     if state::is_unfit(most, setup, progress) {
-        return 4;
+        return Err(Cause::State);
     }
     if progress.driven {
-        return 5;
+        return Err(Cause::Turn);
     }
     if room < SAVE_ROOM {
-        return 2;
+        return Err(Cause::Length);
     }
-    0
+    Ok(())
 }
 
-// A flag as a number.
-fn bit(b: bool) -> u64
-    ensures value { result ≡ digit b }
-    ensures upper_bound { result ≤ 1 }
+// Three flags as bits of a byte, the first the lowest.
+#[tactic(auto, unfolding(crate::specs::Grader::Saved::flags_of))]
+pub fn flags_of(first: bool, second: bool, third: bool) -> u32
+    ensures { result ≡ flags_of first second third }
 {
-    if b {
-        return 1;
-    }
-    0
-}
-
-// The flags as bits of a byte.
-fn flags_of(lap: bool, ended: bool, fallback: bool) -> u64
-    ensures { result ≡ flags_of lap ended fallback }
-{
-    let a = bit(lap);
-    let b = bit(ended);
-    let c = bit(fallback);
-    a + 2 * b + 4 * c
+    u32::from(first) + 2 * u32::from(second) + 4 * u32::from(third)
 }
 
 // Narrow seed, lap share, tick limit and tick, over an output of their length.
@@ -130,7 +111,7 @@ fn put_fields(run: Run, full: &mut [u8])
     );
     number::put_words(&credited, &mut full[SET_FROM..SET_END]);
     put_last(
-        flags,
+        u64::from(flags),
         car.fuel_spent,
         &numbers[..CONTROL_NUMBERS],
         &poses,
@@ -140,20 +121,17 @@ fn put_fields(run: Run, full: &mut [u8])
     );
 }
 
-// The run's saved form goes to the front of the output; its length, or the number of a cause and the output as it was.
-pub fn save(run: Run, out: &mut [u8]) -> SaveAnswer
+// The run's saved form goes to the front of the output; its length, or a cause and the output as it was.
+pub fn save(run: Run, out: &mut [u8]) -> Result<u32, Cause>
     ensures { after_save result out.new ≡ save_of most_tiles (view run) out.old }
 {
     let setup = run.setup;
     let progress = run.progress;
-    let cause = save_cause(MOST_TILES, setup, progress, out.len());
-    if cause != 0 {
-        return SaveAnswer::Refused(cause);
-    }
+    save_check(MOST_TILES, setup, progress, out.len())?;
     let mut full = [0u8; ALL_BYTES];
     put_fields(run, &mut full);
     let widths = saved::field_bytes();
     let map = table::map_of(&widths, &full);
     let length = pack::pack(&widths, &full, map, out);
-    SaveAnswer::Saved(length as u32)
+    Ok(length as u32)
 }

@@ -14,7 +14,7 @@ use Rattle.run.specs.Grader.State.{State}
 use Rattle.run.specs.Grader.Start.{Begun, start_cause_of, start_values_of}
 use Rattle.run.specs.Grader.Settle.{settle_cause_of, settle_values_of}
 use Rattle.run.specs.Grader.Sheet.{no_figures}
-use Rattle.run.specs.Grader.Save.{AfterSave, save_cause_of, save_length_of}
+use Rattle.run.specs.Grader.Save.{AfterSave}
 use Rattle.run.specs.Grader.Restore.{AfterRestore, restore_cause_of, saved_cause_of, saved_for_of}
 use Rattle.certificate.specs.Grader.Replay.{Replay}
 use Rattle.run.specs.declared.state.Run.{Run}
@@ -23,7 +23,6 @@ use Rattle.run.specs.declared.state.Progress.{Progress}
 use Rattle.run.specs.declared.dynamics.Force.{Force}
 use Rattle.run.specs.declared.settle.SettleAnswer.{SettleAnswer}
 use Rattle.run.specs.declared.sheet.RunSheet.{RunSheet}
-use Rattle.run.specs.declared.save.SaveAnswer.{SaveAnswer}
 use Rattle.run.specs.declared.restore.SavedCourse.{SavedCourse}
 use Rattle.abi.specs.declared.flat.FlatLaid.{FlatLaid}
 use Rattle.abi.specs.declared.flat.FlatCurbs.{FlatCurbs}
@@ -132,8 +131,8 @@ flat_sheet a =
 
 -- ---- saves
 
-unfoldable pub flat_saved : SaveAnswer → FlatSaved
-flat_saved a = record { cause = save_cause_of a; length = save_length_of a }
+unfoldable pub flat_saved : Result ℕ Cause → FlatSaved
+flat_saved a = record { cause = cause_number a; length = result_unwrap_or a 0 }
 
 -- with what the lent output holds after it
 pub record SavedOut : Type 0 where

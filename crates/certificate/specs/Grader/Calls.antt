@@ -2,10 +2,12 @@
 -- before it returned, refused or not; and a list that holds saves and restores too. What a call answers and returns is what its contract says. For states whose sets have m words and take n up
 -- to `most`. Assumes nothing.
 use Rattle.std.specs.Prelude.{List, [], ◌∷◌, ℕ, get_or, take, Float, Result, Ok, Err}
+use Rattle.course.specs.Grader.Cause.{cause_number}
+use Rattle.course.specs.declared.cause.Cause.{Cause}
 use Rattle.run.specs.Grader.State.{State, Columns}
 use Rattle.run.specs.Grader.Drive.{drive_of}
 use Rattle.run.specs.Grader.Settle.{settle_of}
-use Rattle.run.specs.Grader.Save.{save_of, save_cause_of}
+use Rattle.run.specs.Grader.Save.{save_of}
 use Rattle.run.specs.Grader.Restore.{restore_of, restore_cause_of}
 use Rattle.certificate.specs.Rules.Answers.{Answer, Reply}
 use Rattle.certificate.specs.Rules.Answers.Answer.{drove, settled, refused}
@@ -14,9 +16,6 @@ use Rattle.run.specs.declared.state.Pose.{Pose}
 use Rattle.run.specs.declared.dynamics.Motion.{Motion}
 use Rattle.run.specs.declared.dynamics.Force.{Force}
 use Rattle.course.specs.Grader.Cause.{number_of}
-use Rattle.course.specs.declared.cause.Cause.{Cause}
-use Rattle.run.specs.declared.save.SaveAnswer.{SaveAnswer}
-use Rattle.run.specs.declared.save.SaveAnswer.TheVariants.{Saved, Refused as NotSaved}
 use Rattle.run.specs.declared.restore.RestoreAnswer.{RestoreAnswer}
 use Rattle.run.specs.declared.restore.RestoreAnswer.TheVariants.{Restored, Refused as NotRestored}
 use Rattle.run.specs.declared.settle.SettleValues.{SettleValues}
@@ -83,9 +82,9 @@ abbrev pub went : Reply → Going → Went
 went r g = record { reply = r; going = g }
 
 -- a save's bytes are those of its output up to the length that it answers
-abbrev pub saves_after : SaveAnswer → List ℕ → List (List ℕ) → List (List ℕ)
-saves_after (Saved length) out bs = take length out ∷ bs
-saves_after (NotSaved k) out bs = bs
+abbrev pub saves_after : Result ℕ Cause → List ℕ → List (List ℕ) → List (List ℕ)
+saves_after (Ok length) out bs = take length out ∷ bs
+saves_after (Err k) out bs = bs
 
 -- a refused restore's zeros are not taken up: the list goes on with the state that it had
 abbrev pub state_next : RestoreAnswer → State → State → State
@@ -99,7 +98,7 @@ request_of m most g (call c) =
     went (answered r.answer) (going r.state g.saves)
 request_of m most g (save out) =
     let d = save_of most g.state out in
-    went (decided (save_cause_of d.answer)) (going g.state (saves_after d.answer d.out g.saves))
+    went (decided (cause_number d.answer)) (going g.state (saves_after d.answer d.out g.saves))
 request_of m most g (restore l n i) =
     let d = restore_of m most (get_or g.saves i []) l n in
     went (decided (restore_cause_of d.answer)) (going (state_next d.answer d.state g.state) g.saves)

@@ -3,4 +3,4 @@ use Rattle.abi.proofs.FlatLaws.{saved-whole}
 use Rattle.abi.proofs.saves.grader_save.Goals as goal
 
 pub returns : goal.returns
-returns c = saved-whole _ _ _ _ c.saved.ensures c.save.ensures
+returns c = saved-whole _ _ _ _ c.from.ensures c.save.ensures

@@ -1,5 +1,5 @@
 -- `run::save::put_fields` meets its contract. Assumes nothing.
-use mathlib.Core.Path.{◌≡◌, sym, ap}
+use mathlib.Core.Path.{◌≡◌, sym, ap, ◌∙◌}
 use native.Mathlib.Omega.{arith}
 use lib.ListN.{length, take}
 use borrow.Author.Rules.{rules}
@@ -49,5 +49,5 @@ returns c =
     search rules
     in
     let s = view c.args.run in
-    fields-put (fields_of s) c.args.full.now _ _ _ c.put_words.result c.seed_parts-seed.result c.flags_of-flags.result _ (state-whole full_words s credited-length poses-length) c.requires
-    c.seed_parts-seed.ensures c.put_first.ensures c.put_words.ensures c.flags_of-flags.ensures (ap (take control_count) c.put_car.ensures) c.put_last.ensures
+    fields-put (fields_of s) c.args.full.now _ _ _ c.put_words.result c.seed_parts-seed.result c.from.result _ (state-whole full_words s credited-length poses-length) c.requires
+    c.seed_parts-seed.ensures c.put_first.ensures c.put_words.ensures (c.from.ensures ∙ c.flags_of-flags.ensures) (ap (take control_count) c.put_car.ensures) c.put_last.ensures

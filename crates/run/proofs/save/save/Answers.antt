@@ -9,11 +9,14 @@ use Rattle.run.specs.Grader.Numbers.{pose_count}
 use Rattle.run.specs.Grader.Saved.{fields_of}
 use Rattle.run.proofs.FieldSizes.{state-whole}
 use Rattle.run.proofs.SaveLaws.{save-refused, form-packed, save-length, save-accepted}
+use Rattle.std.proofs.lemmas.Result.{err_from_is_err_and}
 use Rattle.run.proofs.save.save.Goals as goal
 
-pub returns-then-cause-ne0 : goal.returns-then-cause-ne0
+pub returns-in_err-save_check : goal.returns-in_err-save_check
 unfolding view
-returns-then-cause-ne0 c = save-refused most_tiles (view c.args.run) _ _ c.save_cause-cause.ensures c.if-cause-ne0.true
+returns-in_err-save_check c =
+    let p = err_from_is_err_and c.from_residual.result c.from_residual.ensures.1 in
+    rw (p.1, p.2) (save-refused most_tiles (view c.args.run) _ _ _ c.save_check.ensures c.in_err-save_check.was)
 
 pub overflow_cast-result : goal.overflow_cast-result
 unfolding view
@@ -41,5 +44,4 @@ returns c =
     let s = view c.args.run in
     let h = state-whole full_words s credited-length poses-length in
     let w = form-packed (fields_of s) _ _ c.args.out.now _ _ _ h c.field_bytes-widths.ensures c.put_fields.ensures c.map_of-map.ensures c.pack-length.ensures in
-    let z : c.save_cause-cause.result ≡ 0 = omega (arith, c.if-cause-ne0.false) in
-    save-accepted most_tiles s c.args.out.now _ _ _ h c.save_cause-cause.ensures z w
+    save-accepted most_tiles s c.args.out.now _ _ _ h c.save_check.ensures c.in_ok-save_check.was w
