@@ -34,5 +34,5 @@ returns c =
       contact = c.full_contact-c.ensures;
       off = c.is_off-off.ensures;
       progress = c.settled_progress-next.ensures;
-      poses = c.put_poses.ensures;
+      poses = rw c.at-stance.ensures c.put_poses.ensures;
     }))
