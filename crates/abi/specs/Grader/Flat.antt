@@ -1,6 +1,7 @@
 -- Each answer as the numbers that cross the C boundary: those that the crates below define for each case. Assumes nothing.
-use Rattle.std.specs.Prelude.{List, [], ◌∷◌, ℕ, get_or, Float, Result}
+use Rattle.std.specs.Prelude.{false, List, [], ◌∷◌, ℕ, get_or, Float, Result}
 use Rattle.std.specs.Float.{nan}
+use Rattle.std.specs.Result.{result_unwrap_or}
 use Rattle.rng.specs.declared.Draw.{Draw as Drawn}
 use Rattle.course.specs.Grader.Outcome.{CourseColumns, laid_cause_of, laid_values_of}
 use Rattle.course.specs.Grader.Curbs.{curb_cause_of, curb_count_of}
@@ -13,7 +14,6 @@ use Rattle.course.specs.Grader.Cause.{cause_number}
 use Rattle.course.specs.declared.cause.Cause.{Cause}
 use Rattle.run.specs.Grader.State.{State}
 use Rattle.run.specs.Grader.Start.{Begun, start_cause_of, start_values_of}
-use Rattle.run.specs.Grader.Settle.{settle_cause_of, settle_values_of}
 use Rattle.run.specs.Grader.Sheet.{sheet_cause_of, sheet_figures_of}
 use Rattle.run.specs.Grader.Save.{AfterSave, save_cause_of, save_length_of}
 use Rattle.run.specs.Grader.Restore.{AfterRestore, restore_cause_of, saved_cause_of, saved_for_of}
@@ -22,7 +22,7 @@ use Rattle.run.specs.declared.state.Run.{Run}
 use Rattle.run.specs.declared.start.StartAnswer.{StartAnswer}
 use Rattle.run.specs.declared.state.Progress.{Progress}
 use Rattle.run.specs.declared.dynamics.Force.{Force}
-use Rattle.run.specs.declared.settle.SettleAnswer.{SettleAnswer}
+use Rattle.run.specs.declared.settle.SettleValues.{SettleValues}
 use Rattle.run.specs.declared.sheet.SheetAnswer.{SheetAnswer}
 use Rattle.run.specs.declared.save.SaveAnswer.{SaveAnswer}
 use Rattle.run.specs.declared.restore.SavedCourse.{SavedCourse}
@@ -122,15 +122,20 @@ flat_started b =
 unfoldable pub flat_driven : Result (List Force) Cause → Progress → FlatDriven
 flat_driven r p = record { cause = cause_number r; progress = p }
 
-unfoldable pub flat_settled : SettleAnswer → Progress → FlatSettled
-flat_settled a p =
+-- a refused settle has none
+abbrev pub no_settle : SettleValues
+no_settle = record { new_tiles = 0; n = 0; off = false; lap = false; ended = false }
+
+unfoldable pub flat_settled : Result SettleValues Cause → Progress → FlatSettled
+flat_settled r p =
+    let v = result_unwrap_or r no_settle in
     record {
-      cause = settle_cause_of a;
-      new_tiles = (settle_values_of a).new_tiles;
-      n = (settle_values_of a).n;
-      off = (settle_values_of a).off;
-      lap = (settle_values_of a).lap;
-      ended = (settle_values_of a).ended;
+      cause = cause_number r;
+      new_tiles = v.new_tiles;
+      n = v.n;
+      off = v.off;
+      lap = v.lap;
+      ended = v.ended;
       progress = p;
     }
 
