@@ -21,7 +21,7 @@ mod saves;
 use course::cause::Cause;
 use run::dynamics::Force;
 use run::reward::Weights;
-use run::settle::SettleAnswer;
+use run::settle::SettleValues;
 use run::sheet::{RunSheet, SheetAnswer};
 use run::start::StartAnswer;
 use run::state::Run;
@@ -241,16 +241,16 @@ fn replay_drive<W: Write>(out: &mut W, rest: &[u8], run: Run) -> io::Result<Run>
     Ok(after)
 }
 
-fn line_settled<W: Write>(out: &mut W, answer: SettleAnswer) -> io::Result<()> {
+fn line_settled<W: Write>(out: &mut W, answer: Result<SettleValues, Cause>) -> io::Result<()> {
     match answer {
-        SettleAnswer::Settled(s) => {
+        Ok(s) => {
             vectors::line_u64(out, s.new_tiles as u64)?;
             vectors::line_u64(out, s.n as u64)?;
             vectors::line_bool(out, s.off)?;
             vectors::line_bool(out, s.lap)?;
             vectors::line_bool(out, s.ended)
         }
-        SettleAnswer::Refused(cause) => vectors::line_refused(out, cause),
+        Err(cause) => vectors::line_refused(out, cause.number()),
     }
 }
 
@@ -262,8 +262,9 @@ fn replay_settle<W: Write>(
     list: &[u32],
     run: Run,
 ) -> io::Result<Run> {
-    let s = settle::settle(
-        run,
+    let mut after = run;
+    let answer = settle::settle(
+        &mut after,
         vectors::front::floats(tiles, vectors::word(rest, 1)),
         vectors::front::ids(offsets, vectors::word(rest, 2)),
         vectors::front::ids(list, vectors::word(rest, 3)),
@@ -271,8 +272,6 @@ fn replay_settle<W: Write>(
         vectors::float(rest, 5),
         read::poses(rest, 6),
     );
-    let after = s.run;
-    let answer = s.answer;
     line_settled(out, answer)?;
     vectors::line_hex(out, hash::state(after))?;
     Ok(after)
