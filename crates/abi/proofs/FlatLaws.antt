@@ -15,7 +15,8 @@ use Rattle.run.specs.Grader.State.{view}
 use Rattle.run.specs.Grader.Start.{Begun, begun, start_cause_of, start_values_of}
 use Rattle.run.specs.Grader.Drive.{DroveParts, drove_parts, drive_parts_of}
 use Rattle.course.specs.Grader.Cause.{cause_number}
-use Rattle.run.specs.Grader.Settle.{settle_cause_of, settle_values_of, settled_parts, SettledPoses, settled_poses}
+use Rattle.run.specs.Grader.Settle.{settled_parts, SettledPoses, settled_poses}
+use Rattle.std.specs.Result.{result_unwrap_or}
 use Rattle.run.specs.Grader.Numbers.{motions_from, force_numbers, car_from, car_numbers}
 use Rattle.run.specs.Grader.Save.{AfterSave, after_save}
 use Rattle.run.specs.Grader.Restore.{AfterRestore, after_restore, restore_cause_of}
@@ -29,12 +30,11 @@ use Rattle.run.specs.declared.start.StartAnswer.{StartAnswer}
 use Rattle.run.specs.declared.start.StartValues.{StartValues}
 use Rattle.run.specs.declared.dynamics.Force.{Force}
 use Rattle.std.specs.Prelude.{Ok, Err}
-use Rattle.run.specs.declared.settle.SettleAnswer.{SettleAnswer}
 use Rattle.run.specs.declared.settle.SettleValues.{SettleValues}
 use Rattle.run.specs.declared.sheet.RunSheet.{RunSheet}
 use Rattle.run.specs.declared.restore.RestoreAnswer.{RestoreAnswer}
 use Rattle.run.proofs.DriveLaws.{refused-keeps}
-use Rattle.abi.specs.Grader.Flat.{flat_laid, flat_curbs, run_of, flat_started, flat_driven, flat_settled, flat_sheet, flat_saved, saved_out, flat_save, flat_restored, flat_answers, flat_replayed, replay_columns, columns_after}
+use Rattle.abi.specs.Grader.Flat.{flat_laid, flat_curbs, run_of, flat_started, flat_driven, no_settle, flat_settled, flat_sheet, flat_saved, saved_out, flat_save, flat_restored, flat_answers, flat_replayed, replay_columns, columns_after}
 use Rattle.abi.specs.Grader.InPlace.{DrivenInPlace, driven_in_place, forces_after, drive_in_place, SettledInPlace, settled_in_place}
 use Rattle.abi.specs.declared.flat.FlatLaid.{FlatLaid}
 use Rattle.abi.specs.declared.flat.FlatCurbs.{FlatCurbs}
@@ -98,8 +98,8 @@ module _ (m most : ℕ) (u : Setup) (p : Progress) (car : List Float) (wheels : 
 abbrev settled_from : SettledPoses → SettledInPlace
 settled_from d = settled_in_place (flat_settled d.parts.answer d.parts.progress) d.parts.credited d.parts.wheels d.poses
 
-pub settled-whole : {a : SettleAnswer} {next : Progress} {c w : List ℕ} {last : List Float} {k : ℕ} {v : SettleValues} {d : SettledPoses}
-    → k ≡ settle_cause_of a → v ≡ settle_values_of a → settled_poses (settled_parts a next c w) last ≡ d
+pub settled-whole : {a : Result SettleValues Cause} {next : Progress} {c w : List ℕ} {last : List Float} {k : ℕ} {v : SettleValues} {d : SettledPoses}
+    → k ≡ cause_number a → v ≡ result_unwrap_or a no_settle → settled_poses (settled_parts a next c w) last ≡ d
     → settled_in_place (record { cause = k; new_tiles = v.new_tiles; n = v.n; off = v.off; lap = v.lap; ended = v.ended; progress = next }) c w last
     ≡ settled_from d
 unfolding flat_settled

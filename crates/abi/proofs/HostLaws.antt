@@ -18,7 +18,7 @@ use Rattle.run.proofs.RefusalLaws.{number-some}
 use Rattle.course.specs.Grader.Cause.{number_of, cause_number}
 use Rattle.course.specs.declared.cause.Cause.{Cause}
 use Rattle.std.specs.Prelude.{Result, Ok, Err}
-use Rattle.run.specs.Grader.Settle.{settle_answer, settle_cause_of, settle_values_of, settle_cause, settled_by, settle_at, settle_parts_of, poses_after, settle_poses_of, settle_of}
+use Rattle.run.specs.Grader.Settle.{settle_check, settled_by, settle_at, settle_parts_of, poses_after, settle_poses_of, settle_of}
 use Rattle.run.specs.Grader.Start.{zero_state, started_by, start_at, start_of}
 use Rattle.run.specs.Grader.Saved.{Loaded, loaded}
 use Rattle.run.specs.Grader.Saved.Loaded.{kept, not_kept}
@@ -49,12 +49,12 @@ module _ (m most : ℕ) (u : Setup) (p : Progress) (car : List Float) (credited 
   drive-at (Ok none) action ms fs e = rw e
   drive-at (Err c) action ms fs e = rw (e, ne_eqb (number_of c) 0 (number-some c))
 
-  settle-at : (k : ℕ) (l : Columns) (x y : Float) (ps : List Pose) → settle_cause most u p l x y ps ≡ k
+  settle-at : (r : Result Unit Cause) (l : Columns) (x y : Float) (ps : List Pose) → settle_check most u p l x y ps ≡ r
       → read_as (host_reply m most (kept_run u p car credited wheels last seed) (HostCall.settle l x y ps))
       ≡ reply_of m most (state_of u p (car_from car) credited wheels last seed) (Call.settle l x y ps)
-  unfolding host_reply settle_in_place flat_settled settle_read reply_of settle_of settle_poses_of poses_after settle_parts_of settle_at settle_answer settle_cause_of settle_values_of settled_by kept_state
-  settle-at zero l x y ps e = rw e
-  settle-at (suc k) l x y ps e = rw (e, ne_eqb (suc k) 0 (λ z. omega (arith, z)))
+  unfolding host_reply settle_in_place flat_settled settle_read reply_of settle_of settle_poses_of poses_after settle_parts_of settle_at cause_number settled_by kept_state
+  settle-at (Ok none) l x y ps e = rw e
+  settle-at (Err c) l x y ps e = rw (e, ne_eqb (number_of c) 0 (number-some c))
 
 one-call : (m most : ℕ) (k : Kept) (c : HostCall) → read_as (host_reply m most k c) ≡ reply_of m most (kept_state k) (value_call c)
 unfolding value_call kept_state

@@ -2,7 +2,6 @@
 // the arrays that C cannot pass by value.
 ghost use Rattle.std.specs.Prelude.{◌≡◌};
 ghost use Rattle.run.specs.Grader.Start.{start_cause_of, start_values_of};
-ghost use Rattle.run.specs.Grader.Settle.{settle_cause_of, settle_values_of};
 ghost use Rattle.run.specs.Grader.Restore.{restore_cause_of};
 ghost use Rattle.abi.specs.Grader.Flat.{flat_laid, flat_curbs, flat_sheet, flat_saved, flat_saved_for, flat_angle, flat_answers};
 
@@ -12,7 +11,6 @@ use course::curbs::CurbAnswer;
 use course::points::Laid;
 use course::{cause, points};
 use run::restore::{RestoreAnswer, SavedCourse};
-use run::settle::{SettleAnswer, SettleValues};
 use run::sheet::RunSheet;
 use run::start::{StartAnswer, StartValues};
 use run::state::{Pose, Progress, Run};
@@ -219,32 +217,6 @@ pub(crate) fn start_values(answer: StartAnswer) -> StartValues
         StartAnswer::Refused(_) => StartValues {
             count: 0,
             lap: false,
-        },
-    }
-}
-
-// The cause that settle answered, 0 where it settled.
-pub(crate) fn settle_cause(answer: SettleAnswer) -> u32
-    ensures { result ≡ settle_cause_of answer }
-{
-    match answer {
-        SettleAnswer::Settled(_) => 0,
-        SettleAnswer::Refused(cause) => cause,
-    }
-}
-
-// The values that settle answered.
-pub(crate) fn settle_values(answer: SettleAnswer) -> SettleValues
-    ensures { result ≡ settle_values_of answer }
-{
-    match answer {
-        SettleAnswer::Settled(values) => values,
-        SettleAnswer::Refused(_) => SettleValues {
-            new_tiles: 0,
-            n: 0,
-            off: false,
-            lap: false,
-            ended: false,
         },
     }
 }

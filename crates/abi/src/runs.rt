@@ -18,6 +18,7 @@ use certificate::{answer, call, replay};
 use course::cause;
 use run::numbers::{CAR_NUMBERS, POSE_NUMBERS};
 use run::reward::Weights;
+use run::settle::SettleValues;
 use run::state::{Progress, Setup};
 use run::widths::{FULL_WORDS, WHEEL_WORDS};
 use run::{drive, numbers, reward, settle, sheet, start};
@@ -90,13 +91,13 @@ pub extern "C" fn grader_drive_parts(
     let mut after = numbers::car_from(car);
     let given = call::motions_lent(motions);
     let said = drive::drive_parts(setup, &mut next, &mut after, wheels, action, given);
-    let number = cause::cause_number(&said);
+    let cause = cause::cause_number(&said);
     if let Ok(pushes) = said {
         numbers::put_car(after, car);
         answer::put_forces_lent(pushes, forces);
     }
     FlatDriven {
-        cause: number,
+        cause,
         progress: next,
     }
 }
@@ -121,15 +122,21 @@ pub extern "C" fn grader_settle_parts(
         last.old (columns tiles.now offsets.now list.now) x y
         poses.wheels }
 {
+    let mut next = progress;
     let given = poses.wheels;
-    let s = settle::settle_parts(
-        setup, progress, credited, wheels, last, tiles, offsets, list, x, y, given,
+    let said = settle::settle_parts(
+        setup, &mut next, credited, wheels, last, tiles, offsets, list, x, y, given,
     );
-    let answer = s.answer;
-    let next = s.progress;
-    let v = flat::settle_values(answer);
+    let cause = cause::cause_number(&said);
+    let v = said.unwrap_or(SettleValues {
+        new_tiles: 0,
+        n: 0,
+        off: false,
+        lap: false,
+        ended: false,
+    });
     FlatSettled {
-        cause: flat::settle_cause(answer),
+        cause,
         new_tiles: v.new_tiles,
         n: v.n,
         off: v.off,

@@ -1,5 +1,5 @@
 -- Each answer as the numbers that cross the C boundary: those that the crates below define for each case. Assumes nothing.
-use Rattle.std.specs.Prelude.{List, [], ◌∷◌, ℕ, map, Result, Float}
+use Rattle.std.specs.Prelude.{List, [], ◌∷◌, ℕ, map, Result, Float, false}
 use Rattle.std.specs.Result.{result_unwrap_or}
 use Rattle.rng.specs.Rules.SplitMix.{Drawn}
 use Rattle.course.specs.Grader.Outcome.{CourseColumns, laid_cause_of, laid_values_of}
@@ -12,7 +12,6 @@ use Rattle.course.specs.declared.points.Laid.{Laid}
 use Rattle.course.specs.declared.curbs.CurbAnswer.{CurbAnswer}
 use Rattle.run.specs.Grader.State.{State}
 use Rattle.run.specs.Grader.Start.{Begun, start_cause_of, start_values_of}
-use Rattle.run.specs.Grader.Settle.{settle_cause_of, settle_values_of}
 use Rattle.run.specs.Grader.Sheet.{no_figures}
 use Rattle.run.specs.Grader.Save.{AfterSave}
 use Rattle.run.specs.Grader.Restore.{AfterRestore, restore_cause_of, saved_cause_of, saved_for_of}
@@ -21,8 +20,8 @@ use Rattle.run.specs.declared.state.Run.{Run}
 use Rattle.run.specs.declared.start.StartAnswer.{StartAnswer}
 use Rattle.run.specs.declared.state.Progress.{Progress}
 use Rattle.run.specs.declared.dynamics.Force.{Force}
-use Rattle.run.specs.declared.settle.SettleAnswer.{SettleAnswer}
 use Rattle.run.specs.declared.sheet.RunSheet.{RunSheet}
+use Rattle.run.specs.declared.settle.SettleValues.{SettleValues}
 use Rattle.run.specs.declared.restore.SavedCourse.{SavedCourse}
 use Rattle.abi.specs.declared.flat.FlatLaid.{FlatLaid}
 use Rattle.abi.specs.declared.flat.FlatCurbs.{FlatCurbs}
@@ -104,15 +103,20 @@ flat_started b =
 unfoldable pub flat_driven : Result (List Force) Cause → Progress → FlatDriven
 flat_driven r p = record { cause = cause_number r; progress = p }
 
-unfoldable pub flat_settled : SettleAnswer → Progress → FlatSettled
-flat_settled a p =
+-- a refused settle has none
+abbrev pub no_settle : SettleValues
+no_settle = record { new_tiles = 0; n = 0; off = false; lap = false; ended = false }
+
+unfoldable pub flat_settled : Result SettleValues Cause → Progress → FlatSettled
+flat_settled r p =
+    let v = result_unwrap_or r no_settle in
     record {
-      cause = settle_cause_of a;
-      new_tiles = (settle_values_of a).new_tiles;
-      n = (settle_values_of a).n;
-      off = (settle_values_of a).off;
-      lap = (settle_values_of a).lap;
-      ended = (settle_values_of a).ended;
+      cause = cause_number r;
+      new_tiles = v.new_tiles;
+      n = v.n;
+      off = v.off;
+      lap = v.lap;
+      ended = v.ended;
       progress = p;
     }
 

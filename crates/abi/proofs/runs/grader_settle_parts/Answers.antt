@@ -5,4 +5,4 @@ use Rattle.abi.proofs.runs.grader_settle_parts.Goals as goal
 
 pub returns : goal.returns
 unfolding settle_in_place
-returns c = settled-whole c.settle_cause.ensures c.settle_values-v.ensures c.settle_parts-s.ensures
+returns c = settled-whole c.cause_number-cause.ensures c.unwrap_or-v.ensures c.settle_parts-said.ensures
