@@ -10,14 +10,10 @@ use lib.Ieee.{Float}
 use borrow.Author.Tests.{ne_eqb}
 use Rattle.course.specs.Grader.Cause.{number_of, cause_number}
 use Rattle.course.specs.declared.cause.Cause.{Cause}
-use Rattle.run.proofs.CheckLaws.{number-some}
+use Rattle.run.proofs.CheckLaws.{number-some, number-not-0}
 use Rattle.run.specs.Grader.State.{State, state_of, view, Columns}
 use Rattle.run.specs.Rules.Pass.{gathered_of, pass_of, still_car}
 use Rattle.run.specs.Grader.Drive.{drive_check, drive_at, drive_parts_of, drive_of}
-use Rattle.run.proofs.RefusalLaws.{number-some}
-use Rattle.course.specs.Grader.Cause.{number_of, cause_number}
-use Rattle.course.specs.declared.cause.Cause.{Cause}
-use Rattle.std.specs.Prelude.{Result, Ok, Err}
 use Rattle.run.specs.Grader.Settle.{settle_check, settled_by, settle_at, settle_parts_of, poses_after, settle_poses_of, settle_of}
 use Rattle.run.specs.Grader.Start.{zero_state, started_by, start_at, start_of}
 use Rattle.run.specs.Grader.Saved.{Loaded, loaded}
@@ -47,14 +43,14 @@ module _ (m most : ℕ) (u : Setup) (p : Progress) (car : List Float) (credited 
       ≡ reply_of m most (state_of u p (car_from car) credited wheels last seed) (Call.drive action (motions_from ms))
   unfolding host_reply drive_in_place flat_driven forces_after drive_read reply_of drive_of drive_parts_of drive_at cause_number kept_state pass_of gathered_of forces_from force_from force_numbers car_from car_numbers wheel_from
   drive-at (Ok none) action ms fs e = rw e
-  drive-at (Err c) action ms fs e = rw (e, ne_eqb (number_of c) 0 (number-some c))
+  drive-at (Err c) action ms fs e = rw (e, ne_eqb (number_of c) 0 (number-not-0 c))
 
   settle-at : (r : Result Unit Cause) (l : Columns) (x y : Float) (ps : List Pose) → settle_check most u p l x y ps ≡ r
       → read_as (host_reply m most (kept_run u p car credited wheels last seed) (HostCall.settle l x y ps))
       ≡ reply_of m most (state_of u p (car_from car) credited wheels last seed) (Call.settle l x y ps)
   unfolding host_reply settle_in_place flat_settled settle_read reply_of settle_of settle_poses_of poses_after settle_parts_of settle_at cause_number settled_by kept_state
   settle-at (Ok none) l x y ps e = rw e
-  settle-at (Err c) l x y ps e = rw (e, ne_eqb (number_of c) 0 (number-some c))
+  settle-at (Err c) l x y ps e = rw (e, ne_eqb (number_of c) 0 (number-not-0 c))
 
 one-call : (m most : ℕ) (k : Kept) (c : HostCall) → read_as (host_reply m most k c) ≡ reply_of m most (kept_state k) (value_call c)
 unfolding value_call kept_state

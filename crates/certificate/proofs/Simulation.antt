@@ -39,7 +39,7 @@ use Rattle.course.proofs.BoolLaws.{right-false, cond-else, cond-skip, cleared}
 use Rattle.run.proofs.WordLaws.{get_d-zeros, how_many-cong, how_many-or, set_of-cong}
 use Rattle.run.proofs.CreditLaws.{few, empty-words}
 use Rattle.run.proofs.AnyLaws.{any_none}
-use Rattle.run.proofs.RefusalLaws.{number-some, none-number}
+use Rattle.run.proofs.CheckLaws.{number-not-0, none-number}
 use Rattle.run.proofs.DriveLaws.{drive-cause-number}
 use Rattle.run.proofs.CallLaws.{settle-cause-number}
 use Rattle.std.specs.Prelude.{Result, Ok, Err}
@@ -186,7 +186,7 @@ module _ (m most : ℕ) (c : List TrackPoint) (room : most ≤ 64 * m) (some : 0
     where
       next : {a b : ℕ} → a ≤ b → a < b + 1
       next l = omega arith
-  drive-at label h v a ms roads (Err b) e = ap (with_state label) (drive-refused (number_of b) h a ms (number-some b))
+  drive-at label h v a ms roads (Err b) e = ap (with_state label) (drive-refused (number_of b) h a ms (number-not-0 b))
 
   -- ---- settle
   settle-number : (label : CourseLabel) (h : History) → InTurn h → (l : Columns) (x y : Float) (ps : List Pose) → (short_of (length c) l ≡ false → HoldsCourse l)
@@ -261,7 +261,7 @@ module _ (m most : ℕ) (c : List TrackPoint) (room : most ≤ 64 * m) (some : 0
     where
       values : Progress → SettleValues
       values p = record { new_tiles = new_tiles c h ps; n = length c; off = off_field x y; lap = p.lap; ended = p.ended }
-  settle-at label h v l x y ps (Err b) w = ap (with_state label) (settle-refused (number_of b) h x y ps (number-some b))
+  settle-at label h v l x y ps (Err b) w = ap (with_state label) (settle-refused (number_of b) h x y ps (number-not-0 b))
 
   -- an accepted settle was lent columns that are long enough
   long-enough : (h : History) (l : Columns) (x y : Float) (ps : List Pose) → settle_number c h (lengths_of l) x y ps ≡ 0 → short_of (length c) l ≡ false

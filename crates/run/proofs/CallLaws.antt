@@ -33,7 +33,7 @@ use Rattle.std.specs.Prelude.{Result, Ok, Err}
 use Rattle.course.specs.Grader.Cause.{number_of, cause_number}
 use Rattle.course.specs.declared.cause.Cause.{Cause}
 use Rattle.course.specs.declared.cause.Cause.TheVariants.{State as NoRun, Length, Turn, Limit, Range, Index}
-use Rattle.run.proofs.RefusalLaws.{first-number, none-number, met-none}
+use Rattle.run.proofs.CheckLaws.{cause-by, none-number, met-none}
 
 -- the lent tiles are long enough for n of them
 pub long : (tiles offsets n most : ℕ) → short_columns n tiles offsets ≡ false → ltb most n ≡ false → most ≤ most_points → n * 8 ≤ tiles
@@ -118,7 +118,7 @@ pub settle-cause-number : (most : ℕ) (u : Setup) (p : Progress) (l : Columns) 
     (cond (leb u.tick_limit p.tick) 6
     (cond (short_of u.n l) 2 (cond (not (places_ok x y ps)) 8 (cond (not (sound_poses l.offsets l.list u.n ps)) 10 0)))))
 unfolding settle_check number_of
-settle-cause-number most u p l x y ps = simp (first-number, none-number)
+settle-cause-number most u p l x y ps = simp (cause-by, none-number)
 
 -- a cause was found for a settle
 pub record SettleCaused (most : ℕ) (u : Setup) (p : Progress) (l : Columns) (x y : Float) (ps : List Pose) (e : Cause) : Type 0 where

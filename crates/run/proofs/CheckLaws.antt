@@ -1,7 +1,8 @@
 -- Checks that end at the first cause that holds: what a check that none ended tells of each test, and the number of the cause that ends one. Assumes nothing.
 use mathlib.Core.Bool.{Bool, true, false, cond}
-use mathlib.Core.Path.{◌≡◌, refl, ap}
+use mathlib.Core.Path.{◌≡◌, refl, ap, sym}
 use Prim.Native.Nat.{ℕ, suc}
+use native.Mathlib.Omega.{arith}
 use Rattle.std.specs.Prelude.{Result, Ok, Err, is_ok}
 use Rattle.std.proofs.lemmas.Bool.{false≢true}
 use Rattle.course.specs.Grader.Cause.{number_of, cause_number}
@@ -11,6 +12,10 @@ use Rattle.course.specs.declared.cause.Cause.{Cause}
 pub passed : {A E : Type 0} (b : Bool) (k : E) (r : Result A E) {x : A} → cond b (Err k) r ≡ Ok x → (b ≡ false) × (r ≡ Ok x)
 passed true k r e = absurd (false≢true (ap is_ok e))
 passed false k r e = (refl, e)
+
+-- the same of a check that passes, read from the right
+pub met-none : {A E : Type 0} {v : A} (b : Bool) (k : E) (r : Result A E) → Ok v ≡ cond b (Err k) r → (b ≡ false) × (Ok v ≡ r)
+met-none b k r e = let p = passed b k r (sym e) in (p.0, sym p.1)
 
 -- the number of a check, test by test
 pub cause-by : {A : Type 0} (b : Bool) (k : Cause) (r : Result A Cause) → cause_number (cond b (Err k) r) ≡ cond b (number_of k) (cause_number r)
@@ -32,3 +37,11 @@ number-some Cause.Count = (8, refl)
 number-some Cause.Index = (9, refl)
 number-some Cause.Form = (10, refl)
 number-some Cause.Course = (11, refl)
+
+pub number-not-0 : (k : Cause) → number_of k ≡ 0 → ⊥
+number-not-0 k e = let n = number-some k in omega (arith, n.1, e)
+
+-- a check that passes has none
+pub none-number : {A : Type 0} (v : A) → cause_number (Ok v) ≡ 0
+unfolding cause_number
+none-number v = refl

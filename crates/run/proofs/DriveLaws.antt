@@ -10,7 +10,7 @@ use Rattle.course.specs.Grader.Cause.{number_of, cause_number}
 use Rattle.run.specs.Rules.Arguments.{motion_at, motions_ok}
 use Rattle.run.specs.Rules.Dynamics.{TyreForce, PassedWheel, turning_of, limit_of, held_of, push_of, finish_of, tyre_of}
 use Rattle.run.specs.Grader.State.{State, state_of, awaiting, unfit}
-use Rattle.run.proofs.RefusalLaws.{first-number, none-number}
+use Rattle.run.proofs.CheckLaws.{cause-by, none-number}
 use Rattle.run.specs.Grader.Grip.{roads_of}
 use Rattle.run.specs.Rules.Pass.{front_of, rear_of, ctl_at, road_at, Passed, tyres_passed, gathered_of, pass_of}
 use Rattle.run.specs.Grader.Drive.{drive_check, DroveParts, drove_parts, drive_at, drive_parts_of, driven, drive_of}
@@ -66,7 +66,7 @@ module _ (m most : ℕ) (u : Setup) (p : Progress) (car : Car) (wheels : List �
   pub drive-cause-number : cause_number (drive_check most u p action ms)
       ≡ cond (unfit most u p || p.ended) 4 (cond p.driven 5 (cond (leb u.tick_limit p.tick) 6 (cond (ltb 4 action) 7 (cond (not (motions_ok ms)) 8 0))))
   unfolding drive_check number_of
-  drive-cause-number = simp (first-number, none-number)
+  drive-cause-number = simp (cause-by, none-number)
 
   kept-at : (x : Result Unit Cause) (d : Passed) (c : Cause) → (drive_at x p car d).answer ≡ Err c → ((drive_at x p car d).progress ≡ p) × ((drive_at x p car d).car ≡ car)
   unfolding drive_at

@@ -10,7 +10,6 @@ pub mod Literals
 pub mod SmallForces
 pub mod MotorLaw
 pub mod AnyLaws
-pub mod RefusalLaws
 pub mod DriveLaws
 pub mod RoadLaws
 pub mod PointQuads
