@@ -1,18 +1,18 @@
 -- How many points a course has: an accepted track 1 to most_track_points, the ring 100. Assumes nothing.
-use Rattle.std.proofs.Common.{◌≡◌, ℕ, zero, suc, ◌-◌, ◌<◌, ◌≤◌, Bool, true, false, cond, eqb, ltb, List, [], ◌∷◌, map, length, take, drop, refl, ap, ◌∙◌, add-one, arith, length-append, length-take}
+use Rattle.std.proofs.Common.{◌≡◌, ℕ, zero, suc, ◌-◌, ◌<◌, ◌≤◌, Bool, true, false, cond, ltb, List, [], ◌∷◌, map, length, take, drop, Option, Some, None, IfSome, refl, ap, ◌∙◌, add-one, arith, length-append, length-take}
 use lib.ListN.{length-map}
 use Rattle.rng.specs.declared.SplitMix64.{SplitMix64}
 use Rattle.rng.specs.Rules.SplitMix.{after, seeded}
 use Rattle.course.specs.Rules.Lengths.{step_limit}
 use Rattle.course.specs.Rules.Constants.{max_attempts}
 use Rattle.course.specs.Rules.Checkpoints.{checkpoints_of}
-use Rattle.course.specs.Rules.Step.{Walk, TrackStep, Stepped, On, Refused, step_of}
-use Rattle.course.specs.Rules.Track.{step_alphas, later_pass, earlier_pass, between_passes, well_glued, track_of}
+use Rattle.course.specs.Rules.Step.{Walk, TrackStep, step_of}
+use Rattle.course.specs.Rules.Track.{last_pass, step_alphas, well_glued, between, if_glued, from_earlier, to_later, track_of}
 use Rattle.course.specs.Rules.Walk.{Trail, follow, onward, walk_from, walk_start, walk_of}
 use Rattle.course.specs.Rules.Lay.{point_of, accepted, attempt_on, ring_point, ring_of, CoursePoints, or_else, course_on, course_from, course_within, course_of}
 use Rattle.course.specs.declared.checkpoints.Checkpoint.{Checkpoint}
 use Rattle.course.specs.declared.tiles.TrackPoint.{TrackPoint}
-use Rattle.course.proofs.TrackParts.{pass_le, none-a}
+use Rattle.course.proofs.TrackParts.{pass_le}
 
 pub ring-length : (n : ℕ) → length (ring_of n) ≡ n
 unfolding ring_of
@@ -20,12 +20,12 @@ ring-length zero = refl
 ring-length (suc n) = length-append (ring_of n) (ring_point n ∷ []) ∙ add-one (length (ring_of n)) ∙ ap suc (ring-length n)
 
 -- ---- a walk has at most as many steps as it is given, and its track three fewer
-onward-few : (s : Stepped) (k : Walk → Trail) (n : ℕ) → ((w : Walk) → length (k w).steps ≤ n) → length (onward s k).steps ≤ suc n
+onward-few : (s : Option (TrackStep × Walk)) (k : Walk → Trail) (n : ℕ) → ((w : Walk) → length (k w).steps ≤ n) → length (onward s k).steps ≤ suc n
 unfolding onward follow
-onward-few Refused k n h = omega arith
-onward-few (On p w) k n h = one (ltb 4 w.laps) (h w)
+onward-few None k n h = omega arith
+onward-few (Some s) k n h = one (ltb 4 s.1.laps) (h s.1)
   where
-    one : (b : Bool) → length (k w).steps ≤ n → suc (length (cond b (record { ok = true; steps = [] }) (k w)).steps) ≤ suc n
+    one : (b : Bool) → length (k s.1).steps ≤ n → suc (length (cond b (record { ok = true; steps = [] }) (k s.1)).steps) ≤ suc n
     one true l = omega arith
     one false l = omega arith
 
@@ -34,28 +34,27 @@ unfolding walk_from
 walk-few zero cs w = omega arith
 walk-few (suc n) cs w = onward-few (step_of cs w) (λ (v : Walk). walk_from n cs v) n (λ v. walk-few n cs v)
 
-short : {A : Type 0} (b d : Bool) (l : List A) → length (cond b [] (cond d l [])) ≤ length l
-short true d l = omega arith
-short false true l = omega arith
-short false false l = omega arith
+glued-few : (ps : List TrackStep) (i1 i2 : ℕ) → length (if_glued (between ps i1 i2)) ≤ i2 - 1 - i1
+unfolding if_glued between
+glued-few ps i1 i2 = one (well_glued (take (i2 - 1 - i1) (drop i1 ps)))
+  where
+    one : (b : Bool) → length (cond b (take (i2 - 1 - i1) (drop i1 ps)) []) ≤ i2 - 1 - i1
+    one true = rw (length-take (i2 - 1 - i1) (drop i1 ps)) (omega arith)
+    one false = omega arith
 
-take-few : {A : Type 0} (n : ℕ) (l : List A) → length (take n l) ≤ n
-take-few n l = rw (length-take n l) (omega arith)
+earlier-few : (m : ℕ) (ps : List TrackStep) (i2 : ℕ) → i2 ≤ m - 1 → (o : Option ℕ) → IfSome o (λ i. (0 < i) × (i ≤ i2 - 1)) → length (from_earlier ps i2 o) ≤ m - 3
+unfolding from_earlier
+earlier-few m ps i2 h None b = omega arith
+earlier-few m ps i2 h (Some i1) b = omega (arith, glued-few ps i1 i2)
 
-track-short : (ps : List TrackStep) → length (track_of ps) ≤ later_pass ps - 1 - earlier_pass ps
-unfolding track_of between_passes
-track-short ps = omega (arith, short (eqb (earlier_pass ps) 0) (well_glued (take (later_pass ps - 1 - earlier_pass ps) (drop (earlier_pass ps) ps))) (take (later_pass ps - 1 - earlier_pass ps) (drop (earlier_pass ps) ps)), take-few (later_pass ps - 1 - earlier_pass ps) (drop (earlier_pass ps) ps))
-
-later-few : (ps : List TrackStep) → later_pass ps ≤ length ps - 1
-unfolding later_pass
-later-few ps = pass_le (step_alphas ps) (length ps - 1)
+later-few : (m : ℕ) (ps : List TrackStep) → length ps ≤ m → (o : Option ℕ) → IfSome o (λ i. (0 < i) × (i ≤ length ps - 1)) → length (to_later ps o) ≤ m - 3
+unfolding to_later
+later-few m ps h None b = omega arith
+later-few m ps h (Some i2) b = earlier-few m ps i2 (omega arith) (last_pass (step_alphas ps) (i2 - 1)) (pass_le (step_alphas ps) (i2 - 1))
 
 track-few : (m : ℕ) (ps : List TrackStep) → length ps ≤ m → length (track_of ps) ≤ m - 3
-track-few m ps h = by (earlier_pass ps) refl
-  where
-    by : (a : ℕ) → earlier_pass ps ≡ a → length (track_of ps) ≤ m - 3
-    by zero e = rw (none-a ps e) (omega arith)
-    by (suc a) e = omega (arith, e, track-short ps, later-few ps)
+unfolding track_of
+track-few m ps h = later-few m ps h (last_pass (step_alphas ps) (length ps - 1)) (pass_le (step_alphas ps) (length ps - 1))
 
 accepted-few : (m : ℕ) (r : Trail) → length r.steps ≤ m → length (accepted r) ≤ m - 3
 unfolding accepted

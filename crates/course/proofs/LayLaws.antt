@@ -9,18 +9,18 @@ use Rattle.course.specs.Rules.Lengths.{most_points, laid_length, column_length, 
 use Rattle.course.specs.Rules.Tiles.{betas, xs, ys, points_of, tiles_of}
 use Rattle.course.specs.Grader.Course.{from_points, cells_of}
 use Rattle.course.specs.Grader.Outcome.{CourseColumns, lent, Outcome, outcome, roomy_of, filled, written, laid_figures, laid_answer, answered, lay_into, laid_cause_of, laid_values_of}
-use Rattle.course.specs.Steps.Tiles.{Roomy}
 use Rattle.rng.specs.Rules.SplitMix.{at_state, seeded}
 use Rattle.course.specs.Rules.Lay.{CoursePoints, course_from, course_within, course_of}
 use Rattle.course.specs.Grader.LayCall.{lay_cause, lay_at, lay_call}
-use Rattle.course.specs.Steps.Lay.{InFront}
+use Rattle.course.specs.Steps.Lay.{Columns}
 use Rattle.course.specs.declared.tiles.TrackPoint.{TrackPoint}
 use Rattle.course.specs.declared.points.LaidCourse.{LaidCourse}
 use Rattle.course.specs.declared.points.Laid.TheVariants.{Refused}
 use Rattle.course.proofs.CourseTiles.{points-are, tiles-long}
 use Rattle.course.proofs.CourseSizes.{Sized, within-sized, course-sized}
 use Rattle.course.proofs.LengthLaws.{laid-few, column-laid}
-use Rattle.course.proofs.LaidColumns.{lay-past, room}
+use Rattle.course.proofs.LaidColumns.{lay-past}
+use Rattle.course.proofs.Generating.{Made}
 
 -- the columns lent to lay have their lengths
 abbrev pub roomy : CourseColumns → Bool
@@ -38,38 +38,28 @@ laid-roomy c l h = rw h
 in-front : (own c : List Float) (n : ℕ) → take n c ≡ own → c ≡ own ++ drop n c
 in-front own c n e = sym (take-append-drop n c) ∙ ap (λ (z : List Float). z ++ drop n c) e
 
+-- the columns of points among those lent
+abbrev pub points_lent : CourseColumns → Columns
+points_lent l = record { alpha = l.alpha; beta = l.beta; x = l.x; y = l.y }
+
 -- when `finish` is called: the columns that lay was lent have their lengths, and the course's points stand in front
-pub record Ready (c : CoursePoints) (l : CourseColumns) (a' b' x' y' : List Float) (n : ℕ) (fallback : Bool) : Type 0 where
-  pub room : roomy l ≡ true
-  pub front : InFront c.points l.alpha l.beta l.x l.y a' b' x' y' n
-  pub ring : fallback ≡ c.fallback
-  pub alpha : length a' ≡ length l.alpha
-  pub beta : length b' ≡ length l.beta
-  pub x : length x' ≡ length l.x
-  pub y : length y' ≡ length l.y
+pub finish-size : {p : CoursePoints} {c₀ c : Columns} {n : ℕ} {fallback : Bool} → Made p c₀ c n fallback → Sized p → (0 < n) × (n ≤ laid_length) × (laid_length ≤ most_points)
+finish-size r s = (rw r.front.count s.some, omega (arith, r.front.count, s.few), laid-few)
 
-module _ {c : CoursePoints} {l : CourseColumns} {a' b' x' y' : List Float} {n : ℕ} {fallback : Bool} (r : Ready c l a' b' x' y' n fallback) where
-  points-there : points_of b' x' y' n ≡ c.points
-  points-there =
-      let d = r.front in
-      (λ i. points_of (in-front _ b' n d.beta i) (in-front _ x' n d.x i) (in-front _ y' n d.y i) (d.count i))
-      ∙ points-are c.points (drop n b') (drop n x') (drop n y')
-
-  -- what `finish` requires
-  pub finish-ready : Sized c → ((0 < n) × (n ≤ laid_length) × (laid_length ≤ most_points)) × Roomy laid_length a' b' x' y' l.tiles l.offsets
-  finish-ready s =
-      let m = room r.room in (
-        (rw r.front.count s.some, omega (arith, r.front.count, s.few), laid-few),
-        record { alpha = rw r.alpha m.alpha; beta = rw r.beta m.beta; x = rw r.x m.x; y = rw r.y m.y; tiles = m.tiles; offsets = m.offsets },
-      )
-
-  -- what it leaves and answers is what lay does
-  pub laid : {w : Outcome} → w ≡ lay_into laid_length fallback (points_of b' x' y' n) (lent a' b' x' y' l.tiles l.offsets l.list) → w ≡ lay_at (lay_cause l) c l
-  laid is =
-      let d = r.front in
-      is ∙ lay-past laid_length fallback (points_of b' x' y' n) l.alpha l.beta l.x l.y a' b' x' y' l.tiles l.offsets l.list d.kept-a d.kept_b d.kept-x d.kept-y
-      ∙ ap₂ (λ (f : Bool) (ps : List TrackPoint). lay_into laid_length f ps l) r.ring points-there
-      ∙ laid-roomy c l r.room
+-- what it leaves and answers is what lay does
+pub laid : {p : CoursePoints} (l : CourseColumns) {c : Columns} {a b x y : List Float} {n : ℕ} {fallback : Bool} {w : Outcome} → roomy l ≡ true → Made p (points_lent l) c n fallback
+    → a ≡ c.alpha → b ≡ c.beta → x ≡ c.x → y ≡ c.y
+    → w ≡ lay_into laid_length fallback (points_of b x y n) (lent a b x y l.tiles l.offsets l.list) → w ≡ lay_at (lay_cause l) p l
+laid {p} l {c} {n = n} {fallback} full r ea eb ex ey is =
+    let d = r.front in
+    let there : points_of c.beta c.x c.y n ≡ p.points =
+    (λ i. points_of (in-front _ c.beta n d.beta i) (in-front _ c.x n d.x i) (in-front _ c.y n d.y i) (d.count i))
+    ∙ points-are p.points (drop n c.beta) (drop n c.x) (drop n c.y) in
+    is
+    ∙ (λ i. lay_into laid_length fallback (points_of (eb i) (ex i) (ey i) n) (lent (ea i) (eb i) (ex i) (ey i) l.tiles l.offsets l.list))
+    ∙ lay-past laid_length fallback (points_of c.beta c.x c.y n) l.alpha l.beta l.x l.y c.alpha c.beta c.x c.y l.tiles l.offsets l.list d.kept-a d.kept_b d.kept-x d.kept-y
+    ∙ ap₂ (λ (f : Bool) (ps : List TrackPoint). lay_into laid_length f ps l) r.ring there
+    ∙ laid-roomy p l full
 
 -- ---- an answer gives its number back, a course's answer its values, and cause 3 the length needed
 pub number-back : (k : ℕ) (v : LaidCourse) → laid_cause_of (laid_answer k v) ≡ k

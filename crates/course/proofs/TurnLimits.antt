@@ -1,9 +1,9 @@
 -- The turns of beta, for a beta within ±16 and an alpha within ±6.3: at most three are made, and beta is then within ±12. Assumes nothing.
-use Rattle.std.proofs.Common.{◌≡◌, ℕ, zero, suc, Bool, true, false, ◌&&◌, T, ◌⊎◌, sym, refl, ◌∙◌, subst, inl, inr, true≢false}
+use Rattle.std.proofs.Common.{◌≡◌, ℕ, zero, suc, Bool, true, false, ◌&&◌, T, ◌⊎◌, Option, Some, None, sym, refl, ◌∙◌, subst, inl, inr, true≢false}
 use lib.Ieee.{Float, neg, lt, le, round, of_int, add, sub, mul}
 use Rattle.course.specs.Rules.Arithmetic.{◌⊕◌, ◌⊖◌, natural, decimal}
 use Rattle.course.specs.Rules.Constants.{pi, tau}
-use Rattle.course.specs.Rules.Step.{Turned, To, TooFar, far_above, far_below, turn_down, turn_up, then_up, turn_of}
+use Rattle.course.specs.Rules.Step.{far_above, far_below, turn_down, turn_up, then_up, turn_of}
 use Rattle.course.proofs.Intervals.{In, Near, finites, finites3, wider, add-in, sub_in, split-in, not-above, not-below, not_beyond, not_short}
 
 -- bounds in tenths, and below 0
@@ -58,9 +58,9 @@ unfolding far_above far_below pi natural of_int decimal round neg sub mul le
 pivot5 = record { between = tt; none = tt; turned = tt; after = tt }
 
 -- no fifth turn, and beta within ±12 after the turns
-abbrev pub Fine : Turned → Type 0
-Fine TooFar = ⊥
-Fine (To b n) = Near (natural 12) b
+abbrev pub Fine : Option (Float × ℕ) → Type 0
+Fine None = ⊥
+Fine (Some t) = Near (natural 12) t.0
 
 -- beta from lo on has room for a turn up, and is from lo' on after it
 record Rise (lo lo' : Float) : Type 0 where
@@ -130,7 +130,7 @@ module _ (a : Float) (ha : Near (tenths 63) a) where
   ]
 
   -- ---- turns up
-  up_none : (n : ℕ) (b : Float) → lt (b ⊖ a) far_below ≡ false → turn_up n b a ≡ To b n
+  up_none : (n : ℕ) (b : Float) → lt (b ⊖ a) far_below ≡ false → turn_up n b a ≡ Some (b, n)
   unfolding turn_up
   up_none zero b e = rw e
   up_none (suc n) b e = rw e
@@ -161,7 +161,7 @@ module _ (a : Float) (ha : Near (tenths 63) a) where
       go false e = up_rest (suc n) b (wider hb r.inside) e
 
   -- ---- turns down, where beta is not far below alpha
-  down-none : (n : ℕ) (b : Float) → lt far_above (b ⊖ a) ≡ false → turn_down n b a ≡ To b n
+  down-none : (n : ℕ) (b : Float) → lt far_above (b ⊖ a) ≡ false → turn_down n b a ≡ Some (b, n)
   unfolding turn_down
   down-none zero b e = rw e
   down-none (suc n) b e = rw e
@@ -175,7 +175,7 @@ module _ (a : Float) (ha : Near (tenths 63) a) where
 
   down-rest : (n : ℕ) (b : Float) → lt far_above (b ⊖ a) ≡ false → Fine (turn_up n b a) → Down n b
   unfolding then_up
-  down-rest n b e h = subst (λ (t : Turned). Fine (then_up a t)) (sym (down-none n b e)) h
+  down-rest n b e h = subst (λ (t : Option (Float × ℕ)). Fine (then_up a t)) (sym (down-none n b e)) h
 
   down-last : (n : ℕ) (b : Float) → In (neg (natural 16)) (minus 26) b → lt (b ⊖ a) far_below ≡ false → Down n b
   down-last n b hb l =
@@ -196,7 +196,7 @@ module _ (a : Float) (ha : Near (tenths 63) a) where
   down-more hi hi' r n rest b hb none = go (lt far_above (b ⊖ a)) refl
     where
       go : (x : Bool) → lt far_above (b ⊖ a) ≡ x → Down (suc n) b
-      go true e = subst (λ (t : Turned). Fine (then_up a t)) (sym (down_turn n b e)) (rest (b ⊖ tau) (turned-down hi hi' r b hb e) (not-undone b (wider hb r.inside) e))
+      go true e = subst (λ (t : Option (Float × ℕ)). Fine (then_up a t)) (sym (down_turn n b e)) (rest (b ⊖ tau) (turned-down hi hi' r b hb e) (not-undone b (wider hb r.inside) e))
       go false e = down-rest (suc n) b e (none (not-high b (wider hb r.inside) e))
 
   down-further : (hi hi' : Float) → Fall hi hi' → (n : ℕ) → ((b : Float) → In (neg (natural 16)) hi' b → lt (b ⊖ a) far_below ≡ false → Down n b)

@@ -1,9 +1,9 @@
 -- Turning beta, with the constants as the compiled code has them. Assumes nothing.
-use Rattle.std.proofs.Common.{◌≡◌, ℕ, zero, suc, ◌-◌, true, false, sym, refl, ap, ◌∙◌, sub-one}
+use Rattle.std.proofs.Common.{◌≡◌, ℕ, zero, suc, ◌-◌, Some, None, true, false, sym, refl, ap, ◌∙◌, sub-one}
 use lib.Ieee as Ieee
 use lib.Ieee.{Float, binary64, of_bits}
 use Rattle.course.specs.Rules.Arithmetic.{◌⊕◌, ◌⊖◌}
-use Rattle.course.specs.Rules.Step.{To, TooFar, turn_down, turn_up}
+use Rattle.course.specs.Rules.Step.{turn_down, turn_up}
 use Rattle.course.proofs.Literals.{tau-bits, far-above-bits, far-below-bits}
 
 abbrev pub tau_b : Float
@@ -19,12 +19,12 @@ pub suc-pred : (n : ℕ) → (n ≡ 0 → ⊥) → suc (n - 1) ≡ n
 suc-pred zero h = absurd (h refl)
 suc-pred (suc n) h = ap suc (sub-one (suc n))
 
-pub down-left : (n : ℕ) (b a : Float) → Ieee.lt down_b (b ⊖ a) ≡ false → turn_down n b a ≡ To b n
+pub down-left : (n : ℕ) (b a : Float) → Ieee.lt down_b (b ⊖ a) ≡ false → turn_down n b a ≡ Some (b, n)
 unfolding turn_down
 down-left zero b a h = rw (far-above-bits, h)
 down-left (suc n) b a h = rw (far-above-bits, h)
 
-pub down-stop : (n : ℕ) (b a : Float) → Ieee.lt down_b (b ⊖ a) ≡ true → n ≡ 0 → turn_down n b a ≡ TooFar
+pub down-stop : (n : ℕ) (b a : Float) → Ieee.lt down_b (b ⊖ a) ≡ true → n ≡ 0 → turn_down n b a ≡ None
 unfolding turn_down
 down-stop n b a h z = rw (z, far-above-bits, h)
 
@@ -35,12 +35,12 @@ down-suc n b a h = rw (far-above-bits, h, tau-bits)
 pub down-more : (n : ℕ) (b a : Float) → Ieee.lt down_b (b ⊖ a) ≡ true → (n ≡ 0 → ⊥) → turn_down n b a ≡ turn_down (n - 1) (b ⊖ tau_b) a
 down-more n b a h z = ap (λ (m : ℕ). turn_down m b a) (sym (suc-pred n z)) ∙ down-suc (n - 1) b a h
 
-pub up_left : (n : ℕ) (b a : Float) → Ieee.lt (b ⊖ a) up_b ≡ false → turn_up n b a ≡ To b n
+pub up_left : (n : ℕ) (b a : Float) → Ieee.lt (b ⊖ a) up_b ≡ false → turn_up n b a ≡ Some (b, n)
 unfolding turn_up
 up_left zero b a h = rw (far-below-bits, h)
 up_left (suc n) b a h = rw (far-below-bits, h)
 
-pub up-stop : (n : ℕ) (b a : Float) → Ieee.lt (b ⊖ a) up_b ≡ true → n ≡ 0 → turn_up n b a ≡ TooFar
+pub up-stop : (n : ℕ) (b a : Float) → Ieee.lt (b ⊖ a) up_b ≡ true → n ≡ 0 → turn_up n b a ≡ None
 unfolding turn_up
 up-stop n b a h z = rw (z, far-below-bits, h)
 

@@ -1,83 +1,68 @@
 // A seed becomes a course (document 01, "Lay"): attempts at a track, the ring where all are refused, then tiles and index.
-ghost use Rattle.std.specs.Prelude.{◌≡◌, ◌≤◌, ◌++◌, length, drop};
+ghost use Rattle.std.specs.Prelude.{◌≡◌, ◌<◌, IfSome, unwrap_or};
 ghost use Rattle.rng.specs.Rules.SplitMix.{after};
-ghost use Rattle.course.specs.Rules.Lengths.{laid_length};
 ghost use Rattle.course.specs.Rules.Constants.{max_attempts};
-ghost use Rattle.course.specs.Rules.Tiles.{betas, xs, ys};
 ghost use Rattle.course.specs.Grader.Outcome.{lent, outcome};
-ghost use Rattle.course.specs.Rules.Lay.{ring_point, ring_of, attempt_on, course_on, course_within};
+ghost use Rattle.course.specs.Rules.Lay.{ring_point, attempt_on};
 ghost use Rattle.course.specs.Grader.LayCall.{lay_call, lay_on_call};
 ghost use Rattle.course.specs.Rules.Checkpoints.{checkpoints_of};
-ghost use Rattle.course.specs.Steps.Lay.{InFront};
+ghost use Rattle.course.specs.Steps.Lay.{columns_of, SameColumns, InFront, tried_within, Ringed, OrRing};
 
 use crate::checkpoints::Checkpoint;
 use crate::constants::{LAID_LENGTH, MAX_ATTEMPTS, TAU, TRACK_RAD};
+use crate::point_columns::PointColumns;
 use crate::points::Laid;
 use crate::tiles::TrackPoint;
 use crate::{checkpoints, columns, points, track, trig, walk};
 use rng::SplitMix64;
 
-// How many points were generated, and whether they are the ring's.
-#[derive(Clone, Copy)]
-pub(crate) struct Generated {
-    pub n: usize,
-    pub fallback: bool,
-}
-
-// An attempt with given checkpoints: the size of its track, which then stands in front, or 0 where it is refused.
-fn attempt(
-    cs: [Checkpoint; 12],
-    alpha: &mut [f64],
-    beta: &mut [f64],
-    x: &mut [f64],
-    y: &mut [f64],
-) -> usize
-    requires laid_length_in_bounds { laid_length ≤ length alpha.old }
-    requires laid_length_in_bounds_2 { laid_length ≤ length beta.old }
-    requires laid_length_in_bounds_3 { laid_length ≤ length x.old }
-    requires laid_length_in_bounds_4 { laid_length ≤ length y.old }
-    ensures { InFront (attempt_on cs) alpha.old beta.old x.old y.old
-        alpha.new beta.new x.new y.new result }
+// An attempt with given checkpoints: the size of its track, which then stands in front, none where it is refused.
+fn attempt(cs: &[Checkpoint; 12], cols: &mut PointColumns) -> Option<usize>
+    ensures same { SameColumns cols.old cols.new }
+    ensures in_front { InFront (attempt_on cs.now) (columns_of cols.old) (columns_of cols.new) (unwrap_or result 0) }
+    ensures some { IfSome result (λ n. 0 < n) }
 {
-    let w = walk::walk_round(cs, alpha, beta, x, y);
-    let len = w.n;
-    if w.ok {
-        let p = track::cut(alpha, beta, x, y, len);
-        let from = p.from;
-        let n = p.n;
-        columns::shift(beta, from, n);
-        columns::shift(x, from, n);
-        columns::shift(y, from, n);
-        return n;
-    }
-    0
+    let len = walk::walk_round(cs, cols)?;
+    let p = track::cut(cols, len)?;
+    columns::shift(cols.beta, p.from, p.n);
+    columns::shift(cols.x, p.from, p.n);
+    columns::shift(cols.y, p.from, p.n);
+    Some(p.n)
 }
 
-// An attempt with the next 24 draws: the size of its track, 0 where it is refused.
-fn try_generate(
-    g: &mut SplitMix64,
-    alpha: &mut [f64],
-    beta: &mut [f64],
-    x: &mut [f64],
-    y: &mut [f64],
-) -> usize
-    requires laid_length_in_bounds { laid_length ≤ length alpha.old }
-    requires laid_length_in_bounds_2 { laid_length ≤ length beta.old }
-    requires laid_length_in_bounds_3 { laid_length ≤ length x.old }
-    requires laid_length_in_bounds_4 { laid_length ≤ length y.old }
-    ensures in_front { InFront (attempt_on (checkpoints_of 12 g.old)) alpha.old beta.old x.old
-        y.old alpha.new beta.new x.new y.new result }
+// An attempt with the next 24 draws.
+fn try_generate(g: &mut SplitMix64, cols: &mut PointColumns) -> Option<usize>
+    ensures same { SameColumns cols.old cols.new }
+    ensures in_front { InFront (attempt_on (checkpoints_of 12 g.old)) (columns_of cols.old) (columns_of cols.new)
+        (unwrap_or result 0) }
+    ensures some { IfSome result (λ n. 0 < n) }
     ensures rng_value { g.new ≡ after 24 g.old }
 {
     let cs = checkpoints::checkpoints(g);
-    attempt(cs, alpha, beta, x, y)
+    attempt(&cs, cols)
+}
+
+// The first of a seed's attempts that is not refused, of so many.
+fn first_attempt(attempts: u32, seed: u64, cols: &mut PointColumns) -> Option<usize>
+    ensures same { SameColumns cols.old cols.new }
+    ensures in_front { InFront (tried_within attempts seed) (columns_of cols.old) (columns_of cols.new)
+        (unwrap_or result 0) }
+    ensures some { IfSome result (λ n. 0 < n) }
+{
+    let mut g = SplitMix64::from_seed(seed);
+    for _k in 0..attempts {
+        if let Some(n) = try_generate(&mut g, cols) {
+            return Some(n);
+        }
+    }
+    None
 }
 
 // Point i of the ring.
 fn ring_point(i: u32) -> TrackPoint
     ensures { result ≡ ring_point i }
 {
-    let a = TAU * (i as f64) / 100.0;
+    let a = TAU * f64::from(i) / 100.0;
     let t = trig::sin_cos(a);
     TrackPoint {
         beta: a,
@@ -87,83 +72,29 @@ fn ring_point(i: u32) -> TrackPoint
 }
 
 // The ring's 100 points stand in front.
-fn ring_points(beta: &mut [f64], x: &mut [f64], y: &mut [f64])
-    requires laid_length_in_bounds { laid_length ≤ length beta.old }
-    requires laid_length_in_bounds_2 { laid_length ≤ length x.old }
-    requires laid_length_in_bounds_3 { laid_length ≤ length y.old }
-    ensures beta_after { beta.new ≡ betas (ring_of 100) ++ drop 100 beta.old }
-    ensures x_after { x.new ≡ xs (ring_of 100) ++ drop 100 x.old }
-    ensures y_after { y.new ≡ ys (ring_of 100) ++ drop 100 y.old }
+fn ring_points(cols: &mut PointColumns)
+    ensures same { SameColumns cols.old cols.new }
+    ensures ringed { Ringed (columns_of cols.old) (columns_of cols.new) }
 {
-    let mut i: u32 = 0;
-    while i < 100 {
+    for i in 0..100 {
         let p = ring_point(i);
         let k = i as usize;
-        beta[k] = p.beta;
-        x[k] = p.x;
-        y[k] = p.y;
-        i += 1;
+        cols.beta[k] = p.beta;
+        cols.x[k] = p.x;
+        cols.y[k] = p.y;
     }
 }
 
-// The points of a seed's course, after so many refused attempts the ring's.
-fn generate_with_attempts(
-    attempts: u32,
-    seed: u64,
-    alpha: &mut [f64],
-    beta: &mut [f64],
-    x: &mut [f64],
-    y: &mut [f64],
-) -> Generated
-    requires laid_length_in_bounds { laid_length ≤ length alpha.old }
-    requires laid_length_in_bounds_2 { laid_length ≤ length beta.old }
-    requires laid_length_in_bounds_3 { laid_length ≤ length x.old }
-    requires laid_length_in_bounds_4 { laid_length ≤ length y.old }
-    ensures in_front { InFront (course_within attempts seed).points alpha.old beta.old x.old
-        y.old alpha.new beta.new x.new y.new result.n }
-    ensures fallback_value { result.fallback ≡ (course_within attempts seed).fallback }
+// How many points stand in front: those of the attempt that was made, the ring's where none was.
+fn or_ring(made: Option<usize>, cols: &mut PointColumns) -> usize
+    ensures same { SameColumns cols.old cols.new }
+    ensures points { OrRing made (columns_of cols.old) (columns_of cols.new) result }
 {
-    let mut g = SplitMix64::from_seed(seed);
-    let mut k: u32 = 0;
-    while k < attempts {
-        let n = try_generate(&mut g, alpha, beta, x, y);
-        if 0 < n {
-            return Generated { n, fallback: false };
-        }
-        k += 1;
+    if let Some(n) = made {
+        return n;
     }
-    ring_points(beta, x, y);
-    Generated {
-        n: 100,
-        fallback: true,
-    }
-}
-
-// The points of one attempt with given checkpoints, the ring's where it is refused.
-fn generate_on(
-    cs: [Checkpoint; 12],
-    alpha: &mut [f64],
-    beta: &mut [f64],
-    x: &mut [f64],
-    y: &mut [f64],
-) -> Generated
-    requires laid_length_in_bounds { laid_length ≤ length alpha.old }
-    requires laid_length_in_bounds_2 { laid_length ≤ length beta.old }
-    requires laid_length_in_bounds_3 { laid_length ≤ length x.old }
-    requires laid_length_in_bounds_4 { laid_length ≤ length y.old }
-    ensures in_front { InFront (course_on cs).points alpha.old beta.old x.old y.old
-        alpha.new beta.new x.new y.new result.n }
-    ensures fallback_value { result.fallback ≡ (course_on cs).fallback }
-{
-    let n = attempt(cs, alpha, beta, x, y);
-    if 0 < n {
-        return Generated { n, fallback: false };
-    }
-    ring_points(beta, x, y);
-    Generated {
-        n: 100,
-        fallback: true,
-    }
+    ring_points(cols);
+    100
 }
 
 // The course of a seed in the lent columns, with so many attempts.
@@ -187,11 +118,13 @@ pub fn lay_attempts(
     if !points::roomy(LAID_LENGTH, alpha, beta, x, y, tiles, offsets) {
         return Laid::Refused(2);
     }
-    let c = generate_with_attempts(attempts, seed, alpha, beta, x, y);
+    let mut cols = PointColumns { alpha, beta, x, y };
+    let made = first_attempt(attempts, seed, &mut cols);
+    let n = or_ring(made, &mut cols);
     points::finish(
         LAID_LENGTH,
-        c.fallback,
-        c.n,
+        made.is_none(),
+        n,
         alpha,
         beta,
         x,
@@ -243,11 +176,13 @@ pub fn lay_checkpoints(
     if !points::roomy(LAID_LENGTH, alpha, beta, x, y, tiles, offsets) {
         return Laid::Refused(2);
     }
-    let c = generate_on(cs, alpha, beta, x, y);
+    let mut cols = PointColumns { alpha, beta, x, y };
+    let made = attempt(&cs, &mut cols);
+    let n = or_ring(made, &mut cols);
     points::finish(
         LAID_LENGTH,
-        c.fallback,
-        c.n,
+        made.is_none(),
+        n,
         alpha,
         beta,
         x,

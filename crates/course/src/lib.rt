@@ -14,6 +14,7 @@ mod finder;
 pub mod index;
 pub mod lay;
 pub mod numeric;
+mod point_columns;
 pub mod points;
 pub mod root;
 mod step;

@@ -1,16 +1,17 @@
 // From the walk's columns to a track: the part between the last two passes of the start (document 01, "Lay": `try_generate`).
-ghost use Rattle.std.specs.Prelude.{◌≡◌, ◌+◌, ◌<◌, ◌≤◌, List, length};
+ghost use Rattle.std.specs.Prelude.{◌≡◌, ◌+◌, ◌<◌, ◌≤◌, List, length, IfSome};
 ghost use Rattle.course.specs.Rules.Lengths.{step_limit};
 ghost use Rattle.course.specs.Rules.Track.{passes_at, last_pass, glued_of};
-ghost use Rattle.course.specs.Steps.Lay.{Front, Cut};
+ghost use Rattle.course.specs.Steps.Lay.{columns_of, Front, Cut};
 ghost use Rattle.course.specs.Rules.Step.{TrackStep};
 
 use crate::constants::{TAU, TRACK_DETAIL_STEP};
+use crate::point_columns::PointColumns;
 use crate::{root, trig};
 
 const START_ALPHA: f64 = TAU * -0.5 / 12.0;
 
-// A part of the columns; none where n is 0.
+// A part of the columns: n entries from number `from` on.
 #[derive(Clone, Copy)]
 pub(crate) struct Part {
     pub from: usize,
@@ -22,27 +23,21 @@ fn passes_at(alpha: &[f64], i: usize) -> bool
     requires { (0 < i) × (i < length alpha.now) }
     ensures { result ≡ passes_at alpha.now i }
 {
-    let j = i - 1;
-    if alpha[i] > START_ALPHA {
-        return alpha[j] <= START_ALPHA;
-    }
-    false
+    alpha[i] > START_ALPHA && alpha[i - 1] <= START_ALPHA
 }
 
-// The greatest number from 1 to n at which the angles pass through the start, 0 where there is none.
-fn last_pass(alpha: &[f64], n: usize) -> usize
+// The greatest number from 1 to n at which the angles pass through the start.
+fn last_pass(alpha: &[f64], n: usize) -> Option<usize>
     requires { n < length alpha.now }
     ensures value { result ≡ last_pass alpha.now n }
-    ensures upper_bound { result ≤ n }
+    ensures bounds { IfSome result (λ i. (0 < i) × (i ≤ n)) }
 {
-    let mut i = n;
-    while 0 < i {
+    for i in (1..=n).rev() {
         if passes_at(alpha, i) {
-            return i;
+            return Some(i);
         }
-        i -= 1;
     }
-    0
+    None
 }
 
 // Whether the track's ends meet: those of its first point, with heading beta, and its last.
@@ -56,33 +51,23 @@ fn well_glued(beta: f64, x0: f64, y0: f64, x1: f64, y1: f64) -> bool
 }
 
 // The part of a walk of `len` steps that is its track.
-pub(crate) fn cut(alpha: &[f64], beta: &[f64], x: &[f64], y: &[f64], len: usize) -> Part
-    requires len_nonzero { (0 < len) × (len ≤ step_limit) }
-    requires step_limit_in_bounds { (step_limit ≤ length alpha.now) × (step_limit ≤ length beta.now) }
-    requires step_limit_in_bounds_2 { (step_limit ≤ length x.now) × (step_limit ≤ length y.now) }
+pub(crate) fn cut(cols: &PointColumns, len: usize) -> Option<Part>
+    requires { (0 < len) × (len ≤ step_limit) }
     ensures cut { (ps : List TrackStep)
         → length ps ≡ len
-        → Front ps alpha.now beta.now x.now y.now
-        → Cut ps result.from result.n }
-    ensures n_bound { result.from + result.n ≤ len }
+        → Front ps (columns_of cols.now)
+        → Cut ps result }
+    ensures n_bound { IfSome result (λ p. p.from + p.n ≤ len) }
 {
-    let top = len - 1;
-    let i2 = last_pass(alpha, top);
-    if i2 == 0 {
-        return Part { from: 0, n: 0 };
-    }
-    let below = i2 - 1;
-    let i1 = last_pass(alpha, below);
-    if i1 == 0 {
-        return Part { from: 0, n: 0 };
-    }
-    let n = below - i1;
+    let i2 = last_pass(cols.alpha, len - 1)?;
+    let i1 = last_pass(cols.alpha, i2 - 1)?;
+    let n = i2 - 1 - i1;
     if n == 0 {
-        return Part { from: 0, n: 0 };
+        return None;
     }
-    let e = below - 1;
-    if well_glued(beta[i1], x[i1], y[i1], x[e], y[e]) {
-        return Part { from: i1, n };
+    let e = i2 - 2;
+    if well_glued(cols.beta[i1], cols.x[i1], cols.y[i1], cols.x[e], cols.y[e]) {
+        return Some(Part { from: i1, n });
     }
-    Part { from: 0, n: 0 }
+    None
 }

@@ -1,11 +1,11 @@
 -- Document 01, "Lay" (`try_generate`): one step of the walk round the checkpoints, with the three limits that refuse it. Assumes nothing.
-use Rattle.std.specs.Prelude.{ℕ, zero, suc, ◌+◌, Bool, true, false, cond, ◌&&◌, List, Float}
+use Rattle.std.specs.Prelude.{ℕ, zero, suc, ◌+◌, Bool, true, false, cond, ◌&&◌, List, Option, Some, None, Float}
 use Rattle.std.specs.Float.Ieee.{lt, neg}
 use Rattle.course.specs.Rules.Arithmetic.{◌⊕◌, ◌⊖◌, ◌⊗◌, natural, decimal, nought}
 use Rattle.course.specs.Rules.Constants.{scale, pi, tau, track_detail_step, track_turn_rate}
 use Rattle.course.specs.Rules.Numeric.{abs_of, min_of, within}
 use Rattle.course.specs.Rules.Trig.{SinCos, sin_cos_of, atan2_of}
-use Rattle.course.specs.Rules.Finder.{Destination, Going, NotFound, dest_of}
+use Rattle.course.specs.Rules.Finder.{Destination, dest_of}
 use Rattle.course.specs.declared.checkpoints.Checkpoint.{Checkpoint}
 
 -- where the walk stands: its place and heading, the checkpoint it makes for, the laps done, and whether it has been on the other side,
@@ -24,11 +24,6 @@ pub record TrackStep : Type 0 where
   pub beta : Float
   pub x : Float
   pub y : Float
-
--- what a step stores and the walk after it; or a limit was met
-pub data Stepped : Type 0 where
-  On : TrackStep → Walk → Stepped
-  Refused : Stepped
 
 -- ---- the walk's angle. Below 0 the walk is on the other side, and the angle one tau more; above 0 after that it has done a lap
 
@@ -56,12 +51,7 @@ sight_of w =
     }
 
 -- ---- beta less tau while it is above alpha by more than 1.5 pi, then more tau while it is below by more. Four turns are allowed in
--- all; the fifth refuses
-
--- beta after turns, and how many are still allowed; or a fifth was wanted
-pub data Turned : Type 0 where
-  To : Float → ℕ → Turned
-  TooFar : Turned
+-- all; the fifth refuses. Beta after turns comes with how many are still allowed
 
 unfoldable pub far_above : Float
 far_above = decimal 15 10 ⊗ pi
@@ -69,52 +59,52 @@ far_above = decimal 15 10 ⊗ pi
 unfoldable pub far_below : Float
 far_below = neg (decimal 15 10) ⊗ pi
 
-unfoldable pub turn_down : ℕ → Float → Float → Turned
-turn_down zero b a = cond (lt far_above (b ⊖ a)) TooFar (To b 0)
-turn_down (suc n) b a = cond (lt far_above (b ⊖ a)) (turn_down n (b ⊖ tau) a) (To b (suc n))
+unfoldable pub turn_down : ℕ → Float → Float → Option (Float × ℕ)
+turn_down zero b a = cond (lt far_above (b ⊖ a)) None (Some (b, 0))
+turn_down (suc n) b a = cond (lt far_above (b ⊖ a)) (turn_down n (b ⊖ tau) a) (Some (b, suc n))
 
-unfoldable pub turn_up : ℕ → Float → Float → Turned
-turn_up zero b a = cond (lt (b ⊖ a) far_below) TooFar (To b 0)
-turn_up (suc n) b a = cond (lt (b ⊖ a) far_below) (turn_up n (b ⊕ tau) a) (To b (suc n))
+unfoldable pub turn_up : ℕ → Float → Float → Option (Float × ℕ)
+turn_up zero b a = cond (lt (b ⊖ a) far_below) None (Some (b, 0))
+turn_up (suc n) b a = cond (lt (b ⊖ a) far_below) (turn_up n (b ⊕ tau) a) (Some (b, suc n))
 
-unfoldable pub then_up : Float → Turned → Turned
-then_up a TooFar = TooFar
-then_up a (To b n) = turn_up n b a
+unfoldable pub then_up : Float → Option (Float × ℕ) → Option (Float × ℕ)
+then_up a None = None
+then_up a (Some t) = turn_up t.1 t.0 a
 
-unfoldable pub turn_of : Float → Float → Turned
+unfoldable pub turn_of : Float → Float → Option (Float × ℕ)
 turn_of b a = then_up a (turn_down 4 b a)
 
 -- ---- steering. The way to the checkpoint along the side of the heading h, times SCALE
-unfoldable pub proj_of : Walk → SinCos → Float → Float → Float
-proj_of w h x y = (h.cos ⊗ (x ⊖ w.x) ⊕ h.sin ⊗ (y ⊖ w.y)) ⊗ scale
+unfoldable pub proj_of : Walk → SinCos → Checkpoint → Float
+proj_of w h c = (h.cos ⊗ (c.x ⊖ w.x) ⊕ h.sin ⊗ (c.y ⊖ w.y)) ⊗ scale
 
 unfoldable pub steered : Float → Float → Float
 steered b proj =
     let m = min_of track_turn_rate (abs_of (decimal 1 1000 ⊗ proj)) in
     cond (lt (decimal 3 10) proj) (b ⊖ m) (cond (lt proj (neg (decimal 3 10))) (b ⊕ m) b)
 
--- ---- the record to store and the walk after the step; refused where beta is then beyond ±16
-unfoldable pub landed_of : Walk → Sight → SinCos → Float → ℕ → Float → Float → Stepped
-landed_of w s h alpha dest prev beta =
+-- ---- the record to store and the walk after the step, none where a limit is met: beta is then beyond ±16, a fifth turn was wanted, or a
+-- third pass
+unfoldable pub landed_of : Walk → Sight → SinCos → Destination → Float → Float → Option (TrackStep × Walk)
+landed_of w s h d prev beta =
     let x = w.x ⊕ neg h.sin ⊗ track_detail_step in
     let y = w.y ⊕ h.cos ⊗ track_detail_step in
     cond (within (natural 16) beta)
-    (On (record { alpha = alpha; beta = prev ⊗ decimal 1 2 ⊕ beta ⊗ decimal 1 2; x = x; y = y })
-    (record { x = x; y = y; beta = beta; dest = dest; laps = s.laps; visited = s.visited }))
-    Refused
+    (Some (
+      record { alpha = d.alpha; beta = prev ⊗ decimal 1 2 ⊕ beta ⊗ decimal 1 2; x = x; y = y },
+      record { x = x; y = y; beta = beta; dest = d.place; laps = s.laps; visited = s.visited },
+    ))
+    None
 
-unfoldable pub then_landed : Walk → Sight → Float → ℕ → Checkpoint → Turned → Stepped
-then_landed w s alpha dest c TooFar = Refused
-then_landed w s alpha dest c (To b n) =
+unfoldable pub then_landed : Walk → Sight → Destination → Option (Float × ℕ) → Option (TrackStep × Walk)
+then_landed w s d None = None
+then_landed w s d (Some t) =
     let h = sin_cos_of w.beta in
-    landed_of w s h alpha dest b (steered b (proj_of w h c.x c.y))
+    landed_of w s h d t.0 (steered t.0 (proj_of w h d.checkpoint))
 
-unfoldable pub moved_of : Walk → Sight → Float → ℕ → Checkpoint → Stepped
-moved_of w s alpha dest c = then_landed w s alpha dest c (turn_of w.beta alpha)
+unfoldable pub then_moved : Walk → Sight → Option Destination → Option (TrackStep × Walk)
+then_moved w s None = None
+then_moved w s (Some d) = then_landed w s d (turn_of w.beta d.alpha)
 
-unfoldable pub then_moved : Walk → Sight → Destination → Stepped
-then_moved w s NotFound = Refused
-then_moved w s (Going dest alpha c) = moved_of w s alpha dest c
-
-unfoldable pub step_of : List Checkpoint → Walk → Stepped
+unfoldable pub step_of : List Checkpoint → Walk → Option (TrackStep × Walk)
 step_of cs w = then_moved w (sight_of w) (dest_of cs w.dest (sight_of w).alpha)

@@ -1,5 +1,5 @@
 -- Document 01, "Lay" (`try_generate`): from the steps of a walk to its track. Assumes nothing.
-use Rattle.std.specs.Prelude.{ℕ, zero, suc, ◌-◌, Bool, cond, not, ◌&&◌, List, [], map, length, take, drop, ◌==◌, slice_index_or, Float}
+use Rattle.std.specs.Prelude.{ℕ, zero, suc, ◌-◌, Bool, cond, not, ◌&&◌, List, [], map, length, take, drop, Option, Some, None, slice_index_or, Float}
 use Rattle.std.specs.Float.{nan}
 use Rattle.std.specs.Float.Ieee.{lt, le, neg}
 use Rattle.course.specs.Rules.Arithmetic.{◌⊕◌, ◌⊖◌, ◌⊗◌, ◌⊘◌, natural, decimal}
@@ -16,10 +16,10 @@ start_alpha = tau ⊗ neg (decimal 1 2) ⊘ natural checkpoint_count
 unfoldable pub passes_at : List Float → ℕ → Bool
 passes_at l i = lt start_alpha (slice_index_or l i nan) && le (slice_index_or l (i - 1) nan) start_alpha
 
--- the greatest number from 1 to n at which they do, 0 where there is none
-unfoldable pub last_pass : List Float → ℕ → ℕ
-last_pass l zero = 0
-last_pass l (suc n) = cond (passes_at l (suc n)) (suc n) (last_pass l n)
+-- the greatest number from 1 to n at which they do
+unfoldable pub last_pass : List Float → ℕ → Option ℕ
+last_pass l zero = None
+last_pass l (suc n) = cond (passes_at l (suc n)) (Some (suc n)) (last_pass l n)
 
 -- the columns of a list of steps
 abbrev pub step_alphas : List TrackStep → List Float
@@ -47,17 +47,22 @@ well_glued ps =
     (slice_index_or (step_xs ps) 0 nan) (slice_index_or (step_ys ps) 0 nan)
     (slice_index_or (step_xs ps) (length ps - 1) nan) (slice_index_or (step_ys ps) (length ps - 1) nan)
 
+-- the steps from number i1 to number i2, without the last; of these the track, empty where its ends do not meet
+unfoldable pub between : List TrackStep → ℕ → ℕ → List TrackStep
+between ps i1 i2 = take (i2 - 1 - i1) (drop i1 ps)
+
+unfoldable pub if_glued : List TrackStep → List TrackStep
+if_glued l = cond (well_glued l) l []
+
 -- the last pass through the start, and the one before it: the Rust's i2 and i1
-unfoldable pub later_pass : List TrackStep → ℕ
-later_pass ps = last_pass (step_alphas ps) (length ps - 1)
+unfoldable pub from_earlier : List TrackStep → ℕ → Option ℕ → List TrackStep
+from_earlier ps i2 None = []
+from_earlier ps i2 (Some i1) = if_glued (between ps i1 i2)
 
-unfoldable pub earlier_pass : List TrackStep → ℕ
-earlier_pass ps = last_pass (step_alphas ps) (later_pass ps - 1)
-
--- the steps between them, without the last
-unfoldable pub between_passes : List TrackStep → List TrackStep
-between_passes ps = take (later_pass ps - 1 - earlier_pass ps) (drop (earlier_pass ps) ps)
+unfoldable pub to_later : List TrackStep → Option ℕ → List TrackStep
+to_later ps None = []
+to_later ps (Some i2) = from_earlier ps i2 (last_pass (step_alphas ps) (i2 - 1))
 
 -- the track of a walk: empty where there are no two passes, nothing lies between them or the ends do not meet
 unfoldable pub track_of : List TrackStep → List TrackStep
-track_of ps = cond (earlier_pass ps == 0) [] (cond (well_glued (between_passes ps)) (between_passes ps) [])
+track_of ps = to_later ps (last_pass (step_alphas ps) (length ps - 1))

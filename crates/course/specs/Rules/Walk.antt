@@ -1,9 +1,9 @@
 -- Document 01, "Lay" (`try_generate`): the walk round the checkpoints, at most 2,500 steps, until the fifth lap is done. Assumes nothing.
-use Rattle.std.specs.Prelude.{ℕ, zero, suc, Bool, true, false, cond, List, [], ◌∷◌, ◌++◌, nat_lt}
+use Rattle.std.specs.Prelude.{ℕ, zero, suc, Bool, true, false, cond, List, [], ◌∷◌, ◌++◌, Option, Some, None, nat_lt}
 use Rattle.course.specs.Rules.Arithmetic.{nought}
 use Rattle.course.specs.Rules.Lengths.{step_limit}
 use Rattle.course.specs.Rules.Checkpoints.{far_rad}
-use Rattle.course.specs.Rules.Step.{Walk, TrackStep, Stepped, On, Refused, step_of}
+use Rattle.course.specs.Rules.Step.{Walk, TrackStep, step_of}
 use Rattle.course.specs.declared.checkpoints.Checkpoint.{Checkpoint}
 
 -- the steps stored, and whether no limit was met
@@ -16,9 +16,9 @@ unfoldable pub follow : List TrackStep → Trail → Trail
 follow ps r = record { ok = r.ok; steps = ps ++ r.steps }
 
 -- what follows a step: after a lap beyond the fourth nothing, else the rest
-unfoldable pub onward : Stepped → (Walk → Trail) → Trail
-onward Refused rest = record { ok = false; steps = [] }
-onward (On p w) rest = follow (p ∷ []) (cond (nat_lt 4 w.laps) (record { ok = true; steps = [] }) (rest w))
+unfoldable pub onward : Option (TrackStep × Walk) → (Walk → Trail) → Trail
+onward None rest = record { ok = false; steps = [] }
+onward (Some s) rest = follow (s.0 ∷ []) (cond (nat_lt 4 s.1.laps) (record { ok = true; steps = [] }) (rest s.1))
 
 -- at most n steps
 unfoldable pub walk_from : ℕ → List Checkpoint → Walk → Trail

@@ -1,45 +1,44 @@
 -- `course::lay::lay_attempts` meets its contract: where the columns have room, `finish` is called when all is ready for it. Assumes nothing.
-use Rattle.std.proofs.Common.{sym, ◌∙◌}
+use Rattle.std.proofs.Common.{sym, ◌∙◌, rules}
 use Rattle.course.specs.Grader.Outcome.{lent}
-use Rattle.course.specs.Rules.Lay.{course_within}
 use Rattle.course.specs.Grader.LayCall.{lay_call}
+use Rattle.course.specs.Rules.Lay.{course_within}
+use Rattle.course.specs.Steps.Lay.{columns_of}
 use Rattle.course.proofs.CourseSizes.{within-sized}
+use Rattle.course.proofs.Generating.{Made, made-or-ring, within-tried}
 use Rattle.course.proofs.LaidColumns.{room}
-use Rattle.course.proofs.LayLaws.{refused-short, Ready, finish-ready, laid}
+use Rattle.course.proofs.LayLaws.{points_lent, refused-short, finish-size, laid}
 use Rattle.course.proofs.lay.lay_attempts.Goals as goal
-use Rattle.course.proofs.lay.lay_attempts.Goals.{After-generate_with_attempts-c}
+use Rattle.course.proofs.lay.lay_attempts.Goals.{After-is_none}
 
--- the points are generated
-ready : (c : After-generate_with_attempts-c) →
-    let g = c.generate_with_attempts-c in
-    Ready (course_within c.args.attempts c.args.seed) (lent c.args.alpha.now c.args.beta.now c.args.x.now c.args.y.now c.args.tiles.now c.args.offsets.now c.args.list.now)
-    g.new.alpha g.new.beta g.new.x g.new.y g.result.n g.result.fallback
+-- the points are made
+ready : (c : After-is_none) →
+    Made (course_within c.args.attempts c.args.seed) (points_lent (lent c.args.alpha.now c.args.beta.now c.args.x.now c.args.y.now c.args.tiles.now c.args.offsets.now c.args.list.now))
+    (columns_of c.or_ring-n.new.cols) c.or_ring-n.result c.is_none.result
 ready c =
-    let g = c.generate_with_attempts-c in
-    record {
-      room = sym c.roomy.ensures ∙ c.if-not-roomy.false;
-      front = g.ensures.in_front;
-      ring = g.ensures.fallback_value;
-      alpha = g.auto.alpha;
-      beta = g.auto.beta;
-      x = g.auto.x;
-      y = g.auto.y;
-    }
+    let m = c.first_attempt-made in
+    made-or-ring m.result (within-tried c.args.attempts c.args.seed) m.ensures.in_front m.ensures.some c.or_ring-n.ensures.points c.is_none.ensures
 
 pub returns-then-not-roomy : goal.returns-then-not-roomy
 unfolding lay_call
 returns-then-not-roomy c = refused-short _ _ (sym c.roomy.ensures ∙ c.if-not-roomy.true)
 
-pub generate_with_attempts-c-requires : goal.generate_with_attempts-c-requires
-generate_with_attempts-c-requires c =
+pub invariant_of-cols : goal.invariant_of-cols
+invariant_of-cols c =
     let r = room (sym c.roomy.ensures ∙ c.if-not-roomy.false) in
-    record { laid_length_in_bounds = r.alpha; laid_length_in_bounds_2 = r.beta; laid_length_in_bounds_3 = r.x; laid_length_in_bounds_4 = r.y }
+    record { room_alpha = r.alpha; room_beta = r.beta; room_x = r.x; room_y = r.y }
 
-pub finish-requires : goal.finish-requires
-finish-requires c =
-    let r = finish-ready (ready (goal.at.finish-requires c).After-generate_with_attempts-c) (within-sized _ _) in
-    record { n_nonzero = r.0; roomy = r.1 }
+pub finish-requires-clause-n_nonzero : goal.finish-requires-clause-n_nonzero
+finish-requires-clause-n_nonzero c = finish-size (ready (goal.at.finish-requires-clause-n_nonzero c).After-is_none) (within-sized _ _)
 
+pub finish-requires-clause-roomy : goal.finish-requires-clause-roomy
+finish-requires-clause-roomy c =
+    let m = room (sym c.roomy.ensures ∙ c.if-not-roomy.false) in
+    record { alpha = search rules; beta = search rules; x = search rules; y = search rules; tiles = m.tiles; offsets = m.offsets }
+
+-- the columns that `finish` is lent are those that the struct held
 pub returns : goal.returns
 unfolding lay_call
-returns c = laid (ready (goal.at.returns c).After-generate_with_attempts-c) c.finish.ensures
+returns c =
+    laid (lent c.args.alpha.now c.args.beta.now c.args.x.now c.args.y.now c.args.tiles.now c.args.offsets.now c.args.list.now)
+    (sym c.roomy.ensures ∙ c.if-not-roomy.false) (ready (goal.at.returns c).After-is_none) (search rules) (search rules) (search rules) (search rules) c.finish.ensures

@@ -7,4 +7,4 @@ use Rattle.course.proofs.lay.ring_point.Goals as goal
 pub returns : goal.returns
 unfolding ring_point
 returns c =
-    let t = c.sin_cos-t in simp (hundred, tau-bits, rad-bits, natural-is c.args.i, ← cos-is _ _ t.ensures, ← sin-is _ _ t.ensures)
+    let t = c.sin_cos-t in simp (hundred, tau-bits, rad-bits, natural-is c.args.i, ← c.from.ensures, ← cos-is _ _ t.ensures, ← sin-is _ _ t.ensures)

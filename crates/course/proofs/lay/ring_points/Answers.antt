@@ -1,11 +1,23 @@
 -- `course::lay::ring_points` meets its contract. Assumes nothing.
-use Rattle.std.proofs.Common.{arith}
-use Rattle.course.proofs.Generating.{ring-none, ring-more}
+use Rattle.std.proofs.Common.{◌≡◌, refl, arith}
+use Rattle.course.proofs.Generating.{ring-none, ring-more, ring-all}
 use Rattle.course.proofs.lay.ring_points.Goals as goal
 
 pub loop-i-init : goal.loop-i-init
-loop-i-init c = ring-none _ _ _ (omega (arith, c.requires.laid_length_in_bounds)) (omega (arith, c.requires.laid_length_in_bounds_2)) (omega (arith, c.requires.laid_length_in_bounds_3))
+loop-i-init c =
+    let r = c.args.cols.now in
+    record {
+      same = record { alpha = refl; beta = refl; x = refl; y = refl };
+      ringing = ring-none _ (record { alpha = omega (arith, r.room_alpha); beta = omega (arith, r.room_beta); x = omega (arith, r.room_x); y = omega (arith, r.room_y) });
+    }
 
 pub loop-i-preserved : goal.loop-i-preserved
 loop-i-preserved c =
-    let l = c.loop-i in ring-more _ _ _ _ _ _ l.i _ c.loop-i-test.true c.ring_point-p.ensures l.invariant
+    let s = c.loop-i.invariant in
+    record { same = record { alpha = s.same.alpha; beta = s.same.beta; x = s.same.x; y = s.same.y }; ringing = ring-more c.loop-i-test.true c.ring_point-p.ensures s.ringing }
+
+pub returns-clause-ringed : goal.returns-clause-ringed
+returns-clause-ringed c =
+    let l = c.loop-i in
+    let all : l.i ≡ 100 = omega arith in
+    ring-all all l.invariant.ringing

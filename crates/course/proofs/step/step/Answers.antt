@@ -1,27 +1,39 @@
--- `course::step::step` meets its contract. Assumes nothing.
-use Rattle.course.specs.Rules.Step.{Sight, then_moved, step_of}
-use Rattle.course.specs.Rules.Finder.{dest_of}
-use Rattle.course.specs.Steps.Lay.{dest_as, walk_as, sight_as}
-use Rattle.std.proofs.Common.{sym, ap, ◌∙◌}
+-- `course::step::step` meets its contract: what it sees, then the checkpoint, then the turn, each in its turn. Assumes nothing.
+use Rattle.std.proofs.Common.{◌≡◌, ap, ◌∙◌}
+use lib.Ieee.{Float}
+use Rattle.course.specs.Rules.Trig.{SinCos}
+use Rattle.course.specs.Rules.Finder.{Destination, dest_of}
+use Rattle.course.specs.Rules.Step.{Walk, Sight, proj_of, steered, landed_of, then_landed, then_moved, step_of}
+use Rattle.course.specs.Steps.Numbers.{sin_cos_as}
+use Rattle.course.specs.Steps.Lay.{dest_as, walk_as, stepped_as, sight_as}
 use Rattle.course.proofs.step.step.Goals as goal
+use Rattle.course.proofs.step.step.Goals.{After-look-s}
 
-pub turned-h-requires : goal.turned-h-requires
-turned-h-requires c = c.requires.t_value
+-- the step once the walk has seen itself
+seen : (c : After-look-s) → then_moved (walk_as c.args.w) (sight_as c.look-s.result) (dest_of c.args.cs.now c.args.w.dest c.look-s.result.alpha) ≡ step_of c.args.cs.now (walk_as c.args.w)
+unfolding step_of
+seen c = ap (λ (s : Sight). then_moved (walk_as c.args.w) s (dest_of c.args.cs.now c.args.w.dest s.alpha)) c.look-s.ensures
 
-pub moved-requires : goal.moved-requires
-moved-requires c = c.turned-h.ensures
+pub returns-in_err-d : goal.returns-in_err-d
+unfolding then_moved
+returns-in_err-d c =
+    ap stepped_as c.from_residual.ensures ∙ ap (then_moved (walk_as c.args.w) (sight_as c.look-s.result)) c.in_err-d.ensures ∙ seen (goal.at.returns-in_err-d c).After-look-s
 
-pub returns-in-Refused : goal.returns-in-Refused
-unfolding then_moved step_of
-returns-in-Refused c =
-    let a = c.args in
-    ap (then_moved (walk_as a.w) (sight_as c.look-s.result)) (ap dest_as (sym c.in-Refused.is) ∙ c.dest_from-d.ensures)
-    ∙ ap (λ (s : Sight). then_moved (walk_as a.w) s (dest_of a.cs a.w.dest s.alpha)) c.look-s.ensures
+pub returns-in_err-b : goal.returns-in_err-b
+unfolding then_landed then_moved
+returns-in_err-b c =
+    ap stepped_as c.from_residual-in_err-b.ensures ∙ ap (then_landed (walk_as c.args.w) (sight_as c.look-s.result) (dest_as c.in_ok-d.d)) c.in_err-b.ensures
+    ∙ ap (then_moved (walk_as c.args.w) (sight_as c.look-s.result)) c.in_ok-d.ensures ∙ seen (goal.at.returns-in_err-b c).After-look-s
 
-pub returns-in-To : goal.returns-in-To
-unfolding then_moved step_of
-returns-in-To c =
-    let a = c.args in
-    c.moved.ensures
-    ∙ ap (then_moved (walk_as a.w) (sight_as c.look-s.result)) (ap dest_as (sym c.in-To.is) ∙ c.dest_from-d.ensures)
-    ∙ ap (λ (s : Sight). then_moved (walk_as a.w) s (dest_of a.cs a.w.dest s.alpha)) c.look-s.ensures
+pub returns : goal.returns
+unfolding then_landed then_moved
+returns c =
+    let w : Walk = walk_as c.args.w in
+    let s : Sight = sight_as c.look-s.result in
+    let d : Destination = dest_as c.in_ok-d.d in
+    let b : Float = c.in_ok-b.b in
+    c.landed.ensures
+    ∙ ap (λ (z : Float). landed_of w s (sin_cos_as c.turned-h.result) d b z) (c.steer.ensures ∙ ap (λ (z : Float). steered b z) c.proj.ensures)
+    ∙ ap (λ (z : SinCos). landed_of w s z d b (steered b (proj_of w z d.checkpoint))) c.turned-h.ensures
+    ∙ ap (then_landed w s d) c.in_ok-b.ensures ∙ ap (then_moved w s) c.in_ok-d.ensures
+    ∙ seen (goal.at.returns c).After-look-s

@@ -1,13 +1,12 @@
 -- `course::step::turn` meets its contract. Assumes nothing.
-use Rattle.std.proofs.Common.{sym, ap, ◌∙◌}
+use Rattle.std.proofs.Common.{ap, ◌∙◌}
 use Rattle.course.specs.Rules.Step.{then_up, turn_of}
-use Rattle.course.specs.Steps.Lay.{turned_as}
 use Rattle.course.proofs.step.turn.Goals as goal
 
-pub returns-in-Refused : goal.returns-in-Refused
+pub returns-in_err-b : goal.returns-in_err-b
 unfolding then_up turn_of
-returns-in-Refused c = ap (then_up c.args.alpha) (ap turned_as (sym c.in-Refused.is) ∙ c.turn_down-d.ensures)
+returns-in_err-b c = c.from_residual.ensures ∙ ap (then_up c.args.alpha) c.in_err-b.ensures
 
-pub returns-in-To : goal.returns-in-To
+pub returns : goal.returns
 unfolding then_up turn_of
-returns-in-To c = c.turn_up.ensures ∙ ap (then_up _) (ap turned_as (sym c.in-To.is) ∙ c.turn_down-d.ensures)
+returns c = c.turn_up.ensures ∙ ap (then_up c.args.alpha) c.in_ok-b.ensures

@@ -1,18 +1,16 @@
 -- `course::step::turn_down` meets its contract. Assumes nothing.
 use Rattle.course.proofs.Turns.{down-left, down-stop, down-more}
-use Rattle.std.proofs.Common.{sym, refl, ◌∙◌}
+use Rattle.std.proofs.Common.{sym, refl, ◌∙◌, arith}
 use Rattle.course.proofs.step.turn_down.Goals as goal
 
-pub loop-b-init : goal.loop-b-init
-loop-b-init c = refl
+pub loop-n-init : goal.loop-n-init
+loop-n-init c = refl
 
-pub returns-then-n-eq0 : goal.returns-then-n-eq0
-returns-then-n-eq0 c =
-    let l = c.loop-b in sym (l.invariant ∙ down-stop l.n _ _ c.loop-b-test.true c.if-n-eq0.true)
+pub returns-then-not-b-alpha : goal.returns-then-not-b-alpha
+returns-then-not-b-alpha c = sym (c.loop-n.invariant ∙ down-left c.loop-n.n _ _ c.if-not-b-alpha.true)
 
-pub loop-b-preserved : goal.loop-b-preserved
-loop-b-preserved c =
-    let l = c.loop-b in l.invariant ∙ down-more l.n _ _ c.loop-b-test.true c.if-n-eq0.false
+pub loop-n-preserved : goal.loop-n-preserved
+loop-n-preserved c = c.loop-n.invariant ∙ down-more c.loop-n.n _ _ c.if-not-b-alpha.false (λ z. omega (arith, z))
 
-pub returns : goal.returns
-returns c = sym (c.loop-b.invariant ∙ down-left c.loop-b.n _ _ c.loop-b-test.false)
+pub returns-else-not-b-alpha : goal.returns-else-not-b-alpha
+returns-else-not-b-alpha c = sym (c.loop-n.invariant ∙ down-stop c.loop-n.n _ _ c.if-not-b-alpha.false (omega arith))

@@ -3,8 +3,5 @@ use Rattle.std.proofs.Common.{◌≡◌}
 use Rattle.course.specs.Rules.Step.{turn_up}
 use Rattle.course.proofs.step.turn_up.Given as goal
 
-abbrev pub invariant-loop-b : goal.invariant-loop-b
-invariant-loop-b l = turn_up l.left l.beta l.alpha ≡ turn_up l.n l.b l.alpha
-
-abbrev pub decreases-loop-b : goal.decreases-loop-b
-decreases-loop-b l = l.n
+abbrev pub invariant-loop-n : goal.invariant-loop-n
+invariant-loop-n l = turn_up l.left l.beta l.alpha ≡ turn_up l.n l.b l.alpha

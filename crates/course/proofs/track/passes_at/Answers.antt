@@ -7,6 +7,6 @@ pub returns-then-alpha-i : goal.returns-then-alpha-i
 unfolding passes_at
 returns-then-alpha-i c = simp (start-bits, c.if-alpha-i.true)
 
-pub returns : goal.returns
+pub returns-else-alpha-i : goal.returns-else-alpha-i
 unfolding passes_at
-returns c = simp (start-bits, c.if-alpha-i.false)
+returns-else-alpha-i c = simp (start-bits, c.if-alpha-i.false)
