@@ -7,12 +7,11 @@ use native.Mathlib.Omega.{arith}
 use native.Mathlib.Nat.{zero-min, min-zero, suc-min-suc, le_of_eq}
 use native.Mathlib.Numerals.{add-one}
 use lib.Dec.{eqb}
-use lib.ListN.{length, get_or, replicate, take, drop, set, length-append, length-drop}
+use lib.ListN.{length, get_or, replicate, take, drop, length-append, length-drop}
 use lib.Seq.{take_at, drop_at, drop-drop, length-take-le}
 use lib.Ieee.{Float}
 use Rattle.course.specs.Rules.Arithmetic.{nought}
 use Rattle.course.specs.Rules.Counting.{digit}
-use Rattle.run.proofs.NumberLaws.{written_over}
 use Rattle.run.specs.Grader.State.{State, Columns, columns}
 use Rattle.run.specs.Grader.Drive.{Driven, driven, drive_of}
 use Rattle.run.specs.Grader.Settle.{AfterSettle, after_settle, settle_of}
@@ -35,28 +34,6 @@ use Rattle.run.specs.declared.settle.SettleValues.{SettleValues}
 use Rattle.run.specs.declared.dynamics.Force.{Force}
 
 -- ---- writing
-
--- a force from number i on
-abbrev put_force : List Float → ℕ → Force → List Float
-put_force l i f = set (set (set l i f.motor) (i + 1) f.fx) (i + 2) f.fy
-
--- four forces, one after the other
-pub all-forces : (fs : List Force) (d : Force) (n₀ n₁ n₂ n₃ n₄ : List Float) → length fs ≡ 4 → length n₀ ≡ 12
-    → n₁ ≡ put_force n₀ 0 (get_or fs 0 d) → n₂ ≡ put_force n₁ 3 (get_or fs 1 d) → n₃ ≡ put_force n₂ 6 (get_or fs 2 d) → n₄ ≡ put_force n₃ 9 (get_or fs 3 d)
-    → n₄ ≡ force_numbers fs
-unfolding force_numbers
-all-forces [] d n₀ n₁ n₂ n₃ n₄ l m e₁ e₂ e₃ e₄ = absurd (omega arith)
-all-forces (f ∷ []) d n₀ n₁ n₂ n₃ n₄ l m e₁ e₂ e₃ e₄ = absurd (omega arith)
-all-forces (f ∷ g ∷ []) d n₀ n₁ n₂ n₃ n₄ l m e₁ e₂ e₃ e₄ = absurd (omega arith)
-all-forces (f ∷ g ∷ h ∷ []) d n₀ n₁ n₂ n₃ n₄ l m e₁ e₂ e₃ e₄ = absurd (omega arith)
-all-forces (f ∷ g ∷ h ∷ k ∷ []) d n₀ n₁ n₂ n₃ n₄ l m e₁ e₂ e₃ e₄ =
-    e₄
-    ∙ ap (λ (n : List Float). put_force n 9 k)
-    (e₃ ∙ ap (λ (n : List Float). put_force n 6 h) (e₂ ∙ ap (λ (n : List Float). put_force n 3 g) e₁))
-    ∙ written_over
-    (f.motor ∷ f.fx ∷ f.fy ∷ g.motor ∷ g.fx ∷ g.fy ∷ h.motor ∷ h.fx ∷ h.fy ∷ k.motor ∷ k.fx ∷ k.fy ∷ [])
-    n₀ m
-all-forces (f ∷ g ∷ h ∷ k ∷ p ∷ rest) d n₀ n₁ n₂ n₃ n₄ l m e₁ e₂ e₃ e₄ = absurd (omega arith)
 
 -- no forces are twelve zeros
 pub no-numbers : force_numbers no_forces ≡ replicate answer_numbers nought

@@ -9,6 +9,7 @@ use course::cause::Cause;
 use run::dynamics::Force;
 use run::settle::SettleValues;
 use run::save::flags_of;
+use run::numbers;
 
 // An answer's four words.
 fn put_words(a: u32, b: u32, c: u32, d: u32, words: &mut [u32])
@@ -21,25 +22,12 @@ fn put_words(a: u32, b: u32, c: u32, d: u32, words: &mut [u32])
     words[3] = d;
 }
 
-// A wheel's force, from number i on.
-fn put_force(f: Force, i: usize, numbers: &mut [f64])
-    requires { i + 3 ≤ length numbers.old }
-    ensures { numbers.new ≡ set (set (set numbers.old i f.motor) (i + 1) f.fx) (i + 2) f.fy }
-{
-    numbers[i] = f.motor;
-    numbers[i + 1] = f.fx;
-    numbers[i + 2] = f.fy;
-}
-
 // An answer's twelve numbers.
 fn put_forces(forces: [Force; 4], numbers: &mut [f64])
     requires { length numbers.old ≡ 12 }
     ensures { numbers.new ≡ force_numbers forces }
 {
-    put_force(forces[0], 0, numbers);
-    put_force(forces[1], 3, numbers);
-    put_force(forces[2], 6, numbers);
-    put_force(forces[3], 9, numbers);
+    numbers::write_four(forces, numbers);
 }
 
 // The same into the numbers that a host lends.

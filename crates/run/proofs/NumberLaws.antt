@@ -1,23 +1,71 @@
 -- A car and four poses stand in their numbers: what is written over a column, and what the numbers hold is read back. Assumes nothing.
-use mathlib.Core.List.{List, [], ◌∷◌, ◌++◌, append-nil}
-use mathlib.Core.Path.{◌≡◌, refl, sym, ap, ◌∙◌}
-use Prim.Native.Nat.{ℕ, zero, suc, ◌+◌, ◌≤◌, ◌<◌}
+use mathlib.Core.List.{List, [], ◌∷◌, ◌++◌, append-nil, append_assoc}
+use mathlib.Core.Path.{◌≡◌, refl, sym, ap, ap₂, ◌∙◌}
+use Prim.Native.Nat.{ℕ, zero, suc, ◌+◌, ◌*◌, ◌≤◌, ◌<◌}
 use native.Mathlib.Omega.{arith}
-use lib.ListN.{length, get_or, take, drop, drop_of_length-le}
-use lib.Seq.{sets, sets-eq, drop-cons, split_at}
+use lib.ListN.{length, get_or, set, take, drop, length-append, length-drop, drop_of_length-le}
+use lib.Seq.{sets, sets-eq, drop-cons, split_at, take_at, drop_at, drop-drop, take-suc, length-take-le}
+use native.Mathlib.Nat.{suc-mul}
+use native.Mathlib.Numerals.{add-one}
+use Rattle.std.proofs.lemmas.List.Concat.{flat_map-append}
+use Rattle.run.proofs.ContactLaws.{end-within}
 use lib.Ieee.{Float, nan}
+use Rattle.std.specs.List.{flat_map}
 use Rattle.course.specs.Rules.Tiles.{number_at}
 use Rattle.run.specs.declared.state.WheelCtl.{WheelCtl}
 use Rattle.run.specs.declared.state.Car.{Car}
 use Rattle.run.specs.declared.state.Pose.{Pose}
+use Rattle.run.specs.declared.dynamics.Force.{Force}
 use Rattle.run.specs.Rules.Arguments.{pose_at}
-use Rattle.run.specs.Grader.Numbers.{control_count, wheel_from, car_from, car_numbers, pose_from, poses_at, pose_numbers}
+use Rattle.run.specs.Rules.Pass.{ctl_at}
+use Rattle.run.specs.Grader.Numbers.{control_count, wheel_from, wheel_list, car_from, car_numbers, pose_from, pose_list, poses_at, pose_numbers, force_list, force_at, force_numbers, four_from}
 
 -- ---- writing
 
 -- as many values as a column has, written from its front on, are the column
 pub written_over : {A : Type 0} (vs l : List A) → length l ≡ length vs → sets l 0 vs ≡ vs
 written_over {A} vs l e = sets-eq vs l 0 (omega arith) ∙ ap (λ (r : List A). vs ++ r) (drop_of_length-le l {i = 0 + length vs} (omega arith)) ∙ append-nil vs
+
+-- ---- four records of k numbers each, one after the other
+four-items : {A : Type 0} (xs : List A) (d : A) → length xs ≡ 4 → xs ≡ get_or xs 0 d ∷ get_or xs 1 d ∷ get_or xs 2 d ∷ get_or xs 3 d ∷ []
+four-items (a ∷ b ∷ c ∷ e ∷ []) d h = refl
+four-items [] d h = absurd (omega (arith, h))
+four-items (a ∷ []) d h = absurd (omega (arith, h))
+four-items (a ∷ b ∷ []) d h = absurd (omega (arith, h))
+four-items (a ∷ b ∷ c ∷ []) d h = absurd (omega (arith, h))
+four-items (a ∷ b ∷ c ∷ e ∷ f ∷ r) d h = absurd (omega (arith, h))
+
+module _ {T : Type 0} (f : T → List Float) (k : ℕ) (rs : List T) where
+  -- after w of them over the numbers ns₀
+  pub record Written (ns₀ ns : List Float) (w : ℕ) : Type 0 where
+    pub long : length ns ≡ 4 * k
+    pub done : length (flat_map f (take w rs)) ≡ w * k
+    pub ends : w < 4 → w * k + k ≤ 4 * k
+    pub are : ns ≡ flat_map f (take w rs) ++ drop (w * k) ns₀
+
+  -- one more, whose numbers start at a and are n
+  pub one-written : {ns₀ ns part : List Float} {w a n : ℕ} (x : T) → Written ns₀ ns w → w < 4 → length rs ≡ 4 → length ns₀ ≡ 4 * k → a ≡ w * k → n ≡ k → part ≡ f (get_or rs w x)
+      → length part ≡ length (take n (drop a ns)) → Written ns₀ (take a ns ++ (part ++ drop n (drop a ns))) (w + 1)
+  one-written {ns₀} {ns} {part} {w} {a} {n} x h b r e ea en ep lent =
+      let before = flat_map f (take w rs) in
+      let more : flat_map f (take (w + 1) rs) ≡ before ++ part =
+      ap (λ (j : ℕ). flat_map f (take j rs)) (add-one w) ∙ ap (flat_map f) (take-suc rs w x (omega (arith, r))) ∙ flat_map-append f (take w rs) (get_or rs w x ∷ [])
+      ∙ ap (λ (l : List Float). before ++ l) (append-nil (f (get_or rs w x)) ∙ sym ep) in
+      let next : (w + 1) * k ≡ w * k + k = ap (λ (v : ℕ). v * k) (add-one w) ∙ suc-mul w k in
+      let long : length part ≡ k = lent ∙ length-take-le n (drop a ns) (omega (arith, length-drop a ns, h.long, h.ends b, ea, en)) ∙ en in
+      let front : take a ns ≡ before = ap₂ (λ (i : ℕ) (l : List Float). take i l) ea h.are ∙ take_at before (drop (w * k) ns₀) (w * k) h.done in
+      let past : drop n (drop a ns) ≡ drop ((w + 1) * k) ns₀ =
+      ap₂ (λ (i : ℕ) (l : List Float). drop i l) en (ap₂ (λ (i : ℕ) (l : List Float). drop i l) ea h.are ∙ drop_at before (drop (w * k) ns₀) (w * k) h.done)
+      ∙ drop-drop k (w * k) ns₀ ∙ ap (λ (i : ℕ). drop i ns₀) (sym next) in
+      let whole : take a ns ++ (part ++ drop n (drop a ns)) ≡ flat_map f (take (w + 1) rs) ++ drop ((w + 1) * k) ns₀ =
+      ap₂ (λ (l m : List Float). l ++ (part ++ m)) front past ∙ sym (append_assoc before part (drop ((w + 1) * k) ns₀)) ∙ ap (λ (l : List Float). l ++ drop ((w + 1) * k) ns₀) (sym more) in
+      let done : length (flat_map f (take (w + 1) rs)) ≡ (w + 1) * k = ap length more ∙ length-append before part ∙ omega (arith, h.done, long, next) in
+      record {
+        long = ap length whole ∙ length-append (flat_map f (take (w + 1) rs)) (drop ((w + 1) * k) ns₀) ∙ omega (arith, done, length-drop ((w + 1) * k) ns₀, next, h.ends b, e);
+        done = done;
+        ends = λ d. end-within (w + 1) 4 k d;
+        are = whole;
+      }
 
 -- ---- a car
 
@@ -37,13 +85,23 @@ numbers-of-car : (l : List Float) → length l ≡ 21 → car_numbers (car_from 
 unfolding entries car_numbers car_from wheel_from
 numbers-of-car l e = entries-all 21 0 nan l (sym e)
 
--- a car that is read wheel by wheel
-pub car-read : (l : List Float) (a b c d : WheelCtl) (car : Car) → length l ≡ 21 → a ≡ wheel_from l 0 → b ≡ wheel_from l 5 → c ≡ wheel_from l 10 → d ≡ wheel_from l 15
-    → car ≡ record { ctl = a ∷ b ∷ c ∷ d ∷ []; fuel_spent = number_at l 20 } → (car ≡ car_from l) × (car_numbers car ≡ l)
+-- a car that is read
+pub car-read : (l : List Float) (ctl : List WheelCtl) → length l ≡ 21 → ctl ≡ four_from wheel_from 5 l 0
+    → let car : Car = record { ctl = ctl; fuel_spent = number_at l 20 } in (car ≡ car_from l) × (car_numbers car ≡ l)
 unfolding car_from
-car-read l a b c d car long ea eb ec ed e =
-    let is : car ≡ car_from l = e ∙ (λ i. record { ctl = ea i ∷ eb i ∷ ec i ∷ ed i ∷ []; fuel_spent = number_at l 20 }) in
+car-read l ctl long e =
+    let is : ◌≡◌ {A = Car} (record { ctl = ctl; fuel_spent = number_at l 20 }) (car_from l) = λ i. record { ctl = e i; fuel_spent = number_at l 20 } in
     (is, ap car_numbers is ∙ numbers-of-car l long)
+
+-- a car that is written
+four-written : (ctl : List WheelCtl) (fuel x : Float) → length ctl ≡ 4 → set (flat_map wheel_list ctl ++ (x ∷ [])) 20 fuel ≡ car_numbers (record { ctl = ctl; fuel_spent = fuel })
+unfolding car_numbers
+four-written ctl fuel x h = ap (λ (l : List WheelCtl). set (flat_map wheel_list l ++ (x ∷ [])) 20 fuel) (four-items ctl (ctl_at [] 0) h)
+
+pub car-written : (car : Car) (l : List Float) {ns : List Float} → length car.ctl ≡ 4 → length l ≡ 21 → ns ≡ flat_map wheel_list car.ctl → set (ns ++ drop 20 l) 20 car.fuel_spent ≡ car_numbers car
+car-written car l four long e =
+    let last : drop 20 l ≡ get_or l 20 nan ∷ [] = drop-cons l 20 nan (omega (arith, long)) ∙ ap (λ (r : List Float). get_or l 20 nan ∷ r) (drop_of_length-le l {i = 21} (omega (arith, long))) in
+    ap₂ (λ (a b : List Float). set (a ++ b) 20 car.fuel_spent) e last ∙ four-written car.ctl car.fuel_spent (get_or l 20 nan) four
 
 -- a car of four wheels
 pub numbers-back : (a b c d : WheelCtl) (fuel : Float) → car_from (car_numbers (record { ctl = a ∷ b ∷ c ∷ d ∷ []; fuel_spent = fuel })) ≡ record { ctl = a ∷ b ∷ c ∷ d ∷ []; fuel_spent = fuel }
@@ -67,10 +125,15 @@ controls-taken car ns e = ap (λ (l : List Float). length (take control_count l)
 
 -- ---- four poses
 
--- poses that are read wheel by wheel
-pub poses-read : (l : List Float) (a b c d : Pose) → a ≡ pose_from l 0 → b ≡ pose_from l 4 → c ≡ pose_from l 8 → d ≡ pose_from l 12 → a ∷ b ∷ c ∷ d ∷ [] ≡ poses_at l 0
-unfolding poses_at
-poses-read l a b c d ea eb ec ed = λ i. ea i ∷ eb i ∷ ec i ∷ ed i ∷ []
+-- poses that are written
+pub poses-written : (ps : List Pose) → length ps ≡ 4 → flat_map pose_list ps ≡ pose_numbers ps
+unfolding pose_numbers
+poses-written ps h = ap (flat_map pose_list) (four-items ps (pose_at [] 0) h)
+
+-- forces that are written
+pub forces-written : (fs : List Force) → length fs ≡ 4 → flat_map force_list fs ≡ force_numbers fs
+unfolding force_numbers
+forces-written fs h = ap (flat_map force_list) (four-items fs (force_at [] 0) h)
 
 -- each wheel's pose is read back from the numbers
 pub poses-back : (ps : List Pose) (w : ℕ) → w < 4 → pose_at (poses_at (pose_numbers ps) 0) w ≡ pose_at ps w

@@ -1,7 +1,9 @@
 // A car and four poses as numbers, one wheel after the other: as a host lends a car, and as a run keeps its last poses.
-ghost use Rattle.std.specs.Prelude.{◌≡◌, ◌+◌, ◌≤◌, length};
-ghost use Rattle.run.specs.Grader.Numbers.{wheel_from, car_from, car_numbers, pose_from, poses_at, pose_numbers};
+ghost use Rattle.std.specs.Prelude.{◌≡◌, List, ℕ, ◌+◌, ◌*◌, ◌≤◌, Float, length};
+ghost use Rattle.std.specs.List.{flat_map};
+ghost use Rattle.run.specs.Grader.Numbers.{wheel_from, wheel_list, car_from, car_numbers, pose_from, pose_list, poses_at, pose_numbers, motion_from, motion_list, force_from, force_list, four_from};
 
+use crate::dynamics::{Force, Motion};
 use crate::state::{Car, Pose, WheelCtl};
 
 // Five numbers to a wheel, then the fuel spent.
@@ -10,17 +12,159 @@ pub const CAR_NUMBERS: usize = 21;
 // Four to a wheel: x, y, cos, sin.
 pub const POSE_NUMBERS: usize = 16;
 
-// A wheel's control, from number i on.
-fn wheel_at(numbers: &[f64], i: usize) -> WheelCtl
-    requires { i + 5 ≤ length numbers.now }
-    ensures { result ≡ wheel_from numbers.now i }
+// A record of so many numbers.
+pub trait Numbers: Copy {
+    const COUNT: usize;
+
+    ghost COUNT: { ℕ };
+
+    // The record that a column holds from a number on.
+    ghost held: { List Float → ℕ → Self };
+
+    // Its numbers.
+    ghost list: { Self → List Float };
+
+    // The record from number i on.
+    fn read(numbers: &[f64], i: usize) -> Self
+        requires { i + COUNT ≤ length numbers.now }
+        ensures { result ≡ held numbers.now i };
+
+    // Its numbers are written.
+    fn write(self, numbers: &mut [f64])
+        requires { length numbers.old ≡ COUNT }
+        ensures { numbers.new ≡ list self };
+}
+
+impl Numbers for WheelCtl {
+    const COUNT: usize = 5;
+
+    ghost COUNT = { 5 };
+
+    ghost held = { wheel_from };
+
+    ghost list = { wheel_list };
+
+    #[tactic(auto, unfolding(crate::specs::Grader::Numbers::wheel_from))]
+    fn read(numbers: &[f64], i: usize) -> WheelCtl {
+        WheelCtl {
+            gas: numbers[i],
+            brake: numbers[i + 1],
+            steer: numbers[i + 2],
+            omega: numbers[i + 3],
+            phase: numbers[i + 4],
+        }
+    }
+
+    fn write(self, numbers: &mut [f64]) {
+        numbers[0] = self.gas;
+        numbers[1] = self.brake;
+        numbers[2] = self.steer;
+        numbers[3] = self.omega;
+        numbers[4] = self.phase;
+    }
+}
+
+impl Numbers for Pose {
+    const COUNT: usize = 4;
+
+    ghost COUNT = { 4 };
+
+    ghost held = { pose_from };
+
+    ghost list = { pose_list };
+
+    #[tactic(auto, unfolding(crate::specs::Grader::Numbers::pose_from))]
+    fn read(numbers: &[f64], i: usize) -> Pose {
+        Pose {
+            x: numbers[i],
+            y: numbers[i + 1],
+            cos: numbers[i + 2],
+            sin: numbers[i + 3],
+        }
+    }
+
+    fn write(self, numbers: &mut [f64]) {
+        numbers[0] = self.x;
+        numbers[1] = self.y;
+        numbers[2] = self.cos;
+        numbers[3] = self.sin;
+    }
+}
+
+impl Numbers for Motion {
+    const COUNT: usize = 5;
+
+    ghost COUNT = { 5 };
+
+    ghost held = { motion_from };
+
+    ghost list = { motion_list };
+
+    #[tactic(auto, unfolding(crate::specs::Grader::Numbers::motion_from))]
+    fn read(numbers: &[f64], i: usize) -> Motion {
+        Motion {
+            joint_angle: numbers[i],
+            sin: numbers[i + 1],
+            cos: numbers[i + 2],
+            vx: numbers[i + 3],
+            vy: numbers[i + 4],
+        }
+    }
+
+    fn write(self, numbers: &mut [f64]) {
+        numbers[0] = self.joint_angle;
+        numbers[1] = self.sin;
+        numbers[2] = self.cos;
+        numbers[3] = self.vx;
+        numbers[4] = self.vy;
+    }
+}
+
+impl Numbers for Force {
+    const COUNT: usize = 3;
+
+    ghost COUNT = { 3 };
+
+    ghost held = { force_from };
+
+    ghost list = { force_list };
+
+    #[tactic(auto, unfolding(crate::specs::Grader::Numbers::force_from))]
+    fn read(numbers: &[f64], i: usize) -> Force {
+        Force {
+            motor: numbers[i],
+            fx: numbers[i + 1],
+            fy: numbers[i + 2],
+        }
+    }
+
+    fn write(self, numbers: &mut [f64]) {
+        numbers[0] = self.motor;
+        numbers[1] = self.fx;
+        numbers[2] = self.fy;
+    }
+}
+
+// The records of four wheels, one after the other from number i on.
+pub fn read_four<T: Numbers>(numbers: &[f64], i: usize) -> [T; 4]
+    requires { i + 4 * T.COUNT ≤ length numbers.now }
+    ensures { result ≡ four_from T.held T.COUNT numbers.now i }
 {
-    WheelCtl {
-        gas: numbers[i],
-        brake: numbers[i + 1],
-        steer: numbers[i + 2],
-        omega: numbers[i + 3],
-        phase: numbers[i + 4],
+    let a = T::read(numbers, i);
+    let b = T::read(numbers, i + T::COUNT);
+    let c = T::read(numbers, i + 2 * T::COUNT);
+    let d = T::read(numbers, i + 3 * T::COUNT);
+    [a, b, c, d]
+}
+
+// The numbers of four wheels' records are written, one wheel after the other.
+pub fn write_four<T: Numbers>(records: [T; 4], numbers: &mut [f64])
+    requires { length numbers.old ≡ 4 * T.COUNT }
+    ensures { numbers.new ≡ flat_map T.list records }
+{
+    for w in 0..4 {
+        let from = w * T::COUNT;
+        records[w].write(&mut numbers[from..from + T::COUNT]);
     }
 }
 
@@ -29,110 +173,30 @@ pub fn car_from(numbers: &[f64; CAR_NUMBERS]) -> Car
     ensures value { result ≡ car_from numbers.now }
     ensures result_value { car_numbers result ≡ numbers.now }
 {
-    let a = wheel_at(numbers, 0);
-    let b = wheel_at(numbers, 5);
-    let c = wheel_at(numbers, 10);
-    let d = wheel_at(numbers, 15);
     Car {
-        ctl: [a, b, c, d],
+        ctl: read_four(numbers, 0),
         fuel_spent: numbers[20],
     }
-}
-
-// The car's numbers are written. The checker knows the length of a lent array where it is handed on as a slice: so the stores are made here.
-fn write_car(car: Car, numbers: &mut [f64])
-    requires { length numbers.old ≡ 21 }
-    ensures { numbers.new ≡ car_numbers car }
-{
-    let ctl = car.ctl;
-    let a = ctl[0];
-    let b = ctl[1];
-    let c = ctl[2];
-    let d = ctl[3];
-    numbers[0] = a.gas;
-    numbers[1] = a.brake;
-    numbers[2] = a.steer;
-    numbers[3] = a.omega;
-    numbers[4] = a.phase;
-    numbers[5] = b.gas;
-    numbers[6] = b.brake;
-    numbers[7] = b.steer;
-    numbers[8] = b.omega;
-    numbers[9] = b.phase;
-    numbers[10] = c.gas;
-    numbers[11] = c.brake;
-    numbers[12] = c.steer;
-    numbers[13] = c.omega;
-    numbers[14] = c.phase;
-    numbers[15] = d.gas;
-    numbers[16] = d.brake;
-    numbers[17] = d.steer;
-    numbers[18] = d.omega;
-    numbers[19] = d.phase;
-    numbers[20] = car.fuel_spent;
 }
 
 // The car's numbers are written.
 pub fn put_car(car: Car, numbers: &mut [f64; CAR_NUMBERS])
     ensures { numbers.new ≡ car_numbers car }
 {
-    write_car(car, numbers);
-}
-
-// A wheel's pose, from number i on.
-fn pose_at(numbers: &[f64], i: usize) -> Pose
-    requires { i + 4 ≤ length numbers.now }
-    ensures { result ≡ pose_from numbers.now i }
-{
-    Pose {
-        x: numbers[i],
-        y: numbers[i + 1],
-        cos: numbers[i + 2],
-        sin: numbers[i + 3],
-    }
+    write_four(car.ctl, &mut numbers[..20]);
+    numbers[20] = car.fuel_spent;
 }
 
 // The four poses that their numbers hold.
 pub fn poses_from(numbers: &[f64; POSE_NUMBERS]) -> [Pose; 4]
     ensures { result ≡ poses_at numbers.now 0 }
 {
-    let a = pose_at(numbers, 0);
-    let b = pose_at(numbers, 4);
-    let c = pose_at(numbers, 8);
-    let d = pose_at(numbers, 12);
-    [a, b, c, d]
-}
-
-// The poses' numbers are written.
-fn write_poses(poses: [Pose; 4], numbers: &mut [f64])
-    requires { length numbers.old ≡ 16 }
-    ensures { numbers.new ≡ pose_numbers poses }
-{
-    let a = poses[0];
-    let b = poses[1];
-    let c = poses[2];
-    let d = poses[3];
-    numbers[0] = a.x;
-    numbers[1] = a.y;
-    numbers[2] = a.cos;
-    numbers[3] = a.sin;
-    numbers[4] = b.x;
-    numbers[5] = b.y;
-    numbers[6] = b.cos;
-    numbers[7] = b.sin;
-    numbers[8] = c.x;
-    numbers[9] = c.y;
-    numbers[10] = c.cos;
-    numbers[11] = c.sin;
-    numbers[12] = d.x;
-    numbers[13] = d.y;
-    numbers[14] = d.cos;
-    numbers[15] = d.sin;
+    read_four(numbers, 0)
 }
 
 // The poses' numbers are written.
 pub fn put_poses(poses: [Pose; 4], numbers: &mut [f64; POSE_NUMBERS])
     ensures { numbers.new ≡ pose_numbers poses }
 {
-    write_poses(poses, numbers);
+    write_four(poses, numbers);
 }

@@ -1,6 +1,6 @@
 // Quads of four corners: a wheel's, a tile's, and whether two of them overlap (document 01, "Touch").
 ghost use Rattle.std.specs.Prelude.{◌≡◌, not, ◌||◌, ◌+◌, ◌*◌};
-ghost use Rattle.run.specs.Rules.Overlap.{least_on, greatest_on, apart_on, apart_by_edges, overlap_of};
+ghost use Rattle.run.specs.Rules.Overlap.{projections, least_on, greatest_on, apart_on, apart_by_edges, overlap_of};
 ghost use Rattle.run.specs.Rules.Wheel.{placed, wheel_quad, box_cells};
 ghost use Rattle.run.specs.Steps.Touch.{first_side, beyond, apart_by_others, sixteen_cells};
 
@@ -12,31 +12,38 @@ use course::numeric::{greatest, least};
 
 const WHEEL_W: f64 = 14.0;
 
+// The projections of a quad's corners on the axis (nx, ny).
+fn projections(nx: f64, ny: f64, q: [[f64; 2]; 4]) -> [f64; 4]
+    ensures { result ≡ projections nx ny q }
+{
+    [
+        nx * q[0][0] + ny * q[0][1],
+        nx * q[1][0] + ny * q[1][1],
+        nx * q[2][0] + ny * q[2][1],
+        nx * q[3][0] + ny * q[3][1],
+    ]
+}
+
 // The least projection of a quad on the axis (nx, ny).
+#[tactic(auto, unfolding(crate::specs::Rules::Overlap::least_on))]
 fn least_on(nx: f64, ny: f64, q: [[f64; 2]; 4]) -> f64
     ensures { result ≡ least_on nx ny q }
 {
-    least(
-        nx * q[0][0] + ny * q[0][1],
-        nx * q[1][0] + ny * q[1][1],
-        nx * q[2][0] + ny * q[2][1],
-        nx * q[3][0] + ny * q[3][1],
-    )
+    let [a, b, c, d] = projections(nx, ny, q);
+    least(a, b, c, d)
 }
 
 // The greatest projection of a quad on the axis (nx, ny).
+#[tactic(auto, unfolding(crate::specs::Rules::Overlap::greatest_on))]
 fn greatest_on(nx: f64, ny: f64, q: [[f64; 2]; 4]) -> f64
     ensures { result ≡ greatest_on nx ny q }
 {
-    greatest(
-        nx * q[0][0] + ny * q[0][1],
-        nx * q[1][0] + ny * q[1][1],
-        nx * q[2][0] + ny * q[2][1],
-        nx * q[3][0] + ny * q[3][1],
-    )
+    let [a, b, c, d] = projections(nx, ny, q);
+    greatest(a, b, c, d)
 }
 
 // The quads lie apart on the axis (nx, ny).
+#[tactic(auto, unfolding(crate::specs::Rules::Overlap::apart_on))]
 fn apart_on(nx: f64, ny: f64, a: [[f64; 2]; 4], b: [[f64; 2]; 4]) -> bool
     ensures { result ≡ apart_on nx ny a b }
 {
@@ -44,26 +51,21 @@ fn apart_on(nx: f64, ny: f64, a: [[f64; 2]; 4], b: [[f64; 2]; 4]) -> bool
 }
 
 // The quads lie apart on a normal of one of the edges of q after the first.
+#[tactic(auto, unfolding(crate::specs::Steps::Touch::apart_by_others, crate::specs::Rules::Overlap::apart_along))]
 fn apart_by_others(q: [[f64; 2]; 4], a: [[f64; 2]; 4], b: [[f64; 2]; 4]) -> bool
     ensures { result ≡ apart_by_others q a b }
 {
-    if apart_on(q[2][1] - q[1][1], q[1][0] - q[2][0], a, b) {
-        return true;
-    }
-    if apart_on(q[3][1] - q[2][1], q[2][0] - q[3][0], a, b) {
-        return true;
-    }
-    apart_on(q[0][1] - q[3][1], q[3][0] - q[0][0], a, b)
+    apart_on(q[2][1] - q[1][1], q[1][0] - q[2][0], a, b)
+        || apart_on(q[3][1] - q[2][1], q[2][0] - q[3][0], a, b)
+        || apart_on(q[0][1] - q[3][1], q[3][0] - q[0][0], a, b)
 }
 
 // The quads lie apart on a normal of one of the four edges of q.
+#[tactic(auto, unfolding(crate::specs::Steps::Touch::apart_by_others, crate::specs::Rules::Overlap::apart_by_edges, crate::specs::Rules::Overlap::apart_along))]
 fn apart_by_edges(q: [[f64; 2]; 4], a: [[f64; 2]; 4], b: [[f64; 2]; 4]) -> bool
     ensures { result ≡ apart_by_edges q a b }
 {
-    if apart_on(q[1][1] - q[0][1], q[0][0] - q[1][0], a, b) {
-        return true;
-    }
-    apart_by_others(q, a, b)
+    apart_on(q[1][1] - q[0][1], q[0][0] - q[1][0], a, b) || apart_by_others(q, a, b)
 }
 
 // The normal (nx, ny) of a quad's first edge, and the quad's least and greatest projection on it.
@@ -76,6 +78,7 @@ pub(crate) struct Side {
 }
 
 // The first side of a quad. Made once for a wheel: most tiles of a cell lie apart from the wheel on it.
+#[tactic(auto, unfolding(crate::specs::Steps::Touch::first_side))]
 pub(crate) fn first_side(q: [[f64; 2]; 4]) -> Side
     ensures { result ≡ first_side q }
 {
@@ -87,6 +90,7 @@ pub(crate) fn first_side(q: [[f64; 2]; 4]) -> Side
 }
 
 // The quad lies apart from the side's own quad on the side's normal.
+#[tactic(auto, unfolding(crate::specs::Steps::Touch::beyond))]
 fn is_beyond(s: Side, q: [[f64; 2]; 4]) -> bool
     ensures { result ≡ beyond s q }
 {
@@ -98,10 +102,7 @@ fn is_beyond(s: Side, q: [[f64; 2]; 4]) -> bool
 fn overlap_past_first(a: [[f64; 2]; 4], b: [[f64; 2]; 4]) -> bool
     ensures { result ≡ not (apart_by_others a a b || apart_by_edges b a b) }
 {
-    if apart_by_others(a, a, b) {
-        return false;
-    }
-    !apart_by_edges(b, a, b)
+    !(apart_by_others(a, a, b) || apart_by_edges(b, a, b))
 }
 
 // Whether two quads overlap, by the eight normals of their edges; the first side of `a` is made already.
@@ -109,10 +110,7 @@ pub(crate) fn overlap_from(side: Side, a: [[f64; 2]; 4], b: [[f64; 2]; 4]) -> bo
     requires { side ≡ first_side a }
     ensures { result ≡ overlap_of a b }
 {
-    if is_beyond(side, b) {
-        return false;
-    }
-    overlap_past_first(a, b)
+    !is_beyond(side, b) && overlap_past_first(a, b)
 }
 
 // Whether two quads overlap, the first side made here. No contact calls it: it is for a caller who has two quads alone, and does not go through
@@ -120,13 +118,11 @@ pub(crate) fn overlap_from(side: Side, a: [[f64; 2]; 4], b: [[f64; 2]; 4]) -> bo
 pub fn quad_overlap(a: [[f64; 2]; 4], b: [[f64; 2]; 4]) -> bool
     ensures { result ≡ overlap_of a b }
 {
-    if is_beyond(first_side(a), b) {
-        return false;
-    }
-    overlap_past_first(a, b)
+    !is_beyond(first_side(a), b) && overlap_past_first(a, b)
 }
 
 // The place (u, v) of a wheel's own frame under its pose.
+#[tactic(auto, unfolding(crate::specs::Rules::Wheel::placed))]
 fn place(p: Pose, u: f64, v: f64) -> [f64; 2]
     ensures { result ≡ placed p u v }
 {

@@ -1,6 +1,6 @@
 -- Motions, poses, forces and a car as a column of numbers holds them: how each record is read from number i on, the four wheels in their
 -- order, and poses, forces and car written back. Assumes nothing.
-use Rattle.std.specs.Prelude.{List, [], ◌∷◌, ℕ, ◌+◌, get_or, Float}
+use Rattle.std.specs.Prelude.{List, [], ◌∷◌, ℕ, ◌+◌, ◌*◌, get_or, Float}
 use Rattle.course.specs.Rules.Tiles.{number_at}
 use Rattle.run.specs.Rules.Arguments.{pose_at}
 use Rattle.run.specs.Rules.Pass.{ctl_at, no_force}
@@ -10,11 +10,18 @@ use Rattle.run.specs.declared.state.Car.{Car}
 use Rattle.run.specs.declared.dynamics.Motion.{Motion}
 use Rattle.run.specs.declared.dynamics.Force.{Force}
 
+-- four records of k numbers each, from number i on
+abbrev pub four_from : {T : Type 0} → (List Float → ℕ → T) → ℕ → List Float → ℕ → List T
+four_from read k ns i = read ns i ∷ read ns (i + k) ∷ read ns (i + 2 * k) ∷ read ns (i + 3 * k) ∷ []
+
 -- ---- a call's numbers
 
 unfoldable pub motion_from : List Float → ℕ → Motion
 motion_from ns i =
     record { joint_angle = number_at ns i; sin = number_at ns (i + 1); cos = number_at ns (i + 2); vx = number_at ns (i + 3); vy = number_at ns (i + 4) }
+
+abbrev pub motion_list : Motion → List Float
+motion_list m = m.joint_angle ∷ m.sin ∷ m.cos ∷ m.vx ∷ m.vy ∷ []
 
 -- the four wheels' motions of a drive
 unfoldable pub motions_from : List Float → List Motion
@@ -22,6 +29,9 @@ motions_from ns = motion_from ns 0 ∷ motion_from ns 5 ∷ motion_from ns 10 �
 
 unfoldable pub pose_from : List Float → ℕ → Pose
 pose_from ns i = record { x = number_at ns i; y = number_at ns (i + 1); cos = number_at ns (i + 2); sin = number_at ns (i + 3) }
+
+abbrev pub pose_list : Pose → List Float
+pose_list p = p.x ∷ p.y ∷ p.cos ∷ p.sin ∷ []
 
 -- the four wheels' poses, from number i on
 unfoldable pub poses_at : List Float → ℕ → List Pose
@@ -48,6 +58,9 @@ pose_numbers ps =
 unfoldable pub force_from : List Float → ℕ → Force
 force_from ns i = record { motor = number_at ns i; fx = number_at ns (i + 1); fy = number_at ns (i + 2) }
 
+abbrev pub force_list : Force → List Float
+force_list f = f.motor ∷ f.fx ∷ f.fy ∷ []
+
 unfoldable pub forces_from : List Float → List Force
 forces_from ns = force_from ns 0 ∷ force_from ns 3 ∷ force_from ns 6 ∷ force_from ns 9 ∷ []
 
@@ -72,6 +85,9 @@ control_count = 20
 unfoldable pub wheel_from : List Float → ℕ → WheelCtl
 wheel_from ns i =
     record { gas = number_at ns i; brake = number_at ns (i + 1); steer = number_at ns (i + 2); omega = number_at ns (i + 3); phase = number_at ns (i + 4) }
+
+abbrev pub wheel_list : WheelCtl → List Float
+wheel_list w = w.gas ∷ w.brake ∷ w.steer ∷ w.omega ∷ w.phase ∷ []
 
 unfoldable pub car_from : List Float → Car
 car_from ns = record { ctl = wheel_from ns 0 ∷ wheel_from ns 5 ∷ wheel_from ns 10 ∷ wheel_from ns 15 ∷ []; fuel_spent = number_at ns 20 }

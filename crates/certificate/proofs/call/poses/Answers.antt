@@ -1,8 +1,7 @@
 -- `certificate::call::poses` meets its contract. Assumes nothing.
 use Rattle.run.specs.Grader.Numbers.{poses_at}
-use borrow.Author.Rules.{rules}
 use Rattle.certificate.proofs.call.poses.Goals as goal
 
 pub returns : goal.returns
 unfolding poses_at
-returns c = search rules
+returns c = c.read_four.ensures

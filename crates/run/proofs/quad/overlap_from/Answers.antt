@@ -3,8 +3,8 @@ use Rattle.run.proofs.CellLaws.{overlap-by-side}
 use mathlib.Core.Path.{sym, ◌∙◌}
 use Rattle.run.proofs.quad.overlap_from.Goals as goal
 
-pub returns-then-is_beyond : goal.returns-then-is_beyond
-returns-then-is_beyond c = rw (overlap-by-side _ _ _ c.requires, sym c.is_beyond.ensures ∙ c.if-is_beyond.true)
+pub returns-then-not-is_beyond : goal.returns-then-not-is_beyond
+returns-then-not-is_beyond c = rw (overlap-by-side _ _ _ c.requires, sym c.is_beyond.ensures ∙ c.if-not-is_beyond.true) c.overlap_past_first.ensures
 
-pub returns : goal.returns
-returns c = rw (overlap-by-side _ _ _ c.requires, sym c.is_beyond.ensures ∙ c.if-is_beyond.false) c.overlap_past_first.ensures
+pub returns-else-not-is_beyond : goal.returns-else-not-is_beyond
+returns-else-not-is_beyond c = rw (overlap-by-side _ _ _ c.requires, sym c.is_beyond.ensures ∙ c.if-not-is_beyond.false, c.if-not-is_beyond.false)
