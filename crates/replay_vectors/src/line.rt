@@ -5,7 +5,7 @@ use certificate::replay::{ANSWER_NUMBERS, ANSWER_WORDS};
 use course::cause::Cause;
 use course::points::Laid;
 use run::sheet::RunSheet;
-use run::start::StartAnswer;
+use run::start::StartValues;
 use std::io;
 use std::io::Write;
 
@@ -58,15 +58,15 @@ fn end<W: Write>(out: &mut W) -> io::Result<()> {
 }
 
 // How many tiles the start credits, and the lap; or the number of the cause.
-pub fn started<W: Write>(out: &mut W, answer: StartAnswer) -> io::Result<()> {
+pub fn started<W: Write>(out: &mut W, answer: Result<StartValues, Cause>) -> io::Result<()> {
     match answer {
-        StartAnswer::Started(s) => {
+        Ok(s) => {
             out.write_all(b"started")?;
             more(out, s.count)?;
             more_flag(out, s.lap)?;
             end(out)
         }
-        StartAnswer::Refused(cause) => vectors::line_refused(out, cause),
+        Err(cause) => vectors::line_refused(out, cause.number()),
     }
 }
 

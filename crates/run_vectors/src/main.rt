@@ -18,12 +18,13 @@ mod hash;
 mod read;
 mod saves;
 
+use course::cause::Cause;
 use run::drive::{DriveAnswer, Drove};
 use run::dynamics::Force;
 use run::reward::Weights;
 use run::settle::SettleAnswer;
 use run::sheet::RunSheet;
-use run::start::StartAnswer;
+use run::start::StartValues;
 use run::state::Run;
 use run::{drive, dynamics, quad, reward, settle, sheet, start};
 use std::io;
@@ -170,13 +171,13 @@ fn put_core(rest: &[u8], run: Run) -> Run {
     }
 }
 
-fn line_started<W: Write>(out: &mut W, answer: StartAnswer) -> io::Result<()> {
+fn line_started<W: Write>(out: &mut W, answer: Result<StartValues, Cause>) -> io::Result<()> {
     match answer {
-        StartAnswer::Started(s) => {
+        Ok(s) => {
             vectors::line_u64(out, s.count as u64)?;
             vectors::line_bool(out, s.lap)
         }
-        StartAnswer::Refused(cause) => vectors::line_refused(out, cause),
+        Err(cause) => vectors::line_refused(out, cause.number()),
     }
 }
 
