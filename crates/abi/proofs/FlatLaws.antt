@@ -12,7 +12,6 @@ use Rattle.course.specs.declared.checkpoints.Checkpoint.{Checkpoint}
 use Rattle.course.specs.declared.points.Laid.{Laid}
 use Rattle.course.specs.declared.curbs.CurbAnswer.{CurbAnswer}
 use Rattle.run.specs.Grader.State.{view}
-use Rattle.run.specs.Grader.Start.{Begun, begun, start_cause_of, start_values_of}
 use Rattle.run.specs.Grader.Drive.{DroveParts, drove_parts, drive_parts_of}
 use Rattle.course.specs.Grader.Cause.{cause_number}
 use Rattle.run.specs.Grader.Settle.{settled_parts, SettledPoses, settled_poses}
@@ -26,7 +25,6 @@ use Rattle.run.specs.declared.state.Setup.{Setup}
 use Rattle.run.specs.declared.state.Progress.{Progress}
 use Rattle.run.specs.declared.state.Car.{Car}
 use Rattle.run.specs.declared.dynamics.Motion.{Motion}
-use Rattle.run.specs.declared.start.StartAnswer.{StartAnswer}
 use Rattle.run.specs.declared.start.StartValues.{StartValues}
 use Rattle.run.specs.declared.dynamics.Force.{Force}
 use Rattle.std.specs.Prelude.{Ok, Err}
@@ -34,11 +32,10 @@ use Rattle.run.specs.declared.settle.SettleValues.{SettleValues}
 use Rattle.run.specs.declared.sheet.RunSheet.{RunSheet}
 use Rattle.run.specs.declared.restore.RestoreAnswer.{RestoreAnswer}
 use Rattle.run.proofs.DriveLaws.{refused-keeps}
-use Rattle.abi.specs.Grader.Flat.{flat_laid, flat_curbs, run_of, flat_started, flat_driven, no_settle, flat_settled, flat_sheet, flat_saved, saved_out, flat_save, flat_restored, flat_answers, flat_replayed, replay_columns, columns_after}
+use Rattle.abi.specs.Grader.Flat.{flat_laid, flat_curbs, run_of, flat_driven, no_settle, flat_settled, flat_sheet, flat_saved, saved_out, flat_save, flat_restored, flat_answers, flat_replayed, replay_columns, columns_after}
 use Rattle.abi.specs.Grader.InPlace.{DrivenInPlace, driven_in_place, forces_after, drive_in_place, SettledInPlace, settled_in_place}
 use Rattle.abi.specs.declared.flat.FlatLaid.{FlatLaid}
 use Rattle.abi.specs.declared.flat.FlatCurbs.{FlatCurbs}
-use Rattle.abi.specs.declared.flat.FlatSheet.{FlatSheet}
 use Rattle.abi.specs.declared.flat.FlatSaved.{FlatSaved}
 use Rattle.abi.specs.declared.flat.FlatReplayed.{FlatReplayed}
 
@@ -58,12 +55,6 @@ curbs-whole f a q w o e p =
     (e ∙ ap (λ (s : Edged). flat_curbs s.answer) p, (ap (λ (s : Edged). s.quads) p, ap (λ (s : Edged). s.white) p))
 
 -- ---- the run
-
--- the struct that start returns, from its answer and state
-pub started-whole : (a : StartAnswer) (r : Run) (b : Begun) (k : ℕ) (v : StartValues) → k ≡ start_cause_of a → v ≡ start_values_of a → begun a (view r) ≡ b
-    → record { cause = k; count = v.count; lap = v.lap; run = r } ≡ flat_started b
-unfolding flat_started run_of view
-started-whole a r b k v ek ev p = (λ i. record { cause = ek i; count = (ev i).count; lap = (ev i).lap; run = r }) ∙ ap flat_started p
 
 -- an accepted drive: what is written is the car and the forces after; a refused one writes nothing
 module _ (m most : ℕ) (u : Setup) (p : Progress) (car : List Float) (wheels : List ℕ) (action : ℕ) (motions forces : List Float) (c : Car) (ms : List Motion)
@@ -120,13 +111,7 @@ restored-whole a r d k e p = (λ i. record { cause = e i; run = r }) ∙ ap flat
 
 -- ---- a whole replay
 
-pub answers-whole : (fl : FlatLaid) (k : ℕ) (v : StartValues) (fs : FlatSheet) (l : Laid) (b : StartAnswer) (s : Result RunSheet Cause)
-    → fl ≡ flat_laid l → k ≡ start_cause_of b → v ≡ start_values_of b → fs ≡ flat_sheet s
-    → record { laid = fl; start_cause = k; start_count = v.count; start_lap = v.lap; sheet = fs } ≡ flat_answers l b s
-unfolding flat_answers
-answers-whole fl k v fs l b s el ek ev es = λ i. record { laid = el i; start_cause = ek i; start_count = (ev i).count; start_lap = (ev i).lap; sheet = es i }
-
-pub replayed-whole : (f : FlatReplayed) (a : Laid) (b : StartAnswer) (s : Result RunSheet Cause) (l : CourseColumns) (ws : List ℕ) (ns : List Float) (q : Replay)
+pub replayed-whole : (f : FlatReplayed) (a : Laid) (b : Result StartValues Cause) (s : Result RunSheet Cause) (l : CourseColumns) (ws : List ℕ) (ns : List Float) (q : Replay)
     → f ≡ flat_answers a b s → replay a b s l ws ns ≡ q → (f ≡ flat_replayed q) × (replay_columns l ws ns ≡ columns_after q)
 unfolding flat_replayed columns_after
 replayed-whole f a b s l ws ns q e p =

@@ -27,7 +27,7 @@ use Rattle.run.specs.Grader.Numbers.{motions_from, force_from, forces_from, forc
 use Rattle.run.specs.declared.state.Setup.{Setup}
 use Rattle.run.specs.declared.state.Progress.{Progress}
 use Rattle.run.specs.declared.state.Pose.{Pose}
-use Rattle.run.specs.Grader.Start.{Settings, start_cause}
+use Rattle.run.specs.Grader.Start.{Settings, start_check}
 use Rattle.abi.specs.Grader.Flat.{flat_driven, flat_settled, run_of, flat_saved, flat_save, flat_restored}
 use Rattle.abi.specs.Grader.InPlace.{forces_after, drive_in_place, settle_in_place}
 use Rattle.abi.specs.Laws.Host.{Kept, kept_run, kept_state, kept_from, HostCall, value_call, drive_read, settle_read, HostReplied, host_reply, host_replies, host_kept, HostRequest, value_request, HostGoing, host_going, value_going, saves_kept, run_kept, HostWent, host_request, host_said, host_after}
@@ -73,14 +73,14 @@ host-state m most (c ∷ cs) k =
     ∙ ap (λ (r : Replied). state_after m most r.state (map value_call cs)) (one-call m most k c)
 
 -- ---- what start returns is kept as it is, refused or not
-start-at : (m k : ℕ) (l : Columns) (a : Settings) → kept_state (kept_from (start_at m k l a).state) ≡ (start_at m k l a).state
+start-at : (m : ℕ) (k : Result Unit Cause) (l : Columns) (a : Settings) → kept_state (kept_from (start_at m k l a).state) ≡ (start_at m k l a).state
 unfolding start_at started_by zero_state kept_state kept_from still_car car_from car_numbers wheel_from
-start-at m zero l a = refl
-start-at m (suc k) l a = refl
+start-at m (Ok none) l a = refl
+start-at m (Err k) l a = refl
 
 pub start-kept : (m most : ℕ) (l : Columns) (a : Settings) → kept_state (kept_from (start_of m most l a).state) ≡ (start_of m most l a).state
 unfolding start_of
-start-kept m most l a = start-at m (start_cause most l a) l a
+start-kept m most l a = start-at m (start_check most l a) l a
 
 -- the whole: a start, and a list of calls through the boundary from the run that it returned
 pub host-list : (m most : ℕ) (l : Columns) (a : Settings) (cs : List HostCall)

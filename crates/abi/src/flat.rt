@@ -1,9 +1,11 @@
 // What crosses the boundary: each answer as a struct of numbers, 0 and false where a case has none, and structs around
 // the arrays that C cannot pass by value.
 ghost use Rattle.std.specs.Prelude.{◌≡◌};
-ghost use Rattle.run.specs.Grader.Start.{start_cause_of, start_values_of};
+ghost use Rattle.std.specs.Result.{result_unwrap_or};
+ghost use Rattle.run.specs.Grader.State.{view};
+ghost use Rattle.run.specs.Grader.Start.{no_start, begun};
 ghost use Rattle.run.specs.Grader.Restore.{restore_cause_of};
-ghost use Rattle.abi.specs.Grader.Flat.{flat_laid, flat_curbs, flat_sheet, flat_saved, flat_saved_for, flat_angle, flat_answers};
+ghost use Rattle.abi.specs.Grader.Flat.{flat_laid, flat_curbs, flat_started, flat_sheet, flat_saved, flat_saved_for, flat_angle, flat_answers};
 
 use certificate::replay::Replayed;
 use course::cause::Cause;
@@ -12,7 +14,7 @@ use course::points::Laid;
 use course::{cause, points};
 use run::restore::{RestoreAnswer, SavedCourse};
 use run::sheet::RunSheet;
-use run::start::{StartAnswer, StartValues};
+use run::start::{StartValues, Started};
 use run::state::{Pose, Progress, Run};
 
 // What lay and points answer: n, the list's length (at cause 3 the length needed), and the first point.
@@ -198,26 +200,29 @@ pub(crate) fn curbs(answer: CurbAnswer) -> FlatCurbs
     }
 }
 
-// The cause that start answered, 0 where it began a run.
-pub(crate) fn start_cause(answer: StartAnswer) -> u32
-    ensures { result ≡ start_cause_of answer }
+// The values that start answered, zeros where it was refused.
+fn start_values(answer: Result<StartValues, Cause>) -> StartValues
+    ensures { result ≡ result_unwrap_or answer no_start }
 {
-    match answer {
-        StartAnswer::Started(_) => 0,
-        StartAnswer::Refused(cause) => cause,
-    }
+    answer.unwrap_or(StartValues {
+        count: 0,
+        lap: false,
+    })
 }
 
-// The values that start answered.
-pub(crate) fn start_values(answer: StartAnswer) -> StartValues
-    ensures { result ≡ start_values_of answer }
-{
-    match answer {
-        StartAnswer::Started(values) => values,
-        StartAnswer::Refused(_) => StartValues {
-            count: 0,
-            lap: false,
-        },
+// The answer of start, and the state.
+impl From<Started> for FlatStarted {
+    ghost from_gives = { λ s f. f ≡ flat_started (begun s.answer (view s.run)) };
+
+    #[tactic(auto, unfolding(crate::specs::Grader::Flat::flat_started, crate::specs::Grader::Flat::run_of, run::specs::Grader::State::view))]
+    fn from(s: Started) -> FlatStarted {
+        let v = start_values(s.answer);
+        FlatStarted {
+            cause: cause::cause_number(&s.answer),
+            count: v.count,
+            lap: v.lap,
+            run: s.run,
+        }
     }
 }
 
@@ -303,18 +308,18 @@ impl From<Result<f64, Cause>> for FlatAngle {
 }
 
 // The answers of a replay.
-pub(crate) fn replayed(r: Replayed) -> FlatReplayed
-    ensures { result ≡ flat_answers r.laid r.start r.sheet }
-{
-    let course = r.laid;
-    let start = r.start;
-    let last = r.sheet;
-    let v = start_values(start);
-    FlatReplayed {
-        laid: laid(course),
-        start_cause: start_cause(start),
-        start_count: v.count,
-        start_lap: v.lap,
-        sheet: FlatSheet::from(last),
+impl From<Replayed> for FlatReplayed {
+    ghost from_gives = { λ r f. f ≡ flat_answers r.laid r.start r.sheet };
+
+    #[tactic(auto, unfolding(crate::specs::Grader::Flat::flat_answers))]
+    fn from(r: Replayed) -> FlatReplayed {
+        let v = start_values(r.start);
+        FlatReplayed {
+            laid: laid(r.laid),
+            start_cause: cause::cause_number(&r.start),
+            start_count: v.count,
+            start_lap: v.lap,
+            sheet: FlatSheet::from(r.sheet),
+        }
     }
 }

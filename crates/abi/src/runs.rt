@@ -58,18 +58,9 @@ pub extern "C" fn grader_start(
         (record { n = n; fallback = fallback; seed = seed; share = share; limit = limit; poses = poses.wheels })) }
 {
     let wheels = poses.wheels;
-    let s = start::start(
+    FlatStarted::from(start::start(
         tiles, offsets, list, n, fallback, seed, share, limit, wheels,
-    );
-    let answer = s.answer;
-    let run = s.run;
-    let v = flat::start_values(answer);
-    FlatStarted {
-        cause: flat::start_cause(answer),
-        count: v.count,
-        lap: v.lap,
-        run,
-    }
+    ))
 }
 
 // Forces for the host: the car is changed where it stands and the forces are written. A refusal changes nothing.
@@ -179,9 +170,8 @@ pub extern "C" fn grader_replay(
         many calls.now given.now words.old numbers.old) }
 {
     let wheels = poses.wheels;
-    let r = replay::replay(
+    FlatReplayed::from(replay::replay(
         seed, alpha, beta, x, y, tiles, offsets, list, share, limit, wheels, many, calls, given,
         words, numbers,
-    );
-    flat::replayed(r)
+    ))
 }

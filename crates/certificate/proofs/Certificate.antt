@@ -15,7 +15,9 @@ use Rattle.course.specs.Grader.Course.{cells_of}
 use Rattle.course.specs.Grader.Outcome as course
 use Rattle.course.specs.Grader.Outcome.{Outcome, lay_into, laid_values_of}
 use Rattle.course.specs.Rules.Lay.{course_of}
+use Rattle.std.specs.Prelude.{Result}
 use Rattle.course.specs.Grader.Cause.{number_of, cause_number}
+use Rattle.course.specs.declared.cause.Cause.{Cause}
 use Rattle.course.specs.declared.tiles.TrackPoint.{TrackPoint}
 use Rattle.course.proofs.CourseSizes.{course-sized}
 use Rattle.course.proofs.LayLaws.{roomy, lay-cause, lay-course, lay-columns}
@@ -25,7 +27,7 @@ use Rattle.run.specs.Grader.State.{State, Columns, short_of, unfit}
 use Rattle.run.specs.Grader.Words.{member}
 use Rattle.run.specs.Grader.Contact.{wheel_part}
 use Rattle.run.specs.Grader.Touch.{sound_poses}
-use Rattle.run.specs.Grader.Start.{Settings, start_short, start_cause, start_answer, setup_of, first_progress, zero_state, Begun, started_by, start_at, start_of, start_cause_of, start_values_of}
+use Rattle.run.specs.Grader.Start.{Settings, start_short, start_check, setup_of, first_progress, zero_state, Begun, started_by, start_at, start_of}
 use Rattle.run.specs.Grader.Numbers.{pose_numbers}
 use Rattle.run.specs.Grader.Saved.{fields_of, saved_form}
 use Rattle.run.specs.Grader.Save.{save_check, save_at, save_of}
@@ -45,6 +47,8 @@ use Rattle.certificate.specs.Claim.Certificate.{CourseLabel, settings_for, setti
 use Rattle.course.proofs.BoolLaws.{and_left, and_right, or_no, cond-else, cond-skip, cleared}
 use Rattle.certificate.proofs.ScoreLaws.{InTurn, kept-turn, one-opening, ended-over, all-occur}
 use Rattle.certificate.proofs.ItemLaws.{none-restored, OkAll, replies-same, going-same, kept_fine, sums_same}
+use Rattle.run.proofs.CheckLaws.{cause-by, number-some}
+use Rattle.certificate.specs.Grader.Replay.{cause_of, answer_by}
 use Rattle.certificate.proofs.RoundTrip.{Whole, round_trip, save-number}
 use Rattle.certificate.proofs.Simulation.{held, HoldsCourse, history_state, with_state, started, told_by, WellLent, reply-is}
 use Rattle.run.proofs.SetMembers.{in-set, in-wheel}
@@ -56,6 +60,28 @@ use Rattle.run.specs.declared.dynamics.Motion.{Motion}
 -- fits 64 bits
 abbrev fits64 : Float → Bool
 fits64 x = fitsIn binary64 x
+
+-- ---- causes by their numbers
+named : (k : Cause) → cause_of (number_of k) ≡ k
+unfolding cause_of number_of
+named Cause.Settings = refl
+named Cause.Length = refl
+named Cause.State = refl
+named Cause.Turn = refl
+named Cause.Limit = refl
+named Cause.Action = refl
+named Cause.Range = refl
+named Cause.Count = refl
+named Cause.Index = refl
+named Cause.Form = refl
+named Cause.Course = refl
+
+check-named : (r : Result Unit Cause) → answer_by (cause_number r) tt ≡ r
+unfolding cause_number answer_by
+check-named (Result.Ok none) = refl
+check-named (Result.Err k) =
+    let p = number-some k in
+    ap (λ (j : ℕ). answer_by j tt) p.1 ∙ ap Result.Err (ap cause_of (sym p.1) ∙ named k)
 
 -- ---- after a refused start: the state of zeros refuses every call by 4 and stays
 zeros-refuse : (m most : ℕ) (g : Call) → reply_of m most (zero_state m) g ≡ record { answer = refused 4; state = zero_state m }
@@ -129,25 +155,31 @@ module _ (m most : ℕ) (c : List TrackPoint) (room : most ≤ 64 * m) (some : 0
   begins b = record { ahead = omega arith; close = omega arith; time = λ l. absurd (omega arith) }
 
   module _ (by : Lending (length c)) (label : CourseLabel) (b : Opening) where
-    start-number : start_cause most (lent_by o by) (settings_for (length c) label b) ≡ start_number c most (lengths_of (lent_by o by)) b
-    unfolding start_cause start_number start_short short_of lengths_of
+    start-number : cause_number (start_check most (lent_by o by) (settings_for (length c) label b)) ≡ start_number c most (lengths_of (lent_by o by)) b
+    unfolding start_check start_number start_short short_of lengths_of cause_number number_of
     start-number =
-        cond-else (not (settings_ok b.share b.limit)) 1 _ _ (λ e₁.
-        cond-else (short_of (length c) (lent_by o by) || (ltb (length c) 1 || ltb most (length c))) 2 _ _ (λ e₂.
-        cond-else (not (poses_ok b.poses)) 8 _ _ (λ e₃.
-        cond-skip (not (sound_poses (lent_by o by).offsets (lent_by o by).list (length c) b.poses)) 10 0
+        cause-by (not (settings_ok b.share b.limit)) Cause.Settings _ ∙ cond-else (not (settings_ok b.share b.limit)) 1 _ _ (λ e₁.
+        cause-by (short_of (length c) (lent_by o by) || (ltb (length c) 1 || ltb most (length c))) Cause.Length _
+        ∙ cond-else (short_of (length c) (lent_by o by) || (ltb (length c) 1 || ltb most (length c))) 2 _ _ (λ e₂.
+        cause-by (not (poses_ok b.poses)) Cause.Range _ ∙ cond-else (not (poses_ok b.poses)) 8 _ _ (λ e₃.
+        cause-by (not (sound_poses (lent_by o by).offsets (lent_by o by).list (length c) b.poses)) Cause.Index _
+        ∙ cond-skip (not (sound_poses (lent_by o by).offsets (lent_by o by).list (length c) b.poses)) 10 0
         (ap not ((holds by (or_no (short_of (length c) (lent_by o by)) (ltb (length c) 1 || ltb most (length c)) e₂).0).sound b.poses)))))
 
-    cause-at : (k : ℕ) (l : Columns) (a : Settings) → start_cause_of (start_at m k l a).answer ≡ k
-    unfolding start_at start_answer started_by start_cause_of
-    cause-at zero l a = refl
-    cause-at (suc k) l a = refl
+    cause-at : (k : Result Unit Cause) (l : Columns) (a : Settings) → cause_number (start_at m k l a).answer ≡ cause_number k
+    unfolding start_at started_by cause_number
+    cause-at (Result.Ok none) l a = refl
+    cause-at (Result.Err k) l a = refl
 
-    pub start-same : start_on m most o by label b ≡ start_at m (start_number c most (lengths_of (lent_by o by)) b) (lent_by o by) (settings_for (length c) label b)
+    start-counted : start_on m most o by label b ≡ start_at m (start_check most (lent_by o by) (settings_for (length c) label b)) (lent_by o by) (settings_for (length c) label b)
     unfolding start_of
+    start-counted = ap (λ (n : ℕ). start_at m (start_check most (lent_by o by) (settings_for n label b)) (lent_by o by) (settings_for n label b)) counted
+
+    pub start-same : start_on m most o by label b ≡ start_at m (answer_by (start_number c most (lengths_of (lent_by o by)) b) tt) (lent_by o by) (settings_for (length c) label b)
     start-same =
-        ap (λ (n : ℕ). start_at m (start_cause most (lent_by o by) (settings_for n label b)) (lent_by o by) (settings_for n label b)) counted
-        ∙ ap (λ (k : ℕ). start_at m k (lent_by o by) (settings_for (length c) label b)) start-number
+        start-counted
+        ∙ ap (λ (k : Result Unit Cause). start_at m k (lent_by o by) (settings_for (length c) label b))
+        (sym (check-named (start_check most (lent_by o by) (settings_for (length c) label b))) ∙ ap (λ (k : ℕ). answer_by k tt) start-number)
 
     lent-long : start_number c most (lengths_of (lent_by o by)) b ≡ 0 → short_of (length c) (lent_by o by) ≡ false
     unfolding start_number lengths_of short_of
@@ -156,12 +188,12 @@ module _ (m most : ℕ) (c : List TrackPoint) (room : most ≤ 64 * m) (some : 0
         (cleared (short_of (length c) (lent_by o by) || (ltb (length c) 1 || ltb most (length c))) 1 _ (cleared (not (settings_ok b.share b.limit)) 0 _ e).1).0).0
 
     abbrev first : Begun
-    first = record { answer = start_answer 0 (record { count = touched_count c (begun b); lap = lap_done c (begun b) }); state = history_state m most c room some fits label (begun b) }
+    first = record { answer = Result.Ok (record { count = touched_count c (begun b); lap = lap_done c (begun b) }); state = history_state m most c room some fits label (begun b) }
 
     pub start-accepted : start_number c most (lengths_of (lent_by o by)) b ≡ 0 → start_on m most o by label b ≡ first
-    unfolding start_at
+    unfolding start_at answer_by
     start-accepted e =
-        start-same ∙ ap (λ (k : ℕ). start_at m k (lent_by o by) (settings_for (length c) label b)) e
+        start-same ∙ ap (λ (k : ℕ). start_at m (answer_by k tt) (lent_by o by) (settings_for (length c) label b)) e
         ∙ started m most c room some fits (lent_by o by) b label (holds by (lent-long e))
 
     own-opening : (b : Opening) → opening (begun b) ≡ b
@@ -172,8 +204,8 @@ module _ (m most : ℕ) (c : List TrackPoint) (room : most ≤ 64 * m) (some : 0
     same-setup : (h : History) → opening h ≡ b → setup_of (settings_for (length c) label (opening h)) ≡ setup_of (settings_on o label b)
     same-setup h e = λ i. setup_of (settings_for (sym counted i) label (e i))
 
-    zeros-at : (k : ℕ) (l : Columns) (a : Settings) → (k ≡ 0 → ⊥) → (start_at m k l a).state ≡ zero_state m
-    unfolding start_at
+    zeros-at : (k : ℕ) (l : Columns) (a : Settings) → (k ≡ 0 → ⊥) → (start_at m (answer_by k tt) l a).state ≡ zero_state m
+    unfolding start_at answer_by
     zeros-at zero l a n = absurd (n refl)
     zeros-at (suc k) l a n = refl
 
@@ -254,7 +286,6 @@ module _ (m most : ℕ) (c : List TrackPoint) (room : most ≤ 64 * m) (some : 0
       no_end = refl
 
       graded : (is : List (CourseItem (length c))) → Fine (begun b) → OkAll m most c o counted (history_state m most c room some fits label) Fine Ok R step keeps number trip is → Graded m most c o first label b is
-      unfolding start_answer start_values_of
       graded is f w =
           let at = history_state m most c room some fits label in
           let k = kept_calls (begun b) [] in
@@ -313,7 +344,7 @@ module _ (m most : ℕ) (c : List TrackPoint) (room : most ≤ 64 * m) (some : 0
     pub demand3-on : most < 65536 → (is : List (CourseItem (length c))) → Demand3 m most c o by label b is
     demand3-on small is =
         record {
-          starts = ap (λ (s : Begun). start_cause_of s.answer) start-same ∙ cause-at (start_number c most (lengths_of (lent_by o by)) b) (lent_by o by) (settings_for (length c) label b);
+          starts = ap (λ (s : Begun). cause_number s.answer) start-counted ∙ cause-at (start_check most (lent_by o by) (settings_for (length c) label b)) (lent_by o by) (settings_for (length c) label b) ∙ start-number;
           runs = λ e t.
               subst (λ (s : Begun). Graded m most c o s label b is) (sym (start-accepted e))
               (graded small (some_restore is ≡ true) is (first_fine small is e t) (items-ok small (some_restore is ≡ true) is (λ r. r) (items-typed is t)));

@@ -29,7 +29,7 @@ use Rattle.course.proofs.LayLaws.{roomy, lay-cause, lay-columns}
 use Rattle.run.specs.Rules.Arguments.{settings_ok, short_columns}
 use Rattle.run.specs.Grader.Widths.{full_words, most_tiles}
 use Rattle.run.specs.Grader.State.{State, Columns, columns, short_of, unfit}
-use Rattle.run.specs.Grader.Start.{Settings, start_short, start_cause, start_answer, setup_of, first_progress, zero_state, Begun, begun, start_at, start_of}
+use Rattle.run.specs.Grader.Start.{Settings, start_short, start_check, setup_of, first_progress, zero_state, Begun, begun, start_at, start_of}
 use Rattle.run.specs.Grader.Sheet.{figures_of, sheet_of}
 use Rattle.certificate.specs.Grader.Calls.{Call, replies_of, state_after}
 use Rattle.certificate.specs.Rules.Answers.{Answer}
@@ -42,8 +42,8 @@ use Rattle.course.specs.Rules.Tiles.{number_at}
 use Rattle.run.specs.Grader.Numbers.{motions_from, poses_from}
 use Rattle.certificate.specs.Grader.CallColumns.{call_words, call_numbers, answer_words, answer_numbers, all_words, all_numbers, part_at}
 use Rattle.certificate.specs.Steps.Replay.{lent_to, call_from, calls_to}
-use Rattle.certificate.specs.Grader.Replay.{told_from, tolds_to, plain_start, plain_answers, sheet_on, plain_sheet, laid_course, replay_on, room_for, replay_of}
-use Rattle.run.specs.declared.start.StartAnswer.{StartAnswer}
+use Rattle.certificate.specs.Grader.Replay.{told_from, tolds_to, cause_of, answer_by, plain_start, plain_answers, sheet_on, plain_sheet, laid_course, replay_on, room_for, replay_of}
+use Rattle.run.specs.declared.start.StartValues.{StartValues}
 use Rattle.run.specs.declared.sheet.RunSheet.{RunSheet}
 use Rattle.certificate.proofs.LentColumns.{laid-whole, count, own_length}
 use Rattle.certificate.proofs.Simulation.{HoldsCourse, history_state, fits-state}
@@ -153,7 +153,7 @@ module _ (b : Opening) (k : LentLengths) (n : ℕ) (calls : List ℕ) (given : L
   ts = tolds_to k calls given n
 
   -- what they leave on the course c, lent the columns l: the plain scorer's answers
-  pub record Plain (j : ℕ) (c : CoursePoints) (l : Columns) (sa : StartAnswer) (s : State) : Type 0 where
+  pub record Plain (j : ℕ) (c : CoursePoints) (l : Columns) (sa : Result StartValues Cause) (s : State) : Type 0 where
     pub start : sa ≡ plain_start j c.points b
     pub answers : replies_of full_words most_tiles s (calls_to l calls given n) ≡ plain_answers j c.points b ts
     pub sheet : sheet_in (state_after full_words most_tiles s (calls_to l calls given n)) ≡ plain_sheet j c b ts
@@ -163,8 +163,8 @@ module _ (b : Opening) (k : LentLengths) (n : ℕ) (calls : List ℕ) (given : L
   unfolding sheet_of unfit zero_state first_progress
   no-sheet = refl
 
-  refused-plain : (j : ℕ) (c : CoursePoints) (l l' : Columns) (a : Settings) (sa : StartAnswer) (s : State) → begun sa s ≡ start_at full_words (suc j) l' a → Plain (suc j) c l sa s
-  unfolding start_at start_answer plain_start plain_answers plain_sheet
+  refused-plain : (j : ℕ) (c : CoursePoints) (l l' : Columns) (a : Settings) (sa : Result StartValues Cause) (s : State) → begun sa s ≡ start_at full_words (answer_by (suc j) tt) l' a → Plain (suc j) c l sa s
+  unfolding start_at answer_by plain_start plain_answers plain_sheet
   refused-plain j c l l' a sa s e =
       let es : s ≡ zero_state full_words = ap (λ (x : Begun). x.state) e in
       record {
@@ -185,15 +185,20 @@ module _ (b : Opening) (k : LentLengths) (n : ℕ) (calls : List ℕ) (given : L
   unfolding start_number
   none_number = rw (or-true (short_columns 0 k.tiles k.offsets))
 
-  none-cause : (l : Columns) (label : CourseLabel) → start_cause most_tiles l (settings_for 0 label b) ≡ cond (not (settings_ok b.share b.limit)) 1 2
-  unfolding start_cause start_short
-  none-cause l label = rw (or-true (short_of 0 l))
+  none-named : (p : Bool) → ◌≡◌ {A = Result Unit Cause} (cond p (Err Cause.Settings) (Err Cause.Length)) (answer_by (cond p 1 2) tt)
+  unfolding answer_by cause_of
+  none-named true = refl
+  none-named false = refl
+
+  none-cause : (l : Columns) (label : CourseLabel) → start_check most_tiles l (settings_for 0 label b) ≡ answer_by (cond (not (settings_ok b.share b.limit)) 1 2) tt
+  unfolding start_check start_short
+  none-cause l label = rw (or-true (short_of 0 l)) (none-named (not (settings_ok b.share b.limit)))
 
   never-none : (p : Bool) → ◌≡◌ {A = ℕ} (cond p 1 2) 0 → ⊥
   never-none true e = omega (arith, e)
   never-none false e = omega (arith, e)
 
-  no-course : (l : Columns) (label : CourseLabel) (sa : StartAnswer) (s : State)
+  no-course : (l : Columns) (label : CourseLabel) (sa : Result StartValues Cause) (s : State)
       → begun sa s ≡ start_of full_words most_tiles l (settings_for 0 label b)
       → Plain (start_number [] most_tiles k b) nothing l sa s
   unfolding start_of
@@ -204,7 +209,7 @@ module _ (b : Opening) (k : LentLengths) (n : ℕ) (calls : List ℕ) (given : L
 
       go : (j : ℕ) → start_number [] most_tiles k b ≡ j → Plain j nothing l sa s
       go zero q = absurd (never-none (not (settings_ok b.share b.limit)) (sym none_number ∙ q))
-      go (suc j) q = refused-plain j nothing l l a sa s (e ∙ ap (λ (x : ℕ). start_at full_words x l a) (none-cause l label ∙ sym none_number ∙ q))
+      go (suc j) q = refused-plain j nothing l l a sa s (e ∙ ap (λ (x : Result Unit Cause). start_at full_words x l a) (none-cause l label ∙ ap (λ (x : ℕ). answer_by x tt) (sym none_number ∙ q)))
 
   -- ---- a course of the points c that was laid in full
   module _ (c : List TrackPoint) (some : 0 < length c) (fits : length c ≤ most_tiles) (fallback : Bool) (seed : ℕ) (l : course.CourseColumns)
@@ -250,10 +255,10 @@ module _ (b : Opening) (k : LentLengths) (n : ℕ) (calls : List ℕ) (given : L
       unfolding lengths_of
       told-lengths = ap lengths_of whole-lent.1 ∙ (λ i. record { tiles = same-tiles i; offsets = same-offsets i })
 
-      accepted-plain : (sa : StartAnswer) (s : State)
-          → begun sa s ≡ record { answer = start_answer 0 (record { count = touched_count c (History.begun b); lap = lap_done c (History.begun b) }); state = history_state full_words most_tiles c room some fits label (History.begun b) }
+      accepted-plain : (sa : Result StartValues Cause) (s : State)
+          → begun sa s ≡ record { answer = Result.Ok (record { count = touched_count c (History.begun b); lap = lap_done c (History.begun b) }); state = history_state full_words most_tiles c room some fits label (History.begun b) }
           → Plain 0 (record { points = c; fallback = fallback }) (columns_of o) sa s
-      unfolding plain_start plain_answers plain_sheet
+      unfolding answer_by plain_start plain_answers plain_sheet
       accepted-plain sa s e =
           let es = ap (λ (x : Begun). x.state) e in
           let m = all-meant o (length c) k same-tiles same-offsets calls given n in
@@ -271,7 +276,7 @@ module _ (b : Opening) (k : LentLengths) (n : ℕ) (calls : List ℕ) (given : L
                 ∙ ap (λ (x : List Told). sheet_on c fallback (kept_of c (History.begun b) x)) m.2;
           }
 
-      pub course-plain : (sa : StartAnswer) (s : State)
+      pub course-plain : (sa : Result StartValues Cause) (s : State)
           → begun sa s ≡ start_of full_words most_tiles (columns_of o) (settings_on o (laid_label o seed) b)
           → Plain (start_number c most_tiles k b) (record { points = c; fallback = fallback }) (columns_of o) sa s
       course-plain sa s e = go (start_number c most_tiles k b) refl
@@ -291,7 +296,7 @@ module _ (b : Opening) (k : LentLengths) (n : ℕ) (calls : List ℕ) (given : L
           go zero q = accepted-plain sa s (on ∙ start-accepted full_words most_tiles c room some fits o counted holds by label b (number ∙ q))
           go (suc j) q =
               refused-plain j (record { points = c; fallback = fallback }) (columns_of o) (lent_by o by) a sa s
-              (on ∙ start-same full_words most_tiles c room some fits o counted holds by label b ∙ ap (λ (x : ℕ). start_at full_words x (lent_by o by) a) (number ∙ q))
+              (on ∙ start-same full_words most_tiles c room some fits o counted holds by label b ∙ ap (λ (x : ℕ). start_at full_words (answer_by x tt) (lent_by o by) a) (number ∙ q))
 
 -- ---- the whole replay
 few-points : (seed : ℕ) → length (course_of seed).points ≤ most_tiles
@@ -313,7 +318,7 @@ module _ (seed : ℕ) (l : course.CourseColumns) (b : Opening) (n : ℕ) (calls 
 
   -- lay, then a start with what it answered, then the calls
   replay-plain : (j : ℕ) → lay_number seed l ≡ j → (o : Outcome) → o ≡ lay_call max_attempts seed l → length o.lent.tiles ≡ length l.tiles → length o.lent.offsets ≡ length l.offsets
-      → (sa : StartAnswer) (s : State)
+      → (sa : Result StartValues Cause) (s : State)
       → begun sa s ≡ start_of full_words most_tiles (columns_of o) (settings_on o (laid_label o seed) b)
       → Plain b lengths n calls given (start_number (laid_course j seed).points most_tiles lengths b) (laid_course j seed) (columns_of o) sa s
   unfolding laid_course lay_number
@@ -331,7 +336,7 @@ module _ (seed : ℕ) (l : course.CourseColumns) (b : Opening) (n : ℕ) (calls 
 
 -- what each call of a replay leaves, where there is room for the calls told and their answers
 pub record ReplayCalls (seed : ℕ) (l : course.CourseColumns) (b : Opening) (n : ℕ) (calls : List ℕ) (given : List Float) (words : List ℕ) (numbers : List Float)
-    (o : Outcome) (v : LaidCourse) (sa : StartAnswer) (s last : State) (sh : Result RunSheet Cause) (words' : List ℕ) (numbers' : List Float) : Type 0 where
+    (o : Outcome) (v : LaidCourse) (sa : Result StartValues Cause) (s last : State) (sh : Result RunSheet Cause) (words' : List ℕ) (numbers' : List Float) : Type 0 where
   pub room : room_for n (length calls) (length given) (length words) (length numbers) ≡ true
   pub laid : o ≡ lay_call max_attempts seed l
   pub tiles : length o.lent.tiles ≡ length l.tiles
@@ -345,7 +350,7 @@ pub record ReplayCalls (seed : ℕ) (l : course.CourseColumns) (b : Opening) (n 
 
 -- all that the replay leaves
 pub replayed : {seed : ℕ} {l : course.CourseColumns} {b : Opening} {n : ℕ} {calls : List ℕ} {given : List Float} {words : List ℕ} {numbers : List Float}
-    {o : Outcome} {v : LaidCourse} {sa : StartAnswer} {s last : State} {sh : Result RunSheet Cause} {words' : List ℕ} {numbers' : List Float}
+    {o : Outcome} {v : LaidCourse} {sa : Result StartValues Cause} {s last : State} {sh : Result RunSheet Cause} {words' : List ℕ} {numbers' : List Float}
     → ReplayCalls seed l b n calls given words numbers o v sa s last sh words' numbers'
     → record { laid = o.answer; start = sa; sheet = sh; lent = o.lent; words = words'; numbers = numbers' } ≡ replay_of seed l b n calls given words numbers
 unfolding replay_of replay_on

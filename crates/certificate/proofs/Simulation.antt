@@ -6,6 +6,7 @@ use mathlib.Core.Path.{◌≡◌, refl, sym, ap, ap₂, ◌∙◌}
 use Prim.Native.Nat.{ℕ, zero, suc, ◌+◌, ◌*◌, ◌≤◌, ◌<◌}
 use native.Mathlib.Nat.{zero-mul, suc-mul, le_trans}
 use native.Mathlib.Omega.{arith}
+use Rattle.std.specs.Prelude.{Result}
 use lib.Dec.{ltb, leb}
 use lib.ListN.{length, replicate, length-replicate, replicate-append-replicate}
 use lib.Ieee.{Float}
@@ -22,7 +23,7 @@ use Rattle.run.specs.Grader.Grip.{on_road, roads_of}
 use Rattle.run.specs.Grader.Numbers.{pose_numbers}
 use Rattle.run.specs.Rules.Lap.{above_share, lap_of, off_field, end_of}
 use Rattle.run.specs.Rules.Pass.{pass_of}
-use Rattle.run.specs.Grader.Start.{setup_of, first_progress, start_answer, first_contact, started_by}
+use Rattle.run.specs.Grader.Start.{setup_of, first_progress, first_contact, started_by}
 use Rattle.run.specs.Grader.Drive.{DroveParts, drive_check, drive_at, drive_parts_of, drive_of}
 use Rattle.course.specs.Grader.Cause.{number_of, cause_number}
 use Rattle.run.specs.Grader.Settle.{settle_check, settled_progress, SettledParts, settled_parts, settled_by, settle_at, settle_parts_of, poses_after, settle_poses_of, settle_of}
@@ -42,7 +43,7 @@ use Rattle.run.proofs.AnyLaws.{any_none}
 use Rattle.run.proofs.CheckLaws.{number-not-0, none-number}
 use Rattle.run.proofs.DriveLaws.{drive-cause-number}
 use Rattle.run.proofs.CallLaws.{settle-cause-number}
-use Rattle.std.specs.Prelude.{Result, Ok, Err}
+use Rattle.std.specs.Prelude.{Ok, Err}
 use Rattle.course.specs.declared.cause.Cause.{Cause}
 use Rattle.certificate.specs.Rules.Answers.Answer.{refused}
 use Rattle.certificate.proofs.ScoreLaws.{InTurn}
@@ -131,7 +132,7 @@ module _ (m most : ℕ) (c : List TrackPoint) (room : most ≤ 64 * m) (some : 0
   -- ---- start
   pub started : (l : Columns) (b : Opening) (label : CourseLabel) → HoldsCourse l
       → started_by (settings_for (length c) label b) (first_contact m l b.poses)
-      ≡ record { answer = start_answer 0 (record { count = touched_count c (begun b); lap = lap_done c (begun b) }); state = history_state label (begun b) }
+      ≡ record { answer = Result.Ok (record { count = touched_count c (begun b); lap = lap_done c (begun b) }); state = history_state label (begun b) }
   unfolding started_by first_progress lap_of lap_done meets_lap opening settles drives last_poses ended passed
   started l b label w = ap (started_by (settings_for (length c) label b)) (first-contact l b w)
 

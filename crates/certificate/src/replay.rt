@@ -16,7 +16,7 @@ use course::cause::Cause;
 use course::points::Laid;
 use course::{lay, points};
 use run::sheet::RunSheet;
-use run::start::StartAnswer;
+use run::start::StartValues;
 use run::state::{Pose, Run};
 use run::{drive, settle, sheet, start};
 
@@ -33,7 +33,7 @@ pub const ANSWER_NUMBERS: usize = 12;
 #[derive(Clone, Copy)]
 pub struct Replayed {
     pub laid: Laid,
-    pub start: StartAnswer,
+    pub start: Result<StartValues, Cause>,
     pub sheet: Result<RunSheet, Cause>,
 }
 
@@ -229,7 +229,7 @@ pub fn replay(
     if !room_for(many, calls.len(), given.len(), words.len(), numbers.len()) {
         return Replayed {
             laid: Laid::Refused(2),
-            start: StartAnswer::Refused(2),
+            start: Err(Cause::Length),
             sheet: Err(Cause::State),
         };
     }

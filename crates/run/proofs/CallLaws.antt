@@ -4,6 +4,7 @@ use mathlib.Core.List.{List}
 use mathlib.Core.Path.{◌≡◌, refl, sym, ap, ap₂, ◌∙◌, subst}
 use Prim.Native.Nat.{ℕ, zero, suc, ◌*◌, ◌≤◌, ◌<◌}
 use native.Mathlib.Omega.{arith}
+use Rattle.std.specs.Prelude.{Result, Ok, Err}
 use lib.Dec.{ltb, leb}
 use lib.ListN.{length}
 use lib.Ieee.{Float}
@@ -17,21 +18,20 @@ use Rattle.run.specs.Rules.Wheel.{quad_of}
 use Rattle.run.specs.Grader.Words.{member}
 use Rattle.run.specs.Grader.Contact.{entered, Contacted, contacted, contact_of}
 use Rattle.course.proofs.BoolLaws.{or_no, cleared}
+use Rattle.course.specs.declared.cause.Cause.{Cause}
+use Rattle.run.proofs.CheckLaws.{passed}
 use Rattle.run.proofs.CreditLaws.{few}
 use Rattle.run.specs.Grader.Numbers.{pose_numbers}
 use Rattle.run.specs.Rules.Lap.{lap_of, off_field}
-use Rattle.run.specs.Grader.Start.{Settings, start_short, start_cause, start_answer, setup_of, first_progress, zero_state, begun, first_contact, started_by, start_at, start_of}
+use Rattle.run.specs.Grader.Start.{Settings, start_short, start_check, setup_of, first_progress, zero_state, begun, first_contact, started_by, start_at, start_of}
 use Rattle.run.specs.Rules.Pass.{still_car}
 use Rattle.run.specs.Grader.Settle.{settle_check, settled_progress, SettledParts, settled_parts, settled_by, settle_at, settle_parts_of, poses_after, SettledPoses, settled_poses, settle_poses_of, after_settle, settle_of}
 use Rattle.run.specs.declared.state.Setup.{Setup}
 use Rattle.run.specs.declared.state.Progress.{Progress}
 use Rattle.run.specs.declared.state.Car.{Car}
 use Rattle.run.specs.declared.state.Pose.{Pose}
-use Rattle.run.specs.declared.start.StartAnswer.TheVariants.{Started, Refused}
 use Rattle.run.specs.declared.settle.SettleValues.{SettleValues}
-use Rattle.std.specs.Prelude.{Result, Ok, Err}
 use Rattle.course.specs.Grader.Cause.{number_of, cause_number}
-use Rattle.course.specs.declared.cause.Cause.{Cause}
 use Rattle.course.specs.declared.cause.Cause.TheVariants.{State as NoRun, Length, Turn, Limit, Range, Index}
 use Rattle.run.proofs.CheckLaws.{cause-by, none-number, met-none}
 
@@ -50,13 +50,13 @@ pub record StartFacts (most : ℕ) (l : Columns) (a : Settings) : Type 0 where
   pub tiles : a.n * 8 ≤ length l.tiles
   pub sound : sound_poses l.offsets l.list a.n a.poses ≡ true
 
-pub start-facts : (most : ℕ) (l : Columns) (a : Settings) → most ≤ most_points → start_cause most l a ≡ 0 → StartFacts most l a
-unfolding start_cause start_short short_of
+pub start-facts : (most : ℕ) (l : Columns) (a : Settings) → most ≤ most_points → start_check most l a ≡ Ok tt → StartFacts most l a
+unfolding start_check start_short short_of
 start-facts most l a m h =
-    let p = cleared (not (settings_ok a.share a.limit)) 0 _ h in
-    let q = cleared (start_short most l a.n) 1 _ p.1 in
-    let r = cleared (not (poses_ok a.poses)) 7 _ q.1 in
-    let s = cleared (not (sound_poses l.offsets l.list a.n a.poses)) 9 0 r.1 in
+    let p = passed (not (settings_ok a.share a.limit)) _ _ h in
+    let q = passed (start_short most l a.n) _ _ p.1 in
+    let r = passed (not (poses_ok a.poses)) _ _ q.1 in
+    let s = passed (not (sound_poses l.offsets l.list a.n a.poses)) _ _ r.1 in
     let u = or_no (short_columns a.n (length l.tiles) (length l.offsets)) (ltb a.n 1 || ltb most a.n) q.0 in
     let v = or_no (ltb a.n 1) (ltb most a.n) u.1 in
     record {
@@ -66,19 +66,19 @@ start-facts most l a m h =
       sound = not-false (sound_poses l.offsets l.list a.n a.poses) s.0;
     }
 
-pub start-refused : (m most : ℕ) (l : Columns) (a : Settings) (k : ℕ) (s : State) → k ≡ start_cause most l a → (k ≡ 0 → ⊥) → s ≡ zero_state m → begun (Refused k) s ≡ start_of m most l a
-unfolding start_of start_at start_answer
-start-refused m most l a zero s e n z = absurd (n refl)
-start-refused m most l a (suc k) s e n z = ap (begun (Refused (suc k))) z ∙ ap (λ (j : ℕ). start_at m j l a) e
+pub start-refused : (m most : ℕ) (l : Columns) (a : Settings) (r : Result Unit Cause) (k : Cause) (s : State) → r ≡ start_check most l a → r ≡ Err k → s ≡ zero_state m
+    → begun (Err k) s ≡ start_of m most l a
+unfolding start_of start_at
+start-refused m most l a r k s e n z = ap (begun (Err k)) z ∙ ap (λ (j : Result Unit Cause). start_at m j l a) (sym n ∙ e)
 
-pub start-accepted : (m most : ℕ) (l : Columns) (a : Settings) (k : ℕ) (c w : List ℕ) (f : ℕ) (z lap : Bool) (p : Progress) (car : Car) (last : List Float) → k ≡ start_cause most l a → k ≡ 0
+pub start-accepted : (m most : ℕ) (l : Columns) (a : Settings) (r : Result Unit Cause) (c w : List ℕ) (f : ℕ) (z lap : Bool) (p : Progress) (car : Car) (last : List Float) → r ≡ start_check most l a → r ≡ Ok tt
     → contacted c w f z ≡ first_contact m l a.poses
     → lap ≡ lap_of false z f a.n a.share → p ≡ first_progress f lap → car ≡ still_car → last ≡ pose_numbers a.poses
-    → begun (Started (record { count = f; lap = lap })) (state_of (setup_of a) p car c w last a.seed) ≡ start_of m most l a
-unfolding start_of start_at start_answer started_by
-start-accepted m most l a k c w f z lap p car last e n h el ep er es =
-    (λ i. begun (Started (record { count = f; lap = el i })) (state_of (setup_of a) ((ep ∙ ap (first_progress f) el) i) (er i) c w (es i) a.seed))
-    ∙ ap (started_by a) h ∙ ap (λ (j : ℕ). start_at m j l a) (sym n ∙ e)
+    → begun (Ok (record { count = f; lap = lap })) (state_of (setup_of a) p car c w last a.seed) ≡ start_of m most l a
+unfolding start_of start_at started_by
+start-accepted m most l a r c w f z lap p car last e n h el ep er es =
+    (λ i. begun (Ok (record { count = f; lap = el i })) (state_of (setup_of a) ((ep ∙ ap (first_progress f) el) i) (er i) c w (es i) a.seed))
+    ∙ ap (started_by a) h ∙ ap (λ (j : Result Unit Cause). start_at m j l a) (sym n ∙ e)
 
 -- ---- settle
 pub record SettleFacts (most : ℕ) (u : Setup) (p : Progress) (l : Columns) (ps : List Pose) : Type 0 where

@@ -2,7 +2,7 @@
 ghost use Rattle.std.specs.Prelude.{◌≡◌};
 ghost use Rattle.run.specs.Grader.Widths.{full_words, most_tiles};
 ghost use Rattle.run.specs.Grader.State.{view, columns};
-ghost use Rattle.run.specs.Grader.Start.{start_cause, first_progress, zero_state, begun, start_of};
+ghost use Rattle.run.specs.Grader.Start.{start_check, first_progress, zero_state, begun, start_of};
 ghost use Rattle.run.specs.Rules.Pass.{still_car};
 ghost use Rattle.run.specs.Rules.Arguments.{settings_ok};
 
@@ -12,6 +12,7 @@ use crate::state::{Car, Pose, Progress, Run, Setup, WheelCtl};
 use crate::touch::Columns;
 use crate::widths::{FULL_WORDS, MOST_TILES, WHEEL_WORDS};
 use crate::{contact, lap, numbers, state};
+use course::cause::Cause;
 
 // How many tiles are credited at the start, and the lap.
 #[derive(Clone, Copy)]
@@ -20,17 +21,11 @@ pub struct StartValues {
     pub lap: bool,
 }
 
-// How a start is answered: with its values, or refused by a cause's number.
-#[derive(Clone, Copy)]
-pub enum StartAnswer {
-    Started(StartValues),
-    Refused(u32),
-}
-
 // The answer, and the state beside it: the state of zeros where it is refused.
+// Kept as a pair: a refused start gives a state too, which an `Err` with a cause alone would not hand on.
 #[derive(Clone, Copy)]
 pub struct Started {
-    pub answer: StartAnswer,
+    pub answer: Result<StartValues, Cause>,
     pub run: Run,
 }
 
@@ -41,8 +36,8 @@ pub(crate) fn settings_ok(share: f64, limit: u32) -> bool
     ((0.0 <= share) & (share <= 1.0)) & ((1 <= limit) & (limit <= 1000000))
 }
 
-// The first of the causes 1, 2, 8 and 10 that holds, else 0; n is at most `most`.
-fn start_cause(
+// Refused by the first of the causes 1, 2, 8 and 10 that holds; n is at most `most`.
+fn start_check(
     most: u32,
     tiles: &[f64],
     offsets: &[u32],
@@ -53,19 +48,19 @@ fn start_cause(
     share: f64,
     limit: u32,
     stance: &Stance,
-) -> u32
+) -> Result<(), Cause>
     ensures { result
-        ≡ start_cause most (columns tiles.now offsets.now list.now)
+        ≡ start_check most (columns tiles.now offsets.now list.now)
         (record { n = n; fallback = fallback; seed = seed; share = share; limit = limit; poses = stance.now.poses }) }
 {
     if !settings_ok(share, limit) {
-        return 1;
+        return Err(Cause::Settings);
     }
     if state::is_short(n, tiles.len(), offsets.len()) | ((n < 1) | (most < n)) {
-        return 2;
+        return Err(Cause::Length);
     }
     if !state::poses_ok(stance.poses) {
-        return 8;
+        return Err(Cause::Range);
     }
     let columns = Columns {
         tiles,
@@ -73,9 +68,9 @@ fn start_cause(
         list,
     };
     if !columns.cells_sound(n as usize, &stance.cells) {
-        return 10;
+        return Err(Cause::Index);
     }
-    0
+    Ok(())
 }
 
 // Tick 0 and no drive made, with so many tiles credited.
@@ -134,7 +129,7 @@ pub(crate) fn zero_run() -> Run
     }
 }
 
-// A run on the lent course, or the number of the cause with the state of zeros.
+// A run on the lent course, or a cause with the state of zeros.
 pub fn start(
     tiles: &[f64],
     offsets: &[u32],
@@ -151,14 +146,13 @@ pub fn start(
         (record { n = n; fallback = fallback; seed = seed; share = share; limit = limit; poses = poses }) }
 {
     let stance = Stance::at(poses);
-    let k = start_cause(
+    let check = start_check(
         MOST_TILES, tiles, offsets, list, n, fallback, seed, share, limit, &stance,
     );
-    if k != 0 {
-        let run = zero_run();
+    if let Err(cause) = check {
         return Started {
-            answer: StartAnswer::Refused(k),
-            run,
+            answer: Err(cause),
+            run: zero_run(),
         };
     }
     let mut credited = [0u64; FULL_WORDS];
@@ -194,7 +188,7 @@ pub fn start(
         lap,
     };
     Started {
-        answer: StartAnswer::Started(values),
+        answer: Ok(values),
         run,
     }
 }

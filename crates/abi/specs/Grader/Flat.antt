@@ -11,13 +11,13 @@ use Rattle.course.specs.declared.checkpoints.Checkpoint.{Checkpoint}
 use Rattle.course.specs.declared.points.Laid.{Laid}
 use Rattle.course.specs.declared.curbs.CurbAnswer.{CurbAnswer}
 use Rattle.run.specs.Grader.State.{State}
-use Rattle.run.specs.Grader.Start.{Begun, start_cause_of, start_values_of}
+use Rattle.run.specs.Grader.Start.{Begun, no_start}
 use Rattle.run.specs.Grader.Sheet.{no_figures}
 use Rattle.run.specs.Grader.Save.{AfterSave}
 use Rattle.run.specs.Grader.Restore.{AfterRestore, restore_cause_of, saved_cause_of, saved_for_of}
 use Rattle.certificate.specs.Grader.Replay.{Replay}
 use Rattle.run.specs.declared.state.Run.{Run}
-use Rattle.run.specs.declared.start.StartAnswer.{StartAnswer}
+use Rattle.run.specs.declared.start.StartValues.{StartValues}
 use Rattle.run.specs.declared.state.Progress.{Progress}
 use Rattle.run.specs.declared.dynamics.Force.{Force}
 use Rattle.run.specs.declared.sheet.RunSheet.{RunSheet}
@@ -94,9 +94,9 @@ run_of s =
 unfoldable pub flat_started : Begun → FlatStarted
 flat_started b =
     record {
-      cause = start_cause_of b.answer;
-      count = (start_values_of b.answer).count;
-      lap = (start_values_of b.answer).lap;
+      cause = cause_number b.answer;
+      count = (result_unwrap_or b.answer no_start).count;
+      lap = (result_unwrap_or b.answer no_start).lap;
       run = run_of b.state;
     }
 
@@ -157,13 +157,13 @@ flat_saved_for a = record { cause = saved_cause_of a; n = (saved_for_of a).n; se
 
 -- ---- a whole replay: its three answers, and the columns that it is lent
 
-unfoldable pub flat_answers : Laid → StartAnswer → Result RunSheet Cause → FlatReplayed
+unfoldable pub flat_answers : Laid → Result StartValues Cause → Result RunSheet Cause → FlatReplayed
 flat_answers l b s =
     record {
       laid = flat_laid l;
-      start_cause = start_cause_of b;
-      start_count = (start_values_of b).count;
-      start_lap = (start_values_of b).lap;
+      start_cause = cause_number b;
+      start_count = (result_unwrap_or b no_start).count;
+      start_lap = (result_unwrap_or b no_start).lap;
       sheet = flat_sheet s;
     }
 

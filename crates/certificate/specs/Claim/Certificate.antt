@@ -2,7 +2,9 @@
 -- gets the state that the one before it returned, refused or not; after an accepted restore the next call gets the restored state. Stated for the course
 -- of any list of points, and for states whose sets have m words and take n up to `most`; `Certificate` at the end is the claim for a seed's course and
 -- the full state. Assumes nothing.
-use Rattle.std.specs.Prelude.{◌≡◌, Bool, true, false, cond, ◌&&◌, List, [], map, ℕ, ◌<◌, ltb, length}
+use Rattle.std.specs.Prelude.{◌≡◌, Bool, true, false, cond, ◌&&◌, List, [], map, ℕ, ◌<◌, ltb, length, Ok}
+use Rattle.std.specs.Result.{result_unwrap_or}
+use Rattle.course.specs.Grader.Cause.{cause_number}
 use Rattle.course.specs.Rules.Lengths.{laid_length}
 use Rattle.course.specs.Rules.Constants.{max_attempts}
 use Rattle.course.specs.Grader.Course.{from_points, cells_of}
@@ -15,7 +17,7 @@ use Rattle.run.specs.Grader.State.{State}
 use Rattle.run.specs.Grader.Words.{member}
 use Rattle.run.specs.Grader.Contact.{wheel_part}
 use Rattle.run.specs.Grader.Numbers.{pose_numbers}
-use Rattle.run.specs.Grader.Start.{Settings, setup_of, Begun, start_of, start_answer, start_cause_of, start_values_of}
+use Rattle.run.specs.Grader.Start.{Settings, setup_of, Begun, start_of, no_start}
 use Rattle.certificate.specs.Rules.Answers.{Reply}
 use Rattle.certificate.specs.Grader.Calls.{going, requests_said, going_after}
 use Rattle.certificate.specs.Claim.Scorer.{Opening, History, kept_calls, drives, settles, last_poses, touch, touched, touched_count, lap_done, over, ended, passed, start_number, after_items}
@@ -47,7 +49,7 @@ abbrev pub replied_by : {n : ℕ} → ℕ → ℕ → Outcome → Begun → List
 replied_by m most o s is = requests_said m most (going s.state []) (requests_of o is)
 
 abbrev pub summed_by : {n : ℕ} → ℕ → ℕ → Outcome → Begun → List (CourseItem n) → KeptSums
-summed_by m most o s is = sums_over (kept_sums (sums (start_values_of s.answer).count false) []) is (replied_by m most o s is)
+summed_by m most o s is = sums_over (kept_sums (sums (result_unwrap_or s.answer no_start).count false) []) is (replied_by m most o s is)
 
 abbrev pub state_by : {n : ℕ} → ℕ → ℕ → Outcome → Begun → List (CourseItem n) → State
 state_by m most o s is = (going_after m most (going s.state []) (requests_of o is)).state
@@ -61,7 +63,7 @@ progress_by c h = record { visited_count = touched_count c h; tick = settles h; 
 -- after a start s that is accepted on the course of the points c, with opening b: the list of items is
 pub record Graded (m most : ℕ) (c : List TrackPoint) (o : Outcome) (s : Begun) (label : CourseLabel) (b : Opening) (is : List (CourseItem (length c))) : Type 0 where
   -- start's credited count and lap
-  pub start : s.answer ≡ start_answer 0 (record { count = touched_count c (begun b); lap = lap_done c (begun b) })
+  pub start : s.answer ≡ Ok (record { count = touched_count c (begun b); lap = lap_done c (begun b) })
   -- which calls are refused and by what number, and each accepted drive's and settle's whole answer
   pub answers : replied_by m most o s is ≡ replies_to c (kept_calls (begun b) []) (items_of o is)
   -- the tiles credited at the start plus the new tiles of all accepted settles that stand equal in number the distinct tiles touched
@@ -83,7 +85,7 @@ pub record Graded (m most : ℕ) (c : List TrackPoint) (o : Outcome) (s : Begun)
 -- the course of the points c as laying left it in o, a start on it and a list of items
 pub record Demand3 (m most : ℕ) (c : List TrackPoint) (o : Outcome) (by : Lending (length c)) (label : CourseLabel) (b : Opening) (is : List (CourseItem (length c))) : Type 0 where
   -- start refuses exactly when document 01 has a cause for it
-  pub starts : start_cause_of (start_on m most o by label b).answer ≡ start_number c most (lengths_of (lent_by o by)) b
+  pub starts : cause_number (start_on m most o by label b).answer ≡ start_number c most (lengths_of (lent_by o by)) b
   -- an accepted start and any list of items after it; where it holds a restore, of values that bytes can carry
   pub runs : start_number c most (lengths_of (lent_by o by)) b ≡ 0 → typed label.seed b is ≡ true → Graded m most c o (start_on m most o by label b) label b is
   -- after a refused start every drive, settle and save is refused by 4, every restore by 11

@@ -9,7 +9,6 @@ use Rattle.course.specs.declared.cause.Cause.{Cause}
 use Rattle.course.specs.declared.tiles.TrackPoint.{TrackPoint}
 use Rattle.course.specs.declared.points.Laid.{Laid}
 use Rattle.run.specs.Grader.Widths.{most_tiles}
-use Rattle.run.specs.Grader.Start.{start_answer, no_start}
 use Rattle.run.specs.Grader.Sheet.{share_of}
 use Rattle.certificate.specs.Rules.Answers.{Answer}
 use Rattle.certificate.specs.Rules.Answers.Answer.{refused}
@@ -19,7 +18,7 @@ use Rattle.certificate.specs.Claim.Certificate.{lay_number}
 use Rattle.course.specs.Rules.Tiles.{number_at}
 use Rattle.run.specs.Grader.Numbers.{motions_from, poses_from}
 use Rattle.certificate.specs.Grader.CallColumns.{call_words, call_numbers, answer_words, answer_numbers, part_at, all_words, all_numbers}
-use Rattle.run.specs.declared.start.StartAnswer.{StartAnswer}
+use Rattle.run.specs.declared.start.StartValues.{StartValues}
 use Rattle.run.specs.declared.sheet.RunSheet.{RunSheet}
 
 -- ---- the calls, as the plain scorer is told of them
@@ -37,8 +36,27 @@ tolds_to k ws ns (suc n) = tolds_to k ws ns n ++ (told_from k (part_at call_word
 
 -- ---- the plain scorer's answers to a start and the calls after it, by the number of start's cause: after a refused start every call is refused by 4
 
-unfoldable pub plain_start : ℕ → List TrackPoint → Opening → StartAnswer
-plain_start k c b = start_answer k (record { count = touched_count c (begun b); lap = lap_done c (begun b) })
+-- the cause that has this number
+unfoldable pub cause_of : ℕ → Cause
+cause_of k =
+    cond (eqb k 1) Cause.Settings
+    (cond (eqb k 2) Cause.Length
+    (cond (eqb k 4) Cause.State
+    (cond (eqb k 5) Cause.Turn
+    (cond (eqb k 6) Cause.Limit
+    (cond (eqb k 7) Cause.Action
+    (cond (eqb k 8) Cause.Range
+    (cond (eqb k 9) Cause.Count
+    (cond (eqb k 10) Cause.Index
+    (cond (eqb k 11) Cause.Form Cause.Course)))))))))
+
+-- an answer by the number of its cause, with values where it is 0
+unfoldable pub answer_by : {A : Type 0} → ℕ → A → Result A Cause
+answer_by zero v = Ok v
+answer_by (suc k) v = Err (cause_of (suc k))
+
+unfoldable pub plain_start : ℕ → List TrackPoint → Opening → Result StartValues Cause
+plain_start k c b = answer_by k (record { count = touched_count c (begun b); lap = lap_done c (begun b) })
 
 unfoldable pub plain_answers : ℕ → List TrackPoint → Opening → List Told → List Answer
 plain_answers zero c b ts = scores c (begun b) ts
@@ -71,13 +89,13 @@ laid_course (suc k) seed = record { points = []; fallback = false }
 -- what a replay leaves: the answers of lay and start, the sheet after the last call, the lent columns, and every answer in words and numbers
 pub record Replay : Type 0 where
   pub laid : Laid
-  pub start : StartAnswer
+  pub start : Result StartValues Cause
   pub sheet : Result RunSheet Cause
   pub lent : CourseColumns
   pub words : List ℕ
   pub numbers : List Float
 
-abbrev pub replay : Laid → StartAnswer → Result RunSheet Cause → CourseColumns → List ℕ → List Float → Replay
+abbrev pub replay : Laid → Result StartValues Cause → Result RunSheet Cause → CourseColumns → List ℕ → List Float → Replay
 replay laid start sheet l words numbers = record { laid = laid; start = start; sheet = sheet; lent = l; words = words; numbers = numbers }
 
 -- on the course c, with start's cause k and n calls
@@ -108,4 +126,4 @@ replay_of seed l b n calls given words numbers =
     let c = laid_course (lay_number seed l) seed in
     cond (room_for n (length calls) (length given) (length words) (length numbers))
     (replay_on l seed c (start_number c.points most_tiles k b) b n (tolds_to k calls given n) words numbers)
-    (record { laid = laid_answer 2 no_values; start = start_answer 2 no_start; sheet = Err Cause.State; lent = l; words = words; numbers = numbers })
+    (record { laid = laid_answer 2 no_values; start = Err Cause.Length; sheet = Err Cause.State; lent = l; words = words; numbers = numbers })

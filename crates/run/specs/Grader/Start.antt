@@ -1,6 +1,7 @@
 -- Document 01, "Start: the first contact" and "Refusals by cause": start 1, 2, 8, 10; document 02, order 1: the seed. For states whose sets have m words and take n up to
 -- `most`. Assumes nothing.
-use Rattle.std.specs.Prelude.{Bool, false, cond, not, ◌||◌, List, ℕ, zero, suc, ◌*◌, ltb, replicate, Float}
+use Rattle.std.specs.Prelude.{Bool, false, cond, not, ◌||◌, List, ℕ, ◌*◌, ltb, replicate, Float, Result, Ok, Err}
+use Rattle.course.specs.declared.cause.Cause.{Cause}
 use Rattle.course.specs.Rules.Arithmetic.{nought}
 use Rattle.run.specs.Grader.State.{State, state_of, Columns, short_of}
 use Rattle.run.specs.Rules.Arguments.{settings_ok, poses_ok}
@@ -14,8 +15,6 @@ use Rattle.run.specs.declared.state.Pose.{Pose}
 use Rattle.run.specs.declared.state.Setup.{Setup}
 use Rattle.run.specs.declared.state.Progress.{Progress}
 use Rattle.run.specs.declared.start.StartValues.{StartValues}
-use Rattle.run.specs.declared.start.StartAnswer.{StartAnswer}
-use Rattle.run.specs.declared.start.StartAnswer.TheVariants.{Started, Refused}
 
 -- what start is told beside the lent columns
 pub record Settings : Type 0 where
@@ -32,31 +31,17 @@ pub record Settings : Type 0 where
 unfoldable pub start_short : ℕ → Columns → ℕ → Bool
 start_short most l n = short_of n l || (ltb n 1 || ltb most n)
 
-unfoldable pub start_cause : ℕ → Columns → Settings → ℕ
-start_cause most l a =
-    cond (not (settings_ok a.share a.limit)) 1
-    (cond (start_short most l a.n) 2
-    (cond (not (poses_ok a.poses)) 8
-    (cond (not (sound_poses l.offsets l.list a.n a.poses)) 10 0)))
-
--- ---- number and values of each case of the answer
-
-unfoldable pub start_answer : ℕ → StartValues → StartAnswer
-start_answer zero v = Started v
-start_answer (suc k) v = Refused (suc k)
+-- the first that holds, if one does
+unfoldable pub start_check : ℕ → Columns → Settings → Result Unit Cause
+start_check most l a =
+    cond (not (settings_ok a.share a.limit)) (Err Cause.Settings)
+    (cond (start_short most l a.n) (Err Cause.Length)
+    (cond (not (poses_ok a.poses)) (Err Cause.Range)
+    (cond (not (sound_poses l.offsets l.list a.n a.poses)) (Err Cause.Index) (Ok tt))))
 
 -- a refusal has none
 abbrev pub no_start : StartValues
 no_start = record { count = 0; lap = false }
-
--- read back
-unfoldable pub start_cause_of : StartAnswer → ℕ
-start_cause_of (Started v) = 0
-start_cause_of (Refused k) = k
-
-unfoldable pub start_values_of : StartAnswer → StartValues
-start_values_of (Started v) = v
-start_values_of (Refused k) = no_start
 
 -- ---- the call
 
@@ -83,10 +68,10 @@ zero_state m =
 
 -- an answer and the state beside it
 pub record Begun : Type 0 where
-  pub answer : StartAnswer
+  pub answer : Result StartValues Cause
   pub state : State
 
-abbrev pub begun : StartAnswer → State → Begun
+abbrev pub begun : Result StartValues Cause → State → Begun
 begun r s = record { answer = r; state = s }
 
 -- the first contact, from empty sets
@@ -97,12 +82,12 @@ first_contact m l ps = contact_of m (replicate m 0) (replicate (4 * m) 0) (λ w.
 unfoldable pub started_by : Settings → Contacted → Begun
 started_by a c =
     let lap = lap_of false c.zero c.fresh a.n a.share in
-    begun (start_answer zero (record { count = c.fresh; lap = lap })) (state_of (setup_of a) (first_progress c.fresh lap) still_car c.credited c.wheels (pose_numbers a.poses) a.seed)
+    begun (Ok (record { count = c.fresh; lap = lap })) (state_of (setup_of a) (first_progress c.fresh lap) still_car c.credited c.wheels (pose_numbers a.poses) a.seed)
 
--- no cause: the first contact; a cause: its number and the state of zeros
-unfoldable pub start_at : ℕ → ℕ → Columns → Settings → Begun
-start_at m zero l a = started_by a (first_contact m l a.poses)
-start_at m (suc k) l a = begun (start_answer (suc k) no_start) (zero_state m)
+-- no cause: the first contact; a cause, and the state of zeros
+unfoldable pub start_at : ℕ → Result Unit Cause → Columns → Settings → Begun
+start_at m (Ok none) l a = started_by a (first_contact m l a.poses)
+start_at m (Err k) l a = begun (Err k) (zero_state m)
 
 unfoldable pub start_of : ℕ → ℕ → Columns → Settings → Begun
-start_of m most l a = start_at m (start_cause most l a) l a
+start_of m most l a = start_at m (start_check most l a) l a

@@ -4,5 +4,5 @@ use Rattle.abi.proofs.runs.grader_replay.Goals as goal
 
 pub returns : goal.returns
 returns c =
-    let whole = replayed-whole _ _ _ _ _ _ _ _ c.replayed.ensures c.replay-r.ensures in
+    let whole = replayed-whole _ _ _ _ _ _ _ _ c.from.ensures c.replay.ensures in
     record { value = whole.0; numbers_after = whole.1 }

@@ -1,27 +1,29 @@
--- `run::start::start_cause` meets its contract. Assumes nothing.
-use Rattle.run.specs.Grader.Start.{start_cause, start_short}
+-- `run::start::start_check` meets its contract. Assumes nothing.
+use Rattle.run.specs.Grader.Start.{start_check, start_short}
 use Rattle.run.specs.Grader.State.{columns, short_of}
 use mathlib.Core.Bool.{cond, not}
 use mathlib.Core.Path.{◌≡◌, sym, ◌∙◌}
+use Rattle.std.specs.Prelude.{Ok, Err}
+use Rattle.course.specs.declared.cause.Cause.{Cause}
 use Rattle.run.proofs.CellLaws.{cells-sound-is}
-use Rattle.run.proofs.start.start_cause.Goals as goal
+use Rattle.run.proofs.start.start_check.Goals as goal
 
 pub returns-then-not-settings_ok : goal.returns-then-not-settings_ok
-unfolding start_cause
+unfolding start_check
 returns-then-not-settings_ok c = simp (← c.settings_ok.ensures, c.if-not-settings_ok.true)
 
 pub returns-then-is_short-n : goal.returns-then-is_short-n
-unfolding start_cause start_short short_of
+unfolding start_check start_short short_of
 returns-then-is_short-n c = simp (← c.settings_ok.ensures, c.if-not-settings_ok.false, ← c.is_short.ensures, c.if-is_short-n.true)
 
 pub returns-then-not-poses_ok : goal.returns-then-not-poses_ok
-unfolding start_cause start_short short_of
+unfolding start_check start_short short_of
 returns-then-not-poses_ok c = simp (← c.settings_ok.ensures, c.if-not-settings_ok.false, ← c.is_short.ensures, c.if-is_short-n.false, ← c.poses_ok.ensures, c.if-not-poses_ok.true)
 
 pub returns-then-not-cells_sound : goal.returns-then-not-cells_sound
-unfolding start_cause start_short short_of
+unfolding start_check start_short short_of
 returns-then-not-cells_sound c =
-    let past-poses : (let a = c.args in start_cause a.most (columns a.tiles.now a.offsets.now a.list.now) (record { n = a.n; fallback = a.fallback; seed = a.seed; share = a.share; limit = a.limit; poses = a.stance.now.poses })) ≡ cond (not c.cells_sound.result) 10 0 =
+    let past-poses : (let a = c.args in start_check a.most (columns a.tiles.now a.offsets.now a.list.now) (record { n = a.n; fallback = a.fallback; seed = a.seed; share = a.share; limit = a.limit; poses = a.stance.now.poses })) ≡ cond (not c.cells_sound.result) (Err Cause.Index) (Ok tt) =
     let a = c.args in
     simp (
       ← c.settings_ok.ensures,
@@ -36,9 +38,9 @@ returns-then-not-cells_sound c =
     sym (past-poses ∙ simp c.if-not-cells_sound.true)
 
 pub returns : goal.returns
-unfolding start_cause start_short short_of
+unfolding start_check start_short short_of
 returns c =
-    let past-poses : (let a = c.args in start_cause a.most (columns a.tiles.now a.offsets.now a.list.now) (record { n = a.n; fallback = a.fallback; seed = a.seed; share = a.share; limit = a.limit; poses = a.stance.now.poses })) ≡ cond (not c.cells_sound.result) 10 0 =
+    let past-poses : (let a = c.args in start_check a.most (columns a.tiles.now a.offsets.now a.list.now) (record { n = a.n; fallback = a.fallback; seed = a.seed; share = a.share; limit = a.limit; poses = a.stance.now.poses })) ≡ cond (not c.cells_sound.result) (Err Cause.Index) (Ok tt) =
     let a = c.args in
     simp (
       ← c.settings_ok.ensures,
