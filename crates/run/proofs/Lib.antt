@@ -27,3 +27,4 @@ pub mod SaveLaws
 pub mod LoadLaws
 pub mod RestoreLaws
 pub mod FirstReader
+pub mod FourItems

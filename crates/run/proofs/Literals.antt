@@ -1,5 +1,9 @@
 -- The bits of constants: what the compiled code has in the place of the Rust's expressions. Assumes nothing.
 use mathlib.Core.Path.{◌≡◌, refl}
+use mathlib.Core.Bool.{Bool, true, false}
+use lib.IntN.{pos}
+use Rattle.std.specs.Int.{from_bool}
+use Rattle.run.specs.Rules.Pass.{indicator}
 use lib.Ieee.{binary64, of_bits, of_int, round, mul, div}
 use Rattle.course.specs.Rules.Arithmetic.{natural, decimal}
 use Rattle.course.specs.Rules.Constants.{fps}
@@ -77,3 +81,9 @@ eight-tenths = refl
 pub nine-tenths : decimal 9 10 ≡ of_bits binary64 0x3feccccccccccccd
 unfolding decimal round of_bits
 nine-tenths = refl
+
+-- a test as a number
+pub indicator-from : (b : Bool) → of_int binary64 (pos (from_bool b)) ≡ indicator b
+unfolding indicator natural
+indicator-from true = refl
+indicator-from false = refl

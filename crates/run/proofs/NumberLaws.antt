@@ -9,6 +9,7 @@ use native.Mathlib.Nat.{suc-mul}
 use native.Mathlib.Numerals.{add-one}
 use Rattle.std.proofs.lemmas.List.Concat.{flat_map-append}
 use Rattle.run.proofs.ContactLaws.{end-within}
+use Rattle.run.proofs.FourItems.{four-items}
 use lib.Ieee.{Float, nan}
 use Rattle.std.specs.List.{flat_map}
 use Rattle.course.specs.Rules.Tiles.{number_at}
@@ -27,14 +28,6 @@ pub written_over : {A : Type 0} (vs l : List A) → length l ≡ length vs → s
 written_over {A} vs l e = sets-eq vs l 0 (omega arith) ∙ ap (λ (r : List A). vs ++ r) (drop_of_length-le l {i = 0 + length vs} (omega arith)) ∙ append-nil vs
 
 -- ---- four records of k numbers each, one after the other
-four-items : {A : Type 0} (xs : List A) (d : A) → length xs ≡ 4 → xs ≡ get_or xs 0 d ∷ get_or xs 1 d ∷ get_or xs 2 d ∷ get_or xs 3 d ∷ []
-four-items (a ∷ b ∷ c ∷ e ∷ []) d h = refl
-four-items [] d h = absurd (omega (arith, h))
-four-items (a ∷ []) d h = absurd (omega (arith, h))
-four-items (a ∷ b ∷ []) d h = absurd (omega (arith, h))
-four-items (a ∷ b ∷ c ∷ []) d h = absurd (omega (arith, h))
-four-items (a ∷ b ∷ c ∷ e ∷ f ∷ r) d h = absurd (omega (arith, h))
-
 module _ {T : Type 0} (f : T → List Float) (k : ℕ) (rs : List T) where
   -- after w of them over the numbers ns₀
   pub record Written (ns₀ ns : List Float) (w : ℕ) : Type 0 where

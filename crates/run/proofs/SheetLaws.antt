@@ -5,6 +5,7 @@ use Prim.Native.Nat.{ℕ, zero, suc, ◌*◌, ◌/◌, ◌≤◌, ◌<◌}
 use native.Mathlib.Nat.{div-lt_iff_lt-mul}
 use native.Mathlib.Omega.{arith}
 use lib.Dec.{ltb}
+use Rattle.std.proofs.Common.{max}
 use borrow.Author.Tests.{ltb-false}
 use Rattle.run.specs.Grader.State.{unfit}
 use Rattle.run.specs.Rules.Reward.{at_least_one}
@@ -12,10 +13,10 @@ use Rattle.run.specs.declared.state.Setup.{Setup}
 use Rattle.run.specs.declared.state.Progress.{Progress}
 use Rattle.course.proofs.BoolLaws.{left_false, right-false}
 
-pub one_kept : (n : ℕ) → (n ≡ 0 → ⊥) → n ≡ at_least_one n
+pub at_least-max : (n : ℕ) → max n 1 ≡ at_least_one n
 unfolding at_least_one
-one_kept zero z = absurd (z refl)
-one_kept (suc n) z = refl
+at_least-max zero = refl
+at_least-max (suc n) = omega arith
 
 -- a share is at most 1000
 pub share-lt : (c n : ℕ) → 0 < n → c ≤ n → 1000 * c / n < 1001

@@ -4,7 +4,7 @@ ghost use Rattle.run.specs.Grader.Widths.{full_words, most_tiles};
 ghost use Rattle.run.specs.Grader.State.{view};
 ghost use Rattle.run.specs.Grader.Grip.{on_road, roads_of};
 ghost use Rattle.run.specs.Rules.Arguments.{motion_ok, motions_ok};
-ghost use Rattle.run.specs.Rules.Pass.{indicator, front_of, rear_of, tyres_passed, gathered_of, pass_of};
+ghost use Rattle.run.specs.Rules.Pass.{front_of, rear_of, tyres_passed, pass_of};
 ghost use Rattle.run.specs.Grader.Drive.{drive_check, drove_parts, drive_parts_of, driven, drive_of};
 ghost use Rattle.run.specs.Steps.Drive.{wheel_as, any_stands};
 
@@ -22,24 +22,16 @@ pub(crate) struct Passed {
     pub forces: [Force; 4],
 }
 
-// `f64::from` of a bool.
-fn as_number(b: bool) -> f64
-    ensures { result ≡ indicator b }
-{
-    if b {
-        return 1.0;
-    }
-    0.0
-}
-
 // The controls of a front wheel: steering and brake are set, gas stays.
+// Kept as the action's number, here and at a rear wheel: the rule compares that with 1, 2, 3 and 4, and a name for each would be turned back into it.
 fn front(w: WheelCtl, action: u32) -> WheelCtl
     ensures { result ≡ front_of action w }
 {
-    let mut v = w;
-    v.steer = -0.6 * as_number(action == 1) + 0.6 * as_number(action == 2);
-    v.brake = 0.8 * as_number(action == 4);
-    v
+    WheelCtl {
+        steer: -0.6 * f64::from(action == 1) + 0.6 * f64::from(action == 2),
+        brake: 0.8 * f64::from(action == 4),
+        ..w
+    }
 }
 
 // The controls of a rear wheel: gas rises by at most 0.1 and falls at once, the brake is set, steering stays.
@@ -47,37 +39,17 @@ fn rear(w: WheelCtl, action: u32) -> WheelCtl
     ensures { result ≡ rear_of action w }
 {
     let gas = w.gas;
-    let wish = numeric::clamp(0.2 * as_number(action == 3), 0.0, 1.0);
-    let mut v = w;
-    v.gas = gas + numeric::min(wish - gas, 0.1);
-    v.brake = 0.8 * as_number(action == 4);
-    v
-}
-
-// What the pass leaves, from what each wheel's leaves.
-fn gathered(a: Turned, b: Turned, c: Turned, d: Turned) -> Passed
-    ensures { tyres_passed result.car result.forces ≡ gathered_of (wheel_as a) (wheel_as b) (wheel_as c) (wheel_as d) }
-{
-    let c0 = a.ctl;
-    let c1 = b.ctl;
-    let c2 = c.ctl;
-    let c3 = d.ctl;
-    let f0 = a.force;
-    let f1 = b.force;
-    let f2 = c.force;
-    let f3 = d.force;
-    let car = Car {
-        ctl: [c0, c1, c2, c3],
-        fuel_spent: d.fuel_spent,
-    };
-    Passed {
-        car,
-        forces: [f0, f1, f2, f3],
+    let wish = numeric::clamp(0.2 * f64::from(action == 3), 0.0, 1.0);
+    WheelCtl {
+        gas: gas + numeric::min(wish - gas, 0.1),
+        brake: 0.8 * f64::from(action == 4),
+        ..w
     }
 }
 
 // The tyre pass over the four wheels, the fuel going from one to the next. What pushes at the tyres is worked out for all of them
 // before any is cut: a root takes long, and so the wheels' roots do not wait for each other.
+// Kept wheel by wheel: the pass in straight lines is a form that the requirement names, so that the roots are under way at once.
 fn pass(car: Car, action: u32, motion: [Motion; 4], roads: [bool; 4]) -> Passed
     ensures { tyres_passed result.car result.forces ≡ pass_of car action motion roads }
 {
@@ -102,7 +74,13 @@ fn pass(car: Car, action: u32, motion: [Motion; 4], roads: [bool; 4]) -> Passed
     let b = dynamics::finish(w1, motion[1], o1, s1, a.fuel_spent);
     let c = dynamics::finish(w2, motion[2], o2, s2, b.fuel_spent);
     let d = dynamics::finish(w3, motion[3], o3, s3, c.fuel_spent);
-    gathered(a, b, c, d)
+    Passed {
+        car: Car {
+            ctl: [a.ctl, b.ctl, c.ctl, d.ctl],
+            fuel_spent: d.fuel_spent,
+        },
+        forces: [a.force, b.force, c.force, d.force],
+    }
 }
 
 // A wheel's five numbers are in range.
@@ -120,14 +98,11 @@ fn motion_ok(m: Motion) -> bool
 // and it reads several words at a time.
 fn any_stands(wheels: &[u64], from: usize, count: usize) -> bool
     requires { from + count ≤ length wheels.now }
-    ensures value { result ≡ any_stands count wheels.now from }
-    ensures by_index { (j : ℕ) → j < count → get_or wheels.now (from + j) 0 < 2 ^ 64 }
+    ensures { result ≡ any_stands count wheels.now from }
 {
     let mut any = false;
-    let mut i: usize = 0;
-    while i < count {
-        any = any | (wheels[from + i] != 0);
-        i += 1;
+    for i in 0..count {
+        any |= wheels[from + i] != 0;
     }
     any
 }
@@ -136,10 +111,7 @@ fn any_stands(wheels: &[u64], from: usize, count: usize) -> bool
 fn first_words(words: usize) -> usize
     ensures { result ≤ words }
 {
-    if words < 8 {
-        return words;
-    }
-    8
+    words.min(8)
 }
 
 // Whether wheel w touched a tile at the last contact, by sets of `words` words to a wheel. The first words are looked at
@@ -150,10 +122,7 @@ fn on_road(wheels: &[u64], words: usize, w: usize) -> bool
 {
     let from = w * words;
     let first = first_words(words);
-    if any_stands(wheels, from, first) {
-        return true;
-    }
-    any_stands(wheels, from + first, words - first)
+    any_stands(wheels, from, first) || any_stands(wheels, from + first, words - first)
 }
 
 // Which wheels touched a tile at the last contact. One place that calls the test, so that it is compiled into it.
@@ -162,10 +131,8 @@ fn roads_of(wheels: &[u64], words: usize) -> [bool; 4]
     ensures { result ≡ roads_of words wheels.now }
 {
     let mut roads = [false; 4];
-    let mut w: usize = 0;
-    while w < 4 {
+    for w in 0..4 {
         roads[w] = on_road(wheels, words, w);
-        w += 1;
     }
     roads
 }
@@ -174,7 +141,7 @@ fn roads_of(wheels: &[u64], words: usize) -> [bool; 4]
 fn motions_ok(m: [Motion; 4]) -> bool
     ensures { result ≡ motions_ok m }
 {
-    motion_ok(m[0]) & motion_ok(m[1]) & motion_ok(m[2]) & motion_ok(m[3])
+    m.iter().all(|motion| motion_ok(*motion))
 }
 
 // Refused by the first cause that holds.

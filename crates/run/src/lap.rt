@@ -9,7 +9,7 @@ use course::numeric;
 pub(crate) fn update_lap(lap: bool, zero: bool, credited: u32, n: u32, share: f64) -> bool
     ensures { result ≡ lap_of lap zero credited n share }
 {
-    lap | (zero & ((credited as f64) / (n as f64) > share))
+    lap | (zero & (f64::from(credited) / f64::from(n) > share))
 }
 
 // The hull is off the playfield.

@@ -156,8 +156,8 @@ pub fn box_cells(q: [[f64; 2]; 4]) -> [usize; 4]
 }
 
 // The cells of four wheels' boxes, four to a wheel.
-fn wheel_cells(poses: [Pose; 4]) -> [usize; 16]
-    ensures { result ≡ sixteen_cells poses }
+fn wheel_cells(poses: &[Pose; 4]) -> [usize; 16]
+    ensures { result ≡ sixteen_cells poses.now }
 {
     let mut cells = [0usize; 16];
     for w in 0..4 {
@@ -180,9 +180,7 @@ impl Stance {
     pub(crate) fn at(poses: [Pose; 4]) -> Stance
         ensures { result.poses ≡ poses }
     {
-        Stance {
-            poses,
-            cells: wheel_cells(poses),
-        }
+        let cells = wheel_cells(&poses);
+        Stance { poses, cells }
     }
 }

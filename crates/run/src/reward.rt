@@ -1,6 +1,6 @@
 // The reward of a settle (document 01, "Beside the run"; the Rust's `step_reward`).
 ghost use Rattle.std.specs.Prelude.{◌≡◌};
-ghost use Rattle.run.specs.Rules.Reward.{reward_of, at_least_one, default_weights};
+ghost use Rattle.run.specs.Rules.Reward.{reward_of, default_weights};
 
 // The Rust's `CarRacingReward`.
 #[repr(C)]
@@ -22,16 +22,6 @@ pub fn default_weights() -> Weights
     }
 }
 
-// `n.max(1)`.
-fn at_least_one(n: u32) -> u32
-    ensures { result ≡ at_least_one n }
-{
-    if n == 0 {
-        return 1;
-    }
-    n
-}
-
 // tile * new / max(n, 1) + step, or the off value alone.
 pub fn reward(w: Weights, new: u32, n: u32, off: bool) -> f64
     ensures { result ≡ reward_of w new n off }
@@ -39,6 +29,5 @@ pub fn reward(w: Weights, new: u32, n: u32, off: bool) -> f64
     if off {
         return w.off_playfield;
     }
-    let m = at_least_one(n);
-    w.tile * (new as f64) / (m as f64) + w.step
+    w.tile * f64::from(new) / f64::from(n.max(1)) + w.step
 }

@@ -96,7 +96,7 @@ pub fn pose_ok(p: Pose) -> bool
 pub fn poses_ok(p: [Pose; 4]) -> bool
     ensures { result ≡ poses_ok p }
 {
-    pose_ok(p[0]) & pose_ok(p[1]) & pose_ok(p[2]) & pose_ok(p[3])
+    p.iter().all(|pose| pose_ok(*pose))
 }
 
 // A column lent with a course of n points is short, by the lengths of tiles and offsets (cause 2).

@@ -1,5 +1,4 @@
 -- `run::drive::roads_of` meets its contract. Assumes nothing.
-use borrow.Author.Rules.{rules}
 use Rattle.run.proofs.RoadLaws.{roads-more, roads-all}
 use Rattle.run.proofs.ContactLaws.{end-within}
 use Rattle.run.specs.Steps.Drive.{roads_to}
@@ -9,17 +8,13 @@ use Rattle.run.proofs.drive.roads_of.Goals as goal
 
 pub loop-w-init : goal.loop-w-init
 unfolding roads_to
-loop-w-init c = (search rules, refl)
+loop-w-init c = refl
 
 pub on_road-requires : goal.on_road-requires
 on_road-requires c = omega (arith, end-within c.loop-w.w 4 c.args.words c.loop-w-test.true, c.requires)
 
 pub loop-w-preserved : goal.loop-w-preserved
-loop-w-preserved c =
-    let k = c.loop-w in
-    (search rules, roads-more c.args.words c.args.wheels.now k.w _ _ k.invariant.1 c.on_road.ensures)
+loop-w-preserved c = roads-more c.args.words c.args.wheels.now c.loop-w.w _ _ c.loop-w.invariant c.on_road.ensures
 
 pub returns : goal.returns
-returns c =
-    let k = c.loop-w in
-    roads-all c.args.words c.args.wheels.now k.w _ k.invariant.1 k.invariant.0 c.loop-w-test.false
+returns c = roads-all c.args.words c.args.wheels.now c.loop-w.w _ c.loop-w.invariant (omega arith) c.loop-w-test.false

@@ -1,11 +1,7 @@
 -- `run::drive::roads_of` meets its contract. Assumes nothing.
 use Rattle.run.specs.Steps.Drive.{roads_to}
 use mathlib.Core.Path.{◌≡◌}
-use Prim.Native.Nat.{◌-◌, ◌≤◌}
 use Rattle.run.proofs.drive.roads_of.Given as goal
 
 abbrev pub invariant-loop-w : goal.invariant-loop-w
-invariant-loop-w l = (l.w ≤ 4) × (l.roads ≡ roads_to l.words l.wheels l.w)
-
-abbrev pub decreases-loop-w : goal.decreases-loop-w
-decreases-loop-w l = 4 - l.w
+invariant-loop-w l = l.roads ≡ roads_to l.words l.wheels l.w
