@@ -4,7 +4,8 @@ use lib.Ieee.{Float}
 use Rattle.course.specs.Rules.Lengths.{cell_count, offset_count}
 use Rattle.course.specs.Grader.Index.{start, offsets_of, index_of}
 use Rattle.course.specs.Rules.Rect.{Rect, rect_of, holds_of, area_of, needed}
-use Rattle.course.specs.Steps.Index.{Small, Built}
+use Rattle.course.specs.Steps.Index.{rect_as, Small, Built}
+use Rattle.course.specs.declared.rect.Rect.{Rect as CodeRect}
 use Rattle.course.proofs.Cells.{cell-high}
 use Rattle.course.proofs.IndexLaws.{start-tile, start-no-tile}
 use Rattle.course.proofs.Rects.{held-area, area_small}
@@ -12,6 +13,10 @@ use Rattle.course.proofs.Rects.{held-area, area_small}
 pub rect-small : (tiles : List Float) (i : ℕ) → Small (rect_of tiles i)
 unfolding rect_of
 rect-small tiles i = record { left = cell-high _; bottom = cell-high _; right = cell-high _; top = cell-high _ }
+
+-- the code's rectangle keeps within the grid
+pub sides : (r : CodeRect) → Small (rect_as r)
+sides r = record { left = r.left; bottom = r.bottom; right = r.right; top = r.top }
 
 abbrev pub rect : ℕ → ℕ → ℕ → ℕ → Rect
 rect x0 x1 y0 y1 = record { x0 = x0; x1 = x1; y0 = y0; y1 = y1 }

@@ -1,5 +1,9 @@
 -- Laws of the index: of `listed`, `start`, `index_of` and `table`. Assumes nothing.
 use Rattle.std.proofs.Common.{◌≡◌, ℕ, zero, suc, ◌+◌, ◌-◌, ◌*◌, ◌<◌, ◌≤◌, Bool, true, false, ◌&&◌, ltb, leb, ◌⊎◌, List, [], ◌∷◌, ◌++◌, length, get_or, take, drop, sym, refl, ap, ◌∙◌, subst, inl, inr, ⊎_elim, append_assoc, append-nil, le_of_suc-le-suc, not-suc-le-zero, add-zero, add-suc, eq-or-lt_of_le, mul-suc, add-one, arith, length-append, length-drop, length-take, get_or-drop, get_or-take, take_at, ext_get_or, take-add, drop_at, ltb-true, le-ltb, lt-ltb, le-leb, leb-true}
+use Rattle.std.proofs.Common.{Bor, Option, None, Some, MatchOption, ap₂}
+use Rattle.std.specs.Slice.{IsGetRangeResult}
+use mathlib.Core.Bool.{and-false}
+use borrow.Author.Tests.{lt-leb}
 use native.Mathlib.Decide.{dec_lt}
 use lib.ListN.{get_or-append}
 use lib.Seq.{get_or_at}
@@ -67,9 +71,23 @@ module _ (o l : List ℕ) (c : ℕ) where
   unfolding lookup
   lookup-none h = simp h
 
-  pub lookup-part : part_ok o l c ≡ true → lookup o l c ≡ take (get_or o (c + 1) 0 - get_or o c 0) (drop (get_or o c 0) l)
+  lookup-part : part_ok o l c ≡ true → lookup o l c ≡ take (get_or o (c + 1) 0 - get_or o c 0) (drop (get_or o c 0) l)
   unfolding lookup
   lookup-part h = simp h
+
+  -- what `get` answers for the range between the two offsets
+  pub part-read : (from to : ℕ) (r : Option (Bor (List ℕ))) → c + 1 < length o → from ≡ get_or o c 0 → to ≡ get_or o (c + 1) 0 → IsGetRangeResult l from to r
+      → MatchOption r (part_ok o l c ≡ false) (λ p. (part_ok o l c ≡ true) × (p.now ≡ lookup o l c))
+  part-read from to None has ef et h = ⊎_elim (λ p. part-rest has ∙ simp (lt-leb _ _ (falls p))) (λ p. part-rest has ∙ simp (lt-leb _ _ (past p), and-false)) h.0
+    where
+      falls : to < from → get_or o (c + 1) 0 < get_or o c 0
+      falls p = omega (arith, ef, et, p)
+
+      past : length l < to → length l < get_or o (c + 1) 0
+      past p = omega (arith, et, p)
+  part-read from to (Some p) has ef et h =
+      let holds : part_ok o l c ≡ true = part-holds (record { has = has; rises = omega (arith, ef, et, h.0.0); ends = omega (arith, et, h.0.1) }) in
+      (holds, h.0.2 ∙ ap₂ (λ (x y : ℕ). take (y - x) (drop x l)) ef et ∙ sym (lookup-part holds))
 
 module _ (h : ℕ → ℕ → Bool) where
   pub listed-none : (c : ℕ) → length (listed h 0 c) ≡ 0

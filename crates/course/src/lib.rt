@@ -15,6 +15,7 @@ pub mod index;
 pub mod lay;
 pub mod numeric;
 pub mod points;
+mod rect;
 pub mod root;
 mod step;
 pub mod tiles;

@@ -187,16 +187,15 @@ pub(crate) fn finish(
     columns::clear_from(tiles, used, 8 * m);
     let built = index::build_index(&tiles[..used], n, alpha, offsets, list);
     columns::clear_from(alpha, 0, m);
-    let need = built.need as u32;
-    if built.short {
-        return Laid::Short(need);
+    match built {
+        Ok(entries) => Laid::Course(LaidCourse {
+            n: n as u32,
+            fallback,
+            entries: entries as u32,
+            first,
+        }),
+        Err(need) => Laid::Short(need as u32),
     }
-    Laid::Course(LaidCourse {
-        n: n as u32,
-        fallback,
-        entries: need,
-        first,
-    })
 }
 
 // The given points go to the front of the lent columns.
