@@ -1,5 +1,5 @@
 -- Laws of the index: of `listed`, `start`, `index_of` and `table`. Assumes nothing.
-use Rattle.std.proofs.Common.{◌≡◌, ℕ, zero, suc, ◌+◌, ◌-◌, ◌*◌, ◌<◌, ◌≤◌, Bool, true, false, ◌&&◌, ltb, leb, ◌⊎◌, List, [], ◌∷◌, ◌++◌, length, get_or, take, drop, sym, refl, ap, ◌∙◌, subst, inl, inr, ⊎_elim, append_assoc, append-nil, le_of_suc-le-suc, not-suc-le-zero, add-zero, add-suc, eq-or-lt_of_le, mul-suc, add-one, arith, length-append, length-drop, length-take, get_or-drop, get_or-take, take_at, ext_get_or, take-add, drop_at, ltb-true, le-ltb, lt-ltb, le-leb, leb-true}
+use Rattle.std.proofs.Common.{◌≡◌, ℕ, zero, suc, ◌+◌, ◌-◌, ◌*◌, ◌<◌, ◌≤◌, Bool, true, false, ◌&&◌, leb, ◌⊎◌, List, [], ◌∷◌, ◌++◌, length, get_or, take, drop, sym, refl, ap, ◌∙◌, subst, inl, inr, ⊎_elim, append_assoc, append-nil, le_of_suc-le-suc, not-suc-le-zero, add-zero, add-suc, eq-or-lt_of_le, mul-suc, add-one, arith, length-append, length-drop, length-take, get_or-drop, get_or-take, take_at, ext_get_or, take-add, drop_at, le-ltb, lt-ltb, le-leb}
 use Rattle.std.proofs.Common.{Bor, Option, None, Some, MatchOption, ap₂}
 use Rattle.std.specs.Slice.{IsGetRangeResult}
 use mathlib.Core.Bool.{and-false}
@@ -9,7 +9,6 @@ use lib.ListN.{get_or-append}
 use lib.Seq.{get_or_at}
 use Rattle.course.specs.Grader.Index.{add_if, listed, start, index_of, table, offsets_of, part_ok, lookup}
 use Rattle.course.specs.Rules.Counting.{digit, how_many}
-use Rattle.course.proofs.BoolLaws.{and_left, and_right}
 
 -- two numbers, in order or not
 pub order : (a b : ℕ) → (a < b) ⊎ (b ≤ a)
@@ -44,16 +43,6 @@ module _ (o l : List ℕ) (c : ℕ) where
     pub has : c + 1 < length o
     pub rises : get_or o c 0 ≤ get_or o (c + 1) 0
     pub ends : get_or o (c + 1) 0 ≤ length l
-
-  pub part-facts : part_ok o l c ≡ true → Part
-  unfolding part_ok
-  part-facts h =
-      let r = and_right (ltb (c + 1) (length o)) (leb (get_or o c 0) (get_or o (c + 1) 0) && leb (get_or o (c + 1) 0) (length l)) h in
-      record {
-        has = ltb-true _ _ (and_left (ltb (c + 1) (length o)) _ h);
-        rises = leb-true _ _ (and_left (leb (get_or o c 0) (get_or o (c + 1) 0)) _ r);
-        ends = leb-true _ _ (and_right (leb (get_or o c 0) (get_or o (c + 1) 0)) _ r);
-      }
 
   pub part-holds : Part → part_ok o l c ≡ true
   unfolding part_ok

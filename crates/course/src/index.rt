@@ -127,8 +127,8 @@ fn lay_index(rects: &[f64], o: &mut [u32], l: &mut [u32])
     place_all(rects, o, l);
 }
 
-// The index of the tiles below n, in the lent columns, and its length. Where the list is shorter than the cells summed (cause 3),
-// that length is the error, and offsets and list stay as they are.
+// The index of the tiles below n, in the lent columns, and its length. Where the list is shorter than the cells summed
+// (cause 3), that length is the error, and offsets and list stay as they are.
 // `rects` is scratch: its first n entries change.
 pub(crate) fn build_index(
     tiles: &[f64],

@@ -200,7 +200,8 @@ pub(crate) fn finish(
 
 // The given points go to the front of the lent columns.
 fn copy_points(points: &PointColumns, beta: &mut [f64], x: &mut [f64], y: &mut [f64])
-    requires { (points.now.count ≤ length beta.old) × (points.now.count ≤ length x.old) × (points.now.count ≤ length y.old) }
+    requires { (points.now.count ≤ length beta.old) × (points.now.count ≤ length x.old)
+        × (points.now.count ≤ length y.old) }
     ensures beta_after { beta.new ≡ take points.now.count points.now.beta.now ++ drop points.now.count beta.old }
     ensures x_after { x.new ≡ take points.now.count points.now.x.now ++ drop points.now.count x.old }
     ensures y_after { y.new ≡ take points.now.count points.now.y.now ++ drop points.now.count y.old }

@@ -53,7 +53,7 @@ impl Rect {
     }
 
     // The rectangle as one number, eight bits for each side.
-    // Kept packed in a number's bits: the grader has no memory of its own, and what is lent for scratch is a column of numbers.
+    // Kept in a number's bits: the grader has no memory of its own, and the scratch it is lent is a column of numbers.
     pub(crate) fn pack(self) -> f64
         ensures { Packs result (rect_as self) }
     {

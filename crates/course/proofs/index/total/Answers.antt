@@ -23,8 +23,7 @@ overflow_add-sum c =
 pub loop-i-preserved : goal.loop-i-preserved
 loop-i-preserved c =
     let l = c.loop-i in
-    let p = subst (λ (r : Rect). Packs c.pack.result r) c.of_tile-r.ensures c.pack.ensures in
-    (
+    let p = subst (λ (r : Rect). Packs c.pack.result r) c.of_tile-r.ensures c.pack.ensures in (
       omega (arith, needed-more c.args.tiles.now l.i, l.invariant.0, c.area-sum.ensures, ap area_of c.of_tile-r.ensures),
       packed_more c.args.tiles.now c.args.n l.i c.args.rects.now l.rects c.pack.result (omega arith) (omega (arith, l.invariant.1.same, c.requires.n_in_bounds)) p l.invariant.1,
     )
