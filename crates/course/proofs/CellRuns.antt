@@ -75,16 +75,6 @@ module _ (o₀ l₀ o l : List ℕ) (id a c : ℕ) where
       below : (d : ℕ) → Inside a (c + 1) d → (get_or o₀ d 0 ≡ at → ⊥) → at ≡ get_or o₀ c 0 → d < c
       below d w ne e₀ = ⊎_elim (λ p. absurd (ne (ap (λ (z : ℕ). get_or o₀ z 0) p ∙ sym e₀))) (λ p. omega arith) (same? d c)
 
-  pub placed-all : (b : ℕ) → RunPlaced o₀ l₀ o l id a c → b ≤ c → c ≤ max a b → RunPlaced o₀ l₀ o l id a b
-  placed-all b r k m =
-      record {
-        cursors = counted-all o₀ o a c b r.cursors k m;
-        same-list = r.same-list;
-        placed = λ d w. r.placed d (omega arith);
-        other = λ j w. r.other j (λ d v. w d (omega arith));
-        either = r.either;
-      }
-
 -- the sums up to below c are stored, and the elements from c on are still as they were
 pub record SummedTo (o₀ o : List ℕ) (c : ℕ) : Type 0 where
   pub same : length o ≡ length o₀

@@ -1,10 +1,11 @@
 -- The tiles of a course: their rectangles lie in the grid, and the cells summed are the index's length. Assumes nothing.
-use Rattle.std.proofs.Common.{◌≡◌, ℕ, zero, suc, ◌+◌, ◌*◌, ◌<◌, ◌≤◌, Bool, true, false, cond, ltb, List, ◌++◌, length, drop, sym, refl, ap, ◌∙◌, add-one, arith, le-ltb, lt-ltb}
+use Rattle.std.proofs.Common.{◌≡◌, ℕ, zero, suc, ◌+◌, ◌*◌, ◌≤◌, Bool, false, cond, ltb, List, ◌++◌, length, drop, sym, refl, ap, ◌∙◌, add-one, arith, le-ltb}
 use lib.Ieee.{Float}
 use Rattle.course.specs.Rules.Lengths.{cell_count, offset_count}
 use Rattle.course.specs.Grader.Index.{start, offsets_of, index_of}
 use Rattle.course.specs.Rules.Rect.{Rect, rect_of, holds_of, area_of, needed}
-use Rattle.course.specs.Steps.Index.{Small, Built}
+use Rattle.course.specs.Steps.Index.{rect_as, Small, Built}
+use Rattle.course.specs.declared.rect.Rect.{Rect as CodeRect}
 use Rattle.course.proofs.Cells.{cell-high}
 use Rattle.course.proofs.IndexLaws.{start-tile, start-no-tile}
 use Rattle.course.proofs.Rects.{held-area, area_small}
@@ -12,6 +13,10 @@ use Rattle.course.proofs.Rects.{held-area, area_small}
 pub rect-small : (tiles : List Float) (i : ℕ) → Small (rect_of tiles i)
 unfolding rect_of
 rect-small tiles i = record { left = cell-high _; bottom = cell-high _; right = cell-high _; top = cell-high _ }
+
+-- the code's rectangle keeps within the grid
+pub sides : (r : CodeRect) → Small (rect_as r)
+sides r = record { left = r.left; bottom = r.bottom; right = r.right; top = r.top }
 
 abbrev pub rect : ℕ → ℕ → ℕ → ℕ → Rect
 rect x0 x1 y0 y1 = record { x0 = x0; x1 = x1; y0 = y0; y1 = y1 }
@@ -41,11 +46,6 @@ module _ (tiles : List Float) where
       (omega (arith, needed-start i, start-tile (holds_of tiles) i cell_count, held-area (rect_of tiles i) (rect-small tiles i)))
 
   module _ {n : ℕ} {o l : List ℕ} {need : ℕ} (is : need ≡ needed tiles n) where
-    pub built-short : length l < needed tiles n → Built tiles n o l o l true need
-    built-short a =
-        let t : ltb (length l) (needed tiles n) ≡ true = lt-ltb (length l) (needed tiles n) a in
-        record { length-needed = is; too_short = sym t; offsets = simp t; entries = simp t }
-
     pub built-laid : needed tiles n ≤ length l → {o' l' : List ℕ} → o' ≡ offsets_of (holds_of tiles) n cell_count → l' ≡ index_of (holds_of tiles) n cell_count → Built tiles n o l (o' ++ drop offset_count o) (l' ++ drop need l) false need
     built-laid a p q =
         let t : ltb (length l) (needed tiles n) ≡ false = le-ltb (length l) (needed tiles n) a in

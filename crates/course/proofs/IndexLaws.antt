@@ -1,11 +1,14 @@
 -- Laws of the index: of `listed`, `start`, `index_of` and `table`. Assumes nothing.
-use Rattle.std.proofs.Common.{◌≡◌, ℕ, zero, suc, ◌+◌, ◌-◌, ◌*◌, ◌<◌, ◌≤◌, Bool, true, false, ◌&&◌, ltb, leb, ◌⊎◌, List, [], ◌∷◌, ◌++◌, length, get_or, take, drop, sym, refl, ap, ◌∙◌, subst, inl, inr, ⊎_elim, append_assoc, append-nil, le_of_suc-le-suc, not-suc-le-zero, add-zero, add-suc, eq-or-lt_of_le, mul-suc, add-one, arith, length-append, length-drop, length-take, get_or-drop, get_or-take, take_at, ext_get_or, take-add, drop_at, ltb-true, le-ltb, lt-ltb, le-leb, leb-true}
+use Rattle.std.proofs.Common.{◌≡◌, ℕ, zero, suc, ◌+◌, ◌-◌, ◌*◌, ◌<◌, ◌≤◌, Bool, true, false, ◌&&◌, leb, ◌⊎◌, List, [], ◌∷◌, ◌++◌, length, get_or, take, drop, sym, refl, ap, ◌∙◌, subst, inl, inr, ⊎_elim, append_assoc, append-nil, le_of_suc-le-suc, not-suc-le-zero, add-zero, add-suc, eq-or-lt_of_le, mul-suc, add-one, arith, length-append, length-drop, length-take, get_or-drop, get_or-take, take_at, ext_get_or, take-add, drop_at, le-ltb, lt-ltb, le-leb}
+use Rattle.std.proofs.Common.{Bor, Option, None, Some, MatchOption, ap₂}
+use Rattle.std.specs.Slice.{IsGetRangeResult}
+use mathlib.Core.Bool.{and-false}
+use borrow.Author.Tests.{lt-leb}
 use native.Mathlib.Decide.{dec_lt}
 use lib.ListN.{get_or-append}
 use lib.Seq.{get_or_at}
 use Rattle.course.specs.Grader.Index.{add_if, listed, start, index_of, table, offsets_of, part_ok, lookup}
 use Rattle.course.specs.Rules.Counting.{digit, how_many}
-use Rattle.course.proofs.BoolLaws.{and_left, and_right}
 
 -- two numbers, in order or not
 pub order : (a b : ℕ) → (a < b) ⊎ (b ≤ a)
@@ -41,16 +44,6 @@ module _ (o l : List ℕ) (c : ℕ) where
     pub rises : get_or o c 0 ≤ get_or o (c + 1) 0
     pub ends : get_or o (c + 1) 0 ≤ length l
 
-  pub part-facts : part_ok o l c ≡ true → Part
-  unfolding part_ok
-  part-facts h =
-      let r = and_right (ltb (c + 1) (length o)) (leb (get_or o c 0) (get_or o (c + 1) 0) && leb (get_or o (c + 1) 0) (length l)) h in
-      record {
-        has = ltb-true _ _ (and_left (ltb (c + 1) (length o)) _ h);
-        rises = leb-true _ _ (and_left (leb (get_or o c 0) (get_or o (c + 1) 0)) _ r);
-        ends = leb-true _ _ (and_right (leb (get_or o c 0) (get_or o (c + 1) 0)) _ r);
-      }
-
   pub part-holds : Part → part_ok o l c ≡ true
   unfolding part_ok
   part-holds p = simp (lt-ltb (c + 1) (length o) p.has, le-leb (get_or o c 0) (get_or o (c + 1) 0) p.rises, le-leb (get_or o (c + 1) 0) (length l) p.ends)
@@ -67,9 +60,23 @@ module _ (o l : List ℕ) (c : ℕ) where
   unfolding lookup
   lookup-none h = simp h
 
-  pub lookup-part : part_ok o l c ≡ true → lookup o l c ≡ take (get_or o (c + 1) 0 - get_or o c 0) (drop (get_or o c 0) l)
+  lookup-part : part_ok o l c ≡ true → lookup o l c ≡ take (get_or o (c + 1) 0 - get_or o c 0) (drop (get_or o c 0) l)
   unfolding lookup
   lookup-part h = simp h
+
+  -- what `get` answers for the range between the two offsets
+  pub part-read : (from to : ℕ) (r : Option (Bor (List ℕ))) → c + 1 < length o → from ≡ get_or o c 0 → to ≡ get_or o (c + 1) 0 → IsGetRangeResult l from to r
+      → MatchOption r (part_ok o l c ≡ false) (λ p. (part_ok o l c ≡ true) × (p.now ≡ lookup o l c))
+  part-read from to None has ef et h = ⊎_elim (λ p. part-rest has ∙ simp (lt-leb _ _ (falls p))) (λ p. part-rest has ∙ simp (lt-leb _ _ (past p), and-false)) h.0
+    where
+      falls : to < from → get_or o (c + 1) 0 < get_or o c 0
+      falls p = omega (arith, ef, et, p)
+
+      past : length l < to → length l < get_or o (c + 1) 0
+      past p = omega (arith, et, p)
+  part-read from to (Some p) has ef et h =
+      let holds : part_ok o l c ≡ true = part-holds (record { has = has; rises = omega (arith, ef, et, h.0.0); ends = omega (arith, et, h.0.1) }) in
+      (holds, h.0.2 ∙ ap₂ (λ (x y : ℕ). take (y - x) (drop x l)) ef et ∙ sym (lookup-part holds))
 
 module _ (h : ℕ → ℕ → Bool) where
   pub listed-none : (c : ℕ) → length (listed h 0 c) ≡ 0

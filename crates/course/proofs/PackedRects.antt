@@ -1,5 +1,5 @@
 -- Rectangles packed in a column: what is read is what was packed, and the index of the rectangles is that of their tiles. Assumes nothing.
-use Rattle.std.proofs.Common.{◌≡◌, ℕ, zero, suc, ◌+◌, ◌-◌, ◌*◌, ◌/◌, ◌%◌, ◌<◌, ◌≤◌, Bool, false, not, T, List, [], ◌∷◌, ◌++◌, length, get_or, take, drop, set, replicate, sym, refl, ap, ◌∙◌, subst, ap₂, ⊎_elim, le_of_suc-le-suc, eq-or-lt_of_le, add-one, arith, length-set, get_or-set_other, get_or-set_same, drop-drop, drop-set-lt}
+use Rattle.std.proofs.Common.{◌≡◌, ℕ, zero, suc, ◌+◌, ◌-◌, ◌*◌, ◌/◌, ◌%◌, ◌<◌, ◌≤◌, Bool, false, not, T, List, [], ◌∷◌, ◌++◌, length, get_or, take, drop, set, replicate, get_or-take, sym, refl, ap, ◌∙◌, subst, ap₂, ⊎_elim, le_of_suc-le-suc, eq-or-lt_of_le, add-one, arith, length-set, get_or-set_other, get_or-set_same, drop-drop, drop-set-lt}
 use lib.Ieee.{Float, nan, is_nan, nan_bits, binary64, of_bits, to_bits}
 use lib.Ieee.Bits.{to_bits-of_bits, nan_bits_is}
 use Rattle.course.specs.Rules.Constants.{grid_dim}
@@ -88,11 +88,19 @@ module _ (tiles : List Float) (n : ℕ) where
           apart : (k : ℕ) → k < i → k ≡ i → ⊥
           apart k m e = omega arith
 
-  pub rects-in : {rects rects' : List Float} → n ≤ most_points → n ≤ length rects → RectsPacked tiles n n rects rects' → RectsIn rects' n
-  rects-in few room t = record {
-    few = few;
-    each = λ i l. record { room = omega (arith, t.same, l, room); number = (t.each i l).number };
-    small = λ i l. subst Small (sym (t.each i l).same) (rect-small tiles i);
+  -- the part that is read afterwards
+  pub front-packed : {rects rects' : List Float} → n ≤ length rects → RectsPacked tiles n n rects rects' → RectsPacked tiles n n (take n rects') (take n rects')
+  front-packed {rects} {rects'} room t = record {
+    same = refl;
+    past = refl;
+    each = λ k l. subst (λ (w : Float). Packs w (rect_of tiles k)) (sym (get_or-take n rects' k nan l)) (t.each k l);
+  }
+
+  pub rects-in : {rects rects' : List Float} → n ≤ most_points → length rects' ≡ n → RectsPacked tiles n n rects rects' → RectsIn rects'
+  rects-in few long t = record {
+    few = omega (arith, long);
+    each = λ i l.
+        let p = t.each i (omega (arith, l, long)) in record { number = p.number; small = subst Small (sym p.same) (rect-small tiles i) };
   }
 
   held_same : {rects rects' : List Float} → RectsPacked tiles n n rects rects' → (i c : ℕ) → i < n → held_in rects' i c ≡ holds_of tiles i c

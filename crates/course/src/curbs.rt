@@ -136,10 +136,12 @@ fn white_of(i: usize) -> u8
 // The curb of point i, if it has one, as number m; the count after it.
 fn put_curb(points: &PointColumns, i: usize, m: usize, quads: &mut [f64], white: &mut [u8]) -> usize
     requires i_in_bounds { (m ≤ i) × (i < points.now.count) }
-    requires room { (points.now.count ≤ most_points) × (quad_numbers points.now.count ≤ length quads.old) × (points.now.count ≤ length white.old) }
+    requires room { (points.now.count ≤ most_points) × (quad_numbers points.now.count ≤ length quads.old)
+        × (points.now.count ≤ length white.old) }
     ensures { Curbed (bordered points.now.beta.now points.now.count i)
         (curb_quad (point_at points.now.beta.now points.now.x.now points.now.y.now i)
-        (point_at points.now.beta.now points.now.x.now points.now.y.now (before_of points.now.count i))) (white_of i) m
+        (point_at points.now.beta.now points.now.x.now points.now.y.now (before_of points.now.count i)))
+        (white_of i) m
         quads.old white.old result quads.new white.new }
 {
     if !is_bordered(points, i) {
@@ -154,9 +156,10 @@ fn put_curb(points: &PointColumns, i: usize, m: usize, quads: &mut [f64], white:
 
 // The curbs of the points, in front of the lent columns; how many there are.
 fn write_curbs(points: &PointColumns, quads: &mut [f64], white: &mut [u8]) -> usize
-    requires { (points.now.count ≤ most_points) × (quad_numbers points.now.count ≤ length quads.old) × (points.now.count ≤ length white.old) }
-    ensures { CurbsTo points.now.beta.now points.now.x.now points.now.y.now points.now.count points.now.count result quads.old white.old
-        quads.new white.new }
+    requires { (points.now.count ≤ most_points) × (quad_numbers points.now.count ≤ length quads.old)
+        × (points.now.count ≤ length white.old) }
+    ensures { CurbsTo points.now.beta.now points.now.x.now points.now.y.now points.now.count points.now.count
+        result quads.old white.old quads.new white.new }
 {
     let mut m: usize = 0;
     for i in 0..points.count {

@@ -16,6 +16,7 @@ pub mod lay;
 pub mod numeric;
 mod point_columns;
 pub mod points;
+mod rect;
 pub mod root;
 mod step;
 pub mod tiles;

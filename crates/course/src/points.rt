@@ -187,21 +187,21 @@ pub(crate) fn finish(
     columns::clear_from(tiles, used, 8 * m);
     let built = index::build_index(&tiles[..used], n, alpha, offsets, list);
     columns::clear_from(alpha, 0, m);
-    let need = built.need as u32;
-    if built.short {
-        return Laid::Short(need);
+    match built {
+        Ok(entries) => Laid::Course(LaidCourse {
+            n: n as u32,
+            fallback,
+            entries: entries as u32,
+            first,
+        }),
+        Err(need) => Laid::Short(need as u32),
     }
-    Laid::Course(LaidCourse {
-        n: n as u32,
-        fallback,
-        entries: need,
-        first,
-    })
 }
 
 // The given points go to the front of the lent columns.
 fn copy_points(points: &PointColumns, beta: &mut [f64], x: &mut [f64], y: &mut [f64])
-    requires { (points.now.count ≤ length beta.old) × (points.now.count ≤ length x.old) × (points.now.count ≤ length y.old) }
+    requires { (points.now.count ≤ length beta.old) × (points.now.count ≤ length x.old)
+        × (points.now.count ≤ length y.old) }
     ensures beta_after { beta.new ≡ take points.now.count points.now.beta.now ++ drop points.now.count beta.old }
     ensures x_after { x.new ≡ take points.now.count points.now.x.now ++ drop points.now.count x.old }
     ensures y_after { y.new ≡ take points.now.count points.now.y.now ++ drop points.now.count y.old }

@@ -1,12 +1,12 @@
 -- What the steps of the index's builder do, one cell at a time; only private functions of `index` cite these. `o` and `l` are the offsets
 -- and the list before a step, `o'` and `l'` after it. Assumes nothing.
-use Rattle.std.specs.Prelude.{◌≡◌, ℕ, zero, suc, ◌+◌, ◌/◌, ◌%◌, ◌<◌, ◌≤◌, Bool, true, cond, not, T, ◌⊎◌, List, ◌++◌, length, get_or, drop, ◌≢◌, is_nan, nat_lt, slice_index, slice_index_or, to_bits, Float}
+use Rattle.std.specs.Prelude.{◌≡◌, ℕ, zero, suc, ◌+◌, ◌/◌, ◌%◌, ◌<◌, ◌≤◌, Bool, true, false, cond, not, T, ◌⊎◌, List, ◌++◌, length, get_or, drop, ◌≢◌, is_nan, nat_lt, slice_index, slice_index_or, to_bits, Float, Result, Ok, Err}
 use Rattle.std.specs.Float.{nan, binary64}
 use Rattle.course.specs.Rules.Lengths.{cell_count, most_points, offset_count}
 use Rattle.course.specs.Rules.Counting.{digit}
 use Rattle.course.specs.Grader.Index.{listed, start, offsets_of, index_of}
 use Rattle.course.specs.Rules.Rect.{Rect, rect_of, holds, holds_of, needed}
-use Rattle.course.specs.declared.index.Rect.{Rect as CodeRect}
+use Rattle.course.specs.declared.rect.Rect.{Rect as CodeRect}
 
 -- the code's struct as the definitions' own
 abbrev pub rect_as : CodeRect → Rect
@@ -75,6 +75,15 @@ pub record Small (r : Rect) : Type 0 where
   pub right : r.x1 ≤ 66
   pub top : r.y1 ≤ 66
 
+-- whether the builder answers that the list is too short, and the length needed, which it answers either way
+abbrev pub is_short : Result ℕ ℕ → Bool
+is_short (Ok n) = false
+is_short (Err n) = true
+
+abbrev pub length_needed : Result ℕ ℕ → ℕ
+length_needed (Ok n) = n
+length_needed (Err n) = n
+
 -- the columns after the builder: where the list is too short (cause 3), as before; else the index, and what stood past it
 pub record Built (tiles : List Float) (n : ℕ) (o l o' l' : List ℕ) (short : Bool) (need : ℕ) : Type 0 where
   pub length-needed : need ≡ needed tiles n
@@ -103,16 +112,15 @@ pub record Packs (v : Float) (r : Rect) : Type 0 where
   pub number : T (not (is_nan v))
   pub same : rect_in v ≡ r
 
--- entry i is there and can be read
-pub record Readable (rects : List Float) (i : ℕ) : Type 0 where
-  pub room : i < length rects
-  pub number : T (not (is_nan (slice_index_or rects i nan)))
+-- v packs a rectangle within the grid
+pub record Packed (v : Float) : Type 0 where
+  pub number : T (not (is_nan v))
+  pub small : Small (rect_in v)
 
--- the first n entries pack rectangles within the grid
-pub record RectsIn (rects : List Float) (n : ℕ) : Type 0 where
-  pub few : n ≤ most_points
-  pub each : (i : ℕ) → i < n → Readable rects i
-  pub small : (i : ℕ) → i < n → Small (rect_in (slice_index_or rects i nan))
+-- each entry packs a rectangle within the grid
+pub record RectsIn (rects : List Float) : Type 0 where
+  pub few : length rects ≤ most_points
+  pub each : (i : ℕ) → i < length rects → Packed (slice_index_or rects i nan)
 
 -- the rectangles of the tiles below i are packed, and the entries from n on are as before
 pub record RectsPacked (tiles : List Float) (n i : ℕ) (rects rects' : List Float) : Type 0 where

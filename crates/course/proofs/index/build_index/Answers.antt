@@ -1,26 +1,31 @@
 -- `course::index::build_index` meets its contract. Assumes nothing.
-use Rattle.std.proofs.Common.{sym, ◌∙◌, arith, length-take-le}
-use Rattle.course.specs.Rules.Lengths.{offset_count}
-use Rattle.course.proofs.CourseRects.{built-short}
-use Rattle.course.proofs.PackedRects.{rects-in, needed-packed, packed-laid}
+use Rattle.std.proofs.Common.{◌≡◌, ℕ, take, length, sym, ap, ◌∙◌, arith, length-take-le}
+use Rattle.course.specs.Rules.Lengths.{cell_count}
+use Rattle.course.specs.Grader.Index.{start, offsets_of, index_of}
+use Rattle.course.specs.Steps.Index.{held_in, RectsPacked}
+use Rattle.course.proofs.PackedRects.{front-packed, rects-in, needed-packed, packed-laid}
 use Rattle.course.proofs.index.build_index.Goals as goal
+use Rattle.course.proofs.index.build_index.Goals.{Else-list-need}
 
-pub returns-then-list-need : goal.returns-then-list-need
-returns-then-list-need c =
-    let e = c.total-need.ensures in
-    record { built = built-short _ e.value (omega (arith, c.if-list-need.true, e.value)); rects_unchanged = e.rects_packed.past }
+-- the part that is read: its entries are packed, and it has one for each tile
+front : (c : Else-list-need) →
+    let r = take c.args.n c.total-need.new.rects in RectsPacked c.args.tiles.now c.args.n c.args.n r r × (length r ≡ c.args.n)
+front c =
+    let t = c.total-need.ensures.rects_packed in
+    (front-packed _ _ c.requires.n_in_bounds.0 t, length-take-le c.args.n c.total-need.new.rects (omega (arith, t.same, c.requires.n_in_bounds.0)))
 
-pub slice_bounds-lay_index-end-2 : goal.slice_bounds-lay_index-end-2
-slice_bounds-lay_index-end-2 c = sym (length-take-le offset_count c.args.offsets.now c.requires.n_in_bounds.1)
+pub lay_index-requires-clause-rects_in : goal.lay_index-requires-clause-rects_in
+lay_index-requires-clause-rects_in c = let f = front (goal.at.lay_index-requires-clause-rects_in c).Else-list-need in rects-in _ _ c.requires.n_le_most_points.0 f.1 f.0
 
-pub slice_bounds-lay_index-end-4 : goal.slice_bounds-lay_index-end-4
-slice_bounds-lay_index-end-4 c = sym (length-take-le c.total-need.result c.args.list.now (omega (arith, c.if-list-need.false)))
+pub lay_index-requires-clause-l_len : goal.lay_index-requires-clause-l_len
+lay_index-requires-clause-l_len c =
+    let f = front (goal.at.lay_index-requires-clause-l_len c).Else-list-need in
+    length-take-le c.total-need.result c.args.list.now (omega (arith, c.if-list-need.false)) ∙ c.total-need.ensures.value ∙ needed-packed f.0
+    ∙ ap (λ (z : ℕ). start (held_in (take c.args.n c.total-need.new.rects)) z cell_count) (sym f.1)
 
-pub lay_index-requires : goal.lay_index-requires
-lay_index-requires c =
-    let long = length-take-le c.total-need.result c.args.list.now (omega (arith, c.if-list-need.false)) in
-    let offsets = length-take-le offset_count c.args.offsets.now c.requires.n_in_bounds.1 in
-    record { rects_in = rects-in _ _ c.requires.n_le_most_points.0 c.requires.n_in_bounds.0 c.total-need.ensures.rects_packed; o_len = offsets; l_len = long ∙ c.total-need.ensures.value ∙ needed-packed c.total-need.ensures.rects_packed }
-
-pub returns : goal.returns
-returns c = record { built = packed-laid c.total-need.ensures.rects_packed c.total-need.ensures.value c.if-list-need.false c.lay_index.ensures.o_after c.lay_index.ensures.l_after; rects_unchanged = c.total-need.ensures.rects_packed.past }
+pub returns-clause-built : goal.returns-clause-built
+returns-clause-built c =
+    let f = front (goal.at.returns-clause-built c).Else-list-need in
+    let h = held_in (take c.args.n c.total-need.new.rects) in
+    packed-laid f.0 c.total-need.ensures.value c.if-list-need.false
+    (c.lay_index.ensures.o_after ∙ ap (λ (z : ℕ). offsets_of h z cell_count) f.1) (c.lay_index.ensures.l_after ∙ ap (λ (z : ℕ). index_of h z cell_count) f.1)

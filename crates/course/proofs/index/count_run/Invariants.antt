@@ -1,10 +1,7 @@
 -- `course::index::count_run` meets its contract. Assumes nothing.
-use Rattle.std.proofs.Common.{◌-◌, ◌≤◌, max}
+use Rattle.std.proofs.Common.{◌≤◌, max}
 use Rattle.course.specs.Steps.Index.{RunCounted}
 use Rattle.course.proofs.index.count_run.Given as goal
 
 abbrev pub invariant-loop-k : goal.invariant-loop-k
-invariant-loop-k l = RunCounted l.initial.o l.o l.a l.k × (l.a ≤ l.k) × (l.k ≤ max l.a l.b)
-
-abbrev pub decreases-loop-k : goal.decreases-loop-k
-decreases-loop-k l = l.b - l.k
+invariant-loop-k l = RunCounted l.initial.o l.o l.a l.k × (l.k ≤ max l.a l.b)

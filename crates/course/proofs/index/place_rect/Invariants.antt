@@ -1,12 +1,9 @@
 -- `course::index::place_rect` meets its contract. Assumes nothing.
 use Rattle.course.specs.Rules.Constants.{grid_dim}
-use Rattle.std.proofs.Common.{◌-◌, ◌*◌, ◌≤◌}
-use Rattle.course.proofs.CourseRects.{rect}
+use Rattle.course.specs.Steps.Index.{rect_as}
+use Rattle.std.proofs.Common.{◌*◌, ◌≤◌}
 use Rattle.course.proofs.RowSweeps.{PlacedTo}
 use Rattle.course.proofs.index.place_rect.Given as goal
 
 abbrev pub invariant-loop-y : goal.invariant-loop-y
-invariant-loop-y l = PlacedTo l.initial.o l.initial.l l.o l.l l.id (rect l.x0 l.x1 l.initial.y l.y1) (l.y * grid_dim) × (l.initial.y ≤ l.y) × (l.y ≤ grid_dim)
-
-abbrev pub decreases-loop-y : goal.decreases-loop-y
-decreases-loop-y l = grid_dim - l.y
+invariant-loop-y l = PlacedTo l.initial.o l.initial.l l.o l.l l.id (rect_as l.r) (l.y * grid_dim) × (l.y ≤ grid_dim)

@@ -1,10 +1,7 @@
 -- `course::index::place_run` meets its contract. Assumes nothing.
-use Rattle.std.proofs.Common.{◌-◌, ◌≤◌, max}
+use Rattle.std.proofs.Common.{◌≤◌, max}
 use Rattle.course.specs.Steps.Index.{RunPlaced}
 use Rattle.course.proofs.index.place_run.Given as goal
 
 abbrev pub invariant-loop-k : goal.invariant-loop-k
-invariant-loop-k l = RunPlaced l.initial.o l.initial.l l.o l.l l.id l.a l.k × (l.a ≤ l.k) × (l.k ≤ max l.a l.b)
-
-abbrev pub decreases-loop-k : goal.decreases-loop-k
-decreases-loop-k l = l.b - l.k
+invariant-loop-k l = RunPlaced l.initial.o l.initial.l l.o l.l l.id l.a l.k × (l.k ≤ max l.a l.b)

@@ -1,11 +1,8 @@
 -- `course::index::total` meets its contract. Assumes nothing.
 use Rattle.course.specs.Steps.Index.{RectsPacked}
-use Rattle.std.proofs.Common.{◌≡◌, ◌-◌, ◌≤◌}
+use Rattle.std.proofs.Common.{◌≡◌}
 use Rattle.course.specs.Rules.Rect.{needed}
 use Rattle.course.proofs.index.total.Given as goal
 
 abbrev pub invariant-loop-i : goal.invariant-loop-i
-invariant-loop-i l = (l.i ≤ l.n) × (l.sum ≡ needed l.tiles l.i) × RectsPacked l.tiles l.n l.i l.initial.rects l.rects
-
-abbrev pub decreases-loop-i : goal.decreases-loop-i
-decreases-loop-i l = l.n - l.i
+invariant-loop-i l = (l.sum ≡ needed l.tiles l.i) × RectsPacked l.tiles l.n l.i l.initial.rects l.rects

@@ -1,0 +1,77 @@
+// A tile's rectangle of cells (document 01, "Tiles and index").
+ghost use Rattle.std.specs.Prelude.{◌≤◌};
+
+use crate::cell::cell_of;
+use crate::numeric::{greatest, least};
+
+// A rectangle of the grid's 67 rows and columns: its first and last column and row.
+#[derive(Clone, Copy)]
+pub(crate) struct Rect {
+    pub x0: usize,
+    pub x1: usize,
+    pub y0: usize,
+    pub y1: usize,
+    ghost left: { x0 ≤ 66 },
+    ghost bottom: { y0 ≤ 66 },
+    ghost right: { x1 ≤ 66 },
+    ghost top: { y1 ≤ 66 },
+}
+
+impl Rect {
+    ghost use Rattle.std.specs.Prelude.{◌≡◌, ◌+◌, ◌*◌, ◌<◌, length};
+    ghost use Rattle.course.specs.Rules.Lengths.{most_points};
+    ghost use Rattle.course.specs.Rules.Rect.{rect_of, area_of};
+    ghost use Rattle.course.specs.Steps.Index.{rect_as, Packs, Packed, rect_in};
+
+    // The cells from the least to the greatest coordinates of tile i.
+    pub(crate) fn of_tile(tiles: &[f64], i: usize) -> Rect
+        requires { (i < most_points) × (i * 8 + 8 ≤ length tiles.now) }
+        ensures { rect_as result ≡ rect_of tiles.now i }
+    {
+        let q = i * 8;
+        let xa = tiles[q];
+        let ya = tiles[q + 1];
+        let xb = tiles[q + 2];
+        let yb = tiles[q + 3];
+        let xc = tiles[q + 4];
+        let yc = tiles[q + 5];
+        let xd = tiles[q + 6];
+        let yd = tiles[q + 7];
+        let x0 = cell_of(least(xa, xb, xc, xd));
+        let x1 = cell_of(greatest(xa, xb, xc, xd));
+        let y0 = cell_of(least(ya, yb, yc, yd));
+        let y1 = cell_of(greatest(ya, yb, yc, yd));
+        Rect { x0, x1, y0, y1 }
+    }
+
+    // The number of its cells.
+    #[tactic(auto, unfolding(crate::specs::Rules::Rect::area_of))]
+    pub(crate) fn area(self) -> usize
+        ensures { result ≡ area_of (rect_as self) }
+    {
+        (self.x1 + 1).saturating_sub(self.x0) * (self.y1 + 1).saturating_sub(self.y0)
+    }
+
+    // The rectangle as one number, eight bits for each side.
+    // Kept in a number's bits: the grader has no memory of its own, and the scratch it is lent is a column of numbers.
+    pub(crate) fn pack(self) -> f64
+        ensures { Packs result (rect_as self) }
+    {
+        f64::from_bits((self.x0 + self.x1 * 256 + self.y0 * 65536 + self.y1 * 16777216) as u64)
+    }
+
+    // The rectangle that a number packs.
+    #[tactic(auto, unfolding(crate::specs::Steps::Index::rect_in))]
+    pub(crate) fn unpack(v: f64) -> Rect
+        requires { Packed v }
+        ensures { rect_as result ≡ rect_in v }
+    {
+        let b = f64::to_bits(v) as usize;
+        Rect {
+            x0: b % 256,
+            x1: b / 256 % 256,
+            y0: b / 65536 % 256,
+            y1: b / 16777216 % 256,
+        }
+    }
+}
