@@ -12,7 +12,8 @@ ghost use Rattle.certificate.specs.Grader.Replay.{room_for, replay, replay_of};
 ghost use Rattle.course.specs.Grader.Outcome.{lent};
 
 use crate::{answer, call};
-use course::points::Laid;
+use course::cause::Cause;
+use course::points::{LaidCourse, LayError};
 use course::{lay, points};
 use run::sheet::SheetAnswer;
 use run::start::StartAnswer;
@@ -31,7 +32,7 @@ pub const ANSWER_NUMBERS: usize = 12;
 // The answers of lay and start, and the sheet after the last call.
 #[derive(Clone, Copy)]
 pub struct Replayed {
-    pub laid: Laid,
+    pub laid: Result<LaidCourse, LayError>,
     pub start: StartAnswer,
     pub sheet: SheetAnswer,
 }
@@ -237,7 +238,7 @@ pub fn replay(
 {
     if !room_for(many, calls.len(), given.len(), words.len(), numbers.len()) {
         return Replayed {
-            laid: Laid::Refused(2),
+            laid: Err(LayError::Refused(Cause::Length)),
             start: StartAnswer::Refused(2),
             sheet: SheetAnswer::Refused(4),
         };

@@ -12,7 +12,7 @@ ghost use Rattle.course.specs.Steps.Lay.{InFront};
 
 use crate::checkpoints::Checkpoint;
 use crate::constants::{LAID_LENGTH, MAX_ATTEMPTS, TAU, TRACK_RAD};
-use crate::points::Laid;
+use crate::points::{LaidCourse, LayError};
 use crate::tiles::TrackPoint;
 use crate::{checkpoints, columns, points, track, trig, walk};
 use rng::SplitMix64;
@@ -189,16 +189,14 @@ pub fn lay_attempts(
     tiles: &mut [f64],
     offsets: &mut [u32],
     list: &mut [u32],
-) -> Laid
+) -> Result<LaidCourse, LayError>
     ensures { outcome result (lent alpha.new beta.new x.new y.new tiles.new
         offsets.new list.new)
         ≡ lay_call attempts seed
         (lent alpha.old beta.old x.old y.old tiles.old
         offsets.old list.old) }
 {
-    if !points::roomy(LAID_LENGTH, alpha, beta, x, y, tiles, offsets) {
-        return Laid::Refused(2);
-    }
+    points::room_check(LAID_LENGTH, alpha, beta, x, y, tiles, offsets)?;
     let c = generate_with_attempts(attempts, seed, alpha, beta, x, y);
     points::finish(
         LAID_LENGTH,
@@ -224,7 +222,7 @@ pub fn lay(
     tiles: &mut [f64],
     offsets: &mut [u32],
     list: &mut [u32],
-) -> Laid
+) -> Result<LaidCourse, LayError>
     ensures { outcome result (lent alpha.new beta.new x.new y.new tiles.new
         offsets.new list.new)
         ≡ lay_call max_attempts seed
@@ -245,16 +243,14 @@ pub fn lay_checkpoints(
     tiles: &mut [f64],
     offsets: &mut [u32],
     list: &mut [u32],
-) -> Laid
+) -> Result<LaidCourse, LayError>
     ensures { outcome result (lent alpha.new beta.new x.new y.new tiles.new
         offsets.new list.new)
         ≡ lay_on_call cs
         (lent alpha.old beta.old x.old y.old tiles.old
         offsets.old list.old) }
 {
-    if !points::roomy(LAID_LENGTH, alpha, beta, x, y, tiles, offsets) {
-        return Laid::Refused(2);
-    }
+    points::room_check(LAID_LENGTH, alpha, beta, x, y, tiles, offsets)?;
     let c = generate_on(cs, alpha, beta, x, y);
     points::finish(
         LAID_LENGTH,

@@ -9,8 +9,8 @@
 
 ghost use Rattle.std.specs.Prelude.{◌≤◌};
 
-use course::curbs::CurbAnswer;
-use course::points::Laid;
+use course::cause::Cause;
+use course::points::{LaidCourse, LayError};
 use course::{curbs, index, points};
 use std::io;
 use std::io::Write;
@@ -131,7 +131,7 @@ fn call_points(
     tiles: &mut [f64],
     offsets: &mut [u32],
     list: &mut [u32],
-) -> Laid {
+) -> Result<LaidCourse, LayError> {
     points::points(
         front::floats(pbeta, vectors::word(rest, 2)),
         front::floats(px, vectors::word(rest, 3)),
@@ -147,9 +147,9 @@ fn call_points(
     )
 }
 
-fn line_laid<W: Write>(out: &mut W, answer: Laid) -> io::Result<()> {
+fn line_laid<W: Write>(out: &mut W, answer: Result<LaidCourse, LayError>) -> io::Result<()> {
     match answer {
-        Laid::Course(c) => {
+        Ok(c) => {
             vectors::lines_course(
                 out,
                 c.n,
@@ -160,8 +160,8 @@ fn line_laid<W: Write>(out: &mut W, answer: Laid) -> io::Result<()> {
                 c.first.y,
             )
         }
-        Laid::Short(need) => vectors::lines_short(out, need),
-        Laid::Refused(cause) => vectors::line_refused(out, cause),
+        Err(LayError::Short(need)) => vectors::lines_short(out, need),
+        Err(LayError::Refused(cause)) => vectors::line_refused(out, cause.number()),
     }
 }
 
@@ -197,7 +197,7 @@ fn call_curbs(
     py: &[f64],
     quads: &mut [f64],
     white: &mut [u8],
-) -> CurbAnswer {
+) -> Result<u32, Cause> {
     curbs::curbs(
         front::floats(pbeta, vectors::word(rest, 2)),
         front::floats(px, vectors::word(rest, 3)),
@@ -208,10 +208,10 @@ fn call_curbs(
     )
 }
 
-fn line_curbs<W: Write>(out: &mut W, answer: CurbAnswer) -> io::Result<()> {
+fn line_curbs<W: Write>(out: &mut W, answer: Result<u32, Cause>) -> io::Result<()> {
     match answer {
-        CurbAnswer::Count(n) => vectors::line_u64(out, n as u64),
-        CurbAnswer::Refused(cause) => vectors::line_refused(out, cause),
+        Ok(n) => vectors::line_u64(out, n as u64),
+        Err(cause) => vectors::line_refused(out, cause.number()),
     }
 }
 

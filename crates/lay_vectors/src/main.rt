@@ -11,7 +11,7 @@ ghost use Rattle.std.specs.Prelude.{◌≤◌};
 
 use course::checkpoints::Checkpoint;
 use course::lay;
-use course::points::Laid;
+use course::points::{LaidCourse, LayError};
 use std::io;
 use std::io::Write;
 use vectors::front;
@@ -74,7 +74,7 @@ fn call(
     tiles: &mut [f64],
     offsets: &mut [u32],
     list: &mut [u32],
-) -> Laid {
+) -> Result<LaidCourse, LayError> {
     let a = vectors::word(rest, 8);
     let b = vectors::word(rest, 9);
     match vectors::word(rest, 0) {
@@ -94,7 +94,7 @@ fn call_on_parts(
     tiles: &mut [f64],
     offsets: &mut [u32],
     list: &mut [u32],
-) -> Laid {
+) -> Result<LaidCourse, LayError> {
     call(
         rest,
         front::floats_mut(alpha, vectors::word(rest, 1)),
@@ -107,9 +107,9 @@ fn call_on_parts(
     )
 }
 
-fn lines_laid<W: Write>(out: &mut W, answer: Laid) -> io::Result<()> {
+fn lines_laid<W: Write>(out: &mut W, answer: Result<LaidCourse, LayError>) -> io::Result<()> {
     match answer {
-        Laid::Course(c) => {
+        Ok(c) => {
             vectors::lines_course(
                 out,
                 c.n,
@@ -120,8 +120,8 @@ fn lines_laid<W: Write>(out: &mut W, answer: Laid) -> io::Result<()> {
                 c.first.y,
             )
         }
-        Laid::Short(need) => vectors::lines_short(out, need),
-        Laid::Refused(cause) => vectors::line_refused(out, cause),
+        Err(LayError::Short(need)) => vectors::lines_short(out, need),
+        Err(LayError::Refused(cause)) => vectors::line_refused(out, cause.number()),
     }
 }
 

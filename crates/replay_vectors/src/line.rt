@@ -2,7 +2,7 @@
 ghost use Rattle.std.specs.Prelude.{◌≤◌};
 
 use certificate::replay::{ANSWER_NUMBERS, ANSWER_WORDS};
-use course::points::Laid;
+use course::points::{LaidCourse, LayError};
 use run::sheet::{RunSheet, SheetAnswer};
 use run::start::StartAnswer;
 use std::io;
@@ -16,9 +16,9 @@ const SETTLED: u32 = 1;
 const REFUSED: u32 = 2;
 
 // The answer of lay.
-pub fn laid<W: Write>(out: &mut W, answer: Laid) -> io::Result<()> {
+pub fn laid<W: Write>(out: &mut W, answer: Result<LaidCourse, LayError>) -> io::Result<()> {
     match answer {
-        Laid::Course(c) => {
+        Ok(c) => {
             vectors::lines_course(
                 out,
                 c.n,
@@ -29,8 +29,8 @@ pub fn laid<W: Write>(out: &mut W, answer: Laid) -> io::Result<()> {
                 c.first.y,
             )
         }
-        Laid::Short(need) => vectors::lines_short(out, need),
-        Laid::Refused(cause) => vectors::line_refused(out, cause),
+        Err(LayError::Short(need)) => vectors::lines_short(out, need),
+        Err(LayError::Refused(cause)) => vectors::line_refused(out, cause.number()),
     }
 }
 

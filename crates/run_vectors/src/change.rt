@@ -5,7 +5,7 @@ ghost use Rattle.course.specs.Rules.Lengths.{most_points};
 use crate::read;
 use course::constants::{LAID_LENGTH, MOST_POINTS};
 use course::points;
-use course::points::Laid;
+use course::points::{LaidCourse, LayError};
 use std::io;
 use std::io::Write;
 
@@ -60,7 +60,7 @@ fn call_points(
     tiles: &mut [f64],
     offsets: &mut [u32],
     list: &mut [u32],
-) -> Laid {
+) -> Result<LaidCourse, LayError> {
     let mut alpha = [0.0f64; LAID_LENGTH];
     let mut beta = [0.0f64; LAID_LENGTH];
     let mut x = [0.0f64; LAID_LENGTH];
@@ -80,7 +80,12 @@ fn call_points(
     )
 }
 
-fn put_course(rest: &[u8], tiles: &mut [f64], offsets: &mut [u32], list: &mut [u32]) -> Laid {
+fn put_course(
+    rest: &[u8],
+    tiles: &mut [f64],
+    offsets: &mut [u32],
+    list: &mut [u32],
+) -> Result<LaidCourse, LayError> {
     let mut pbeta = [0.0f64; MOST_POINTS];
     let mut px = [0.0f64; MOST_POINTS];
     let mut py = [0.0f64; MOST_POINTS];
@@ -91,17 +96,17 @@ fn put_course(rest: &[u8], tiles: &mut [f64], offsets: &mut [u32], list: &mut [u
 }
 
 // The tile count and the index list's length, or the number of the cause.
-fn line_laid<W: Write>(out: &mut W, answer: Laid) -> io::Result<()> {
+fn line_laid<W: Write>(out: &mut W, answer: Result<LaidCourse, LayError>) -> io::Result<()> {
     match answer {
-        Laid::Course(c) => {
+        Ok(c) => {
             vectors::line_u64(out, c.n as u64)?;
             vectors::line_u64(out, c.entries as u64)
         }
-        Laid::Short(need) => {
+        Err(LayError::Short(need)) => {
             vectors::line_refused(out, 3)?;
             vectors::line_u64(out, need as u64)
         }
-        Laid::Refused(cause) => vectors::line_refused(out, cause),
+        Err(LayError::Refused(cause)) => vectors::line_refused(out, cause.number()),
     }
 }
 

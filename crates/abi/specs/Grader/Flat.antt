@@ -7,8 +7,8 @@ use Rattle.course.specs.Grader.Curbs.{curb_cause_of, curb_count_of}
 use Rattle.course.specs.Grader.Angle.{angle_cause_of, value_of}
 use Rattle.course.specs.declared.cause.Cause.{Cause}
 use Rattle.course.specs.declared.checkpoints.Checkpoint.{Checkpoint}
-use Rattle.course.specs.declared.points.Laid.{Laid}
-use Rattle.course.specs.declared.curbs.CurbAnswer.{CurbAnswer}
+use Rattle.course.specs.declared.points.LaidCourse.{LaidCourse}
+use Rattle.course.specs.declared.points.LayError.{LayError}
 use Rattle.run.specs.Grader.State.{State}
 use Rattle.run.specs.Grader.Start.{Begun, start_cause_of, start_values_of}
 use Rattle.run.specs.Grader.Drive.{drive_cause_of}
@@ -42,7 +42,7 @@ use Rattle.abi.specs.declared.flat.Draw.{Draw}
 
 -- ---- courses and numbers
 
-unfoldable pub flat_laid : Laid → FlatLaid
+unfoldable pub flat_laid : Result LaidCourse LayError → FlatLaid
 flat_laid a =
     record {
       cause = laid_cause_of a;
@@ -54,7 +54,7 @@ flat_laid a =
       y = (laid_values_of a).first.y;
     }
 
-unfoldable pub flat_curbs : CurbAnswer → FlatCurbs
+unfoldable pub flat_curbs : Result ℕ Cause → FlatCurbs
 flat_curbs a = record { cause = curb_cause_of a; count = curb_count_of a }
 
 unfoldable pub flat_angle : Result Float Cause → FlatAngle
@@ -170,7 +170,7 @@ flat_saved_for a = record { cause = saved_cause_of a; n = (saved_for_of a).n; se
 
 -- ---- a whole replay: its three answers, and the columns that it is lent
 
-unfoldable pub flat_answers : Laid → StartAnswer → SheetAnswer → FlatReplayed
+unfoldable pub flat_answers : Result LaidCourse LayError → StartAnswer → SheetAnswer → FlatReplayed
 flat_answers l b s =
     record {
       laid = flat_laid l;

@@ -3,4 +3,4 @@ use Rattle.abi.proofs.FlatLaws.{answers-whole}
 use Rattle.abi.proofs.flat.replayed.Goals as goal
 
 pub returns : goal.returns
-returns c = answers-whole _ _ _ _ _ _ _ c.laid.ensures c.start_cause.ensures c.start_values-v.ensures c.sheet.ensures
+returns c = answers-whole _ _ _ _ _ _ _ c.from.ensures c.start_cause.ensures c.start_values-v.ensures c.sheet.ensures

@@ -1,10 +1,10 @@
 -- `course::lay::lay_checkpoints` meets its contract: where the columns have room, `finish` is called when all is ready for it. Assumes nothing.
-use Rattle.std.proofs.Common.{sym, ◌∙◌}
+use Rattle.std.proofs.lemmas.Result.{err_from_is_err_and}
 use Rattle.course.specs.Grader.Outcome.{lent}
 use Rattle.course.specs.Rules.Lay.{course_on}
 use Rattle.course.specs.Grader.LayCall.{lay_on_call}
 use Rattle.course.proofs.CourseSizes.{on-sized}
-use Rattle.course.proofs.LaidColumns.{room}
+use Rattle.course.proofs.LaidColumns.{check-passed, room}
 use Rattle.course.proofs.LayLaws.{refused-short, Ready, finish-ready, laid}
 use Rattle.course.proofs.lay.lay_checkpoints.Goals as goal
 use Rattle.course.proofs.lay.lay_checkpoints.Goals.{After-generate_on-c}
@@ -17,7 +17,7 @@ ready : (c : After-generate_on-c) →
 ready c =
     let g = c.generate_on-c in
     record {
-      room = sym c.roomy.ensures ∙ c.if-not-roomy.false;
+      room = check-passed _ _ c.in_ok-room_check.ensures;
       front = g.ensures.in_front;
       ring = g.ensures.fallback_value;
       alpha = g.auto.alpha;
@@ -26,13 +26,15 @@ ready c =
       y = g.auto.y;
     }
 
-pub returns-then-not-roomy : goal.returns-then-not-roomy
+pub returns-in_err-room_check : goal.returns-in_err-room_check
 unfolding lay_on_call
-returns-then-not-roomy c = refused-short _ _ (sym c.roomy.ensures ∙ c.if-not-roomy.true)
+returns-in_err-room_check c =
+    let p = err_from_is_err_and c.from_residual.result c.from_residual.ensures.1 in
+    refused-short _ (rw (p.1, p.2)) c.in_err-room_check.ensures
 
 pub generate_on-c-requires : goal.generate_on-c-requires
 generate_on-c-requires c =
-    let r = room (sym c.roomy.ensures ∙ c.if-not-roomy.false) in
+    let r = room (check-passed _ _ c.in_ok-room_check.ensures) in
     record { laid_length_in_bounds = r.alpha; laid_length_in_bounds_2 = r.beta; laid_length_in_bounds_3 = r.x; laid_length_in_bounds_4 = r.y }
 
 pub finish-requires : goal.finish-requires
