@@ -9,8 +9,8 @@ use Rattle.course.specs.Grader.LayCall.{lay_on_call}
 use Rattle.course.specs.Grader.Curbs.{Edged, edged}
 use Rattle.course.specs.declared.cause.Cause.{Cause}
 use Rattle.course.specs.declared.checkpoints.Checkpoint.{Checkpoint}
-use Rattle.course.specs.declared.points.Laid.{Laid}
-use Rattle.course.specs.declared.curbs.CurbAnswer.{CurbAnswer}
+use Rattle.course.specs.declared.points.LaidCourse.{LaidCourse}
+use Rattle.course.specs.declared.points.LayError.{LayError}
 use Rattle.run.specs.Grader.State.{view}
 use Rattle.run.specs.Grader.Drive.{DroveParts, drove_parts, drive_parts_of}
 use Rattle.course.specs.Grader.Cause.{cause_number}
@@ -41,15 +41,15 @@ use Rattle.abi.specs.declared.flat.FlatReplayed.{FlatReplayed}
 
 -- ---- courses
 
-pub laid-whole : (f : FlatLaid) (a : Laid) (l : CourseColumns) (o : Outcome) → f ≡ flat_laid a → outcome a l ≡ o → (f ≡ flat_laid o.answer) × (l ≡ o.lent)
+pub laid-whole : (f : FlatLaid) (a : Result LaidCourse LayError) (l : CourseColumns) (o : Outcome) → f ≡ flat_laid a → outcome a l ≡ o → (f ≡ flat_laid o.answer) × (l ≡ o.lent)
 laid-whole f a l o e p = (e ∙ ap (λ (q : Outcome). flat_laid q.answer) p, ap (λ (q : Outcome). q.lent) p)
 
 -- the same where the checkpoints are given
-pub laid-on-whole : (f : FlatLaid) (a : Laid) (l k : CourseColumns) (cs ds : List Checkpoint) → f ≡ flat_laid a → outcome a l ≡ lay_on_call cs k → cs ≡ ds
+pub laid-on-whole : (f : FlatLaid) (a : Result LaidCourse LayError) (l k : CourseColumns) (cs ds : List Checkpoint) → f ≡ flat_laid a → outcome a l ≡ lay_on_call cs k → cs ≡ ds
     → (f ≡ flat_laid (lay_on_call ds k).answer) × (l ≡ (lay_on_call ds k).lent)
 laid-on-whole f a l k cs ds e p q = laid-whole f a l (lay_on_call ds k) e (p ∙ ap (λ (z : List Checkpoint). lay_on_call z k) q)
 
-pub curbs-whole : (f : FlatCurbs) (a : CurbAnswer) (q : List Float) (w : List ℕ) (o : Edged) → f ≡ flat_curbs a → edged a q w ≡ o
+pub curbs-whole : (f : FlatCurbs) (a : Result ℕ Cause) (q : List Float) (w : List ℕ) (o : Edged) → f ≡ flat_curbs a → edged a q w ≡ o
     → (f ≡ flat_curbs o.answer) × ((q ≡ o.quads) × (w ≡ o.white))
 curbs-whole f a q w o e p =
     (e ∙ ap (λ (s : Edged). flat_curbs s.answer) p, (ap (λ (s : Edged). s.quads) p, ap (λ (s : Edged). s.white) p))
@@ -111,7 +111,7 @@ restored-whole a r d k e p = (λ i. record { cause = e i; run = r }) ∙ ap flat
 
 -- ---- a whole replay
 
-pub replayed-whole : (f : FlatReplayed) (a : Laid) (b : Result StartValues Cause) (s : Result RunSheet Cause) (l : CourseColumns) (ws : List ℕ) (ns : List Float) (q : Replay)
+pub replayed-whole : (f : FlatReplayed) (a : Result LaidCourse LayError) (b : Result StartValues Cause) (s : Result RunSheet Cause) (l : CourseColumns) (ws : List ℕ) (ns : List Float) (q : Replay)
     → f ≡ flat_answers a b s → replay a b s l ws ns ≡ q → (f ≡ flat_replayed q) × (replay_columns l ws ns ≡ columns_after q)
 unfolding flat_replayed columns_after
 replayed-whole f a b s l ws ns q e p =

@@ -7,7 +7,6 @@ ghost use Rattle.course.specs.Grader.Points.{points_call};
 ghost use Rattle.course.specs.Grader.Curbs.{curbs_call};
 ghost use Rattle.abi.specs.Grader.Flat.{flat_laid, flat_curbs};
 
-use crate::flat;
 use crate::flat::{FlatCurbs, FlatLaid};
 use course::{curbs, lay, points};
 
@@ -33,7 +32,7 @@ pub extern "C" fn grader_lay(
         (lent alpha.old beta.old x.old y.old tiles.old
         offsets.old list.old)).lent }
 {
-    flat::laid(lay::lay(seed, alpha, beta, x, y, tiles, offsets, list))
+    FlatLaid::from(lay::lay(seed, alpha, beta, x, y, tiles, offsets, list))
 }
 
 // The course of the given points in the lent columns.
@@ -61,7 +60,7 @@ pub extern "C" fn grader_points(
         (lent alpha.old beta.old x.old y.old tiles.old
         offsets.old list.old)).lent }
 {
-    flat::laid(points::points(
+    FlatLaid::from(points::points(
         given_beta, given_x, given_y, count, alpha, beta, x, y, tiles, offsets, list,
     ))
 }
@@ -86,5 +85,5 @@ pub extern "C" fn grader_curbs(
         ≡ (curbs_call beta.now x.now y.now count quads.old
         white.old).white }
 {
-    flat::curbs(curbs::curbs(beta, x, y, count, quads, white))
+    FlatCurbs::from(curbs::curbs(beta, x, y, count, quads, white))
 }

@@ -9,8 +9,7 @@ ghost use Rattle.abi.specs.Grader.Flat.{flat_laid, flat_curbs, flat_started, fla
 
 use certificate::replay::Replayed;
 use course::cause::Cause;
-use course::curbs::CurbAnswer;
-use course::points::Laid;
+use course::points::{LaidCourse, LayError};
 use course::{cause, points};
 use run::restore::{RestoreAnswer, SavedCourse};
 use run::sheet::RunSheet;
@@ -173,30 +172,36 @@ pub struct Draw {
     pub state: u64,
 }
 
-// The answer of lay or points.
-pub(crate) fn laid(answer: Laid) -> FlatLaid
-    ensures { result ≡ flat_laid answer }
-{
-    let v = points::laid_values(answer);
-    let first = v.first;
-    FlatLaid {
-        cause: points::laid_cause(answer),
-        n: v.n,
-        entries: v.entries,
-        fallback: v.fallback,
-        beta: first.beta,
-        x: first.x,
-        y: first.y,
+impl From<Result<LaidCourse, LayError>> for FlatLaid {
+    ghost from_gives = { λ answer flat. flat ≡ flat_laid answer };
+
+    // The answer of lay or points.
+    #[tactic(auto, unfolding(crate::specs::Grader::Flat::flat_laid))]
+    fn from(answer: Result<LaidCourse, LayError>) -> FlatLaid {
+        let v = points::laid_values(answer);
+        let first = v.first;
+        FlatLaid {
+            cause: points::laid_cause(&answer),
+            n: v.n,
+            entries: v.entries,
+            fallback: v.fallback,
+            beta: first.beta,
+            x: first.x,
+            y: first.y,
+        }
     }
 }
 
-// The answer of curbs.
-pub(crate) fn curbs(answer: CurbAnswer) -> FlatCurbs
-    ensures { result ≡ flat_curbs answer }
-{
-    match answer {
-        CurbAnswer::Count(count) => FlatCurbs { cause: 0, count },
-        CurbAnswer::Refused(cause) => FlatCurbs { cause, count: 0 },
+impl From<Result<u32, Cause>> for FlatCurbs {
+    ghost from_gives = { λ answer flat. flat ≡ flat_curbs answer };
+
+    // The answer of curbs.
+    #[tactic(auto, unfolding(crate::specs::Grader::Flat::flat_curbs, course::specs::Grader::Curbs::curb_cause_of, course::specs::Grader::Curbs::curb_count_of))]
+    fn from(answer: Result<u32, Cause>) -> FlatCurbs {
+        FlatCurbs {
+            cause: cause::cause_number(&answer),
+            count: answer.unwrap_or(0),
+        }
     }
 }
 
@@ -315,7 +320,7 @@ impl From<Replayed> for FlatReplayed {
     fn from(r: Replayed) -> FlatReplayed {
         let v = start_values(r.start);
         FlatReplayed {
-            laid: laid(r.laid),
+            laid: FlatLaid::from(r.laid),
             start_cause: cause::cause_number(&r.start),
             start_count: v.count,
             start_lap: v.lap,

@@ -5,7 +5,6 @@ ghost use Rattle.course.specs.Grader.LayCall.{lay_call, lay_on_call};
 ghost use Rattle.run.specs.Rules.Overlap.{overlap_of};
 ghost use Rattle.abi.specs.Grader.Flat.{flat_laid, corners_from, pair_from, spot_from, checkpoints_from};
 
-use crate::flat;
 use crate::flat::{CheckpointList, Corner, FlatCheckpoint, FlatLaid, Quad};
 use course::checkpoints::Checkpoint;
 use course::lay;
@@ -34,7 +33,7 @@ pub extern "C" fn grader_lay_attempts(
         (lent alpha.old beta.old x.old y.old tiles.old
         offsets.old list.old)).lent }
 {
-    flat::laid(lay::lay_attempts(attempts, seed, alpha, beta, x, y, tiles, offsets, list))
+    FlatLaid::from(lay::lay_attempts(attempts, seed, alpha, beta, x, y, tiles, offsets, list))
 }
 
 // A checkpoint as the course has it.
@@ -82,7 +81,7 @@ pub extern "C" fn grader_lay_checkpoints(
 {
     let twelve = cs.checkpoints;
     let given = spots(twelve);
-    flat::laid(lay::lay_checkpoints(given, alpha, beta, x, y, tiles, offsets, list))
+    FlatLaid::from(lay::lay_checkpoints(given, alpha, beta, x, y, tiles, offsets, list))
 }
 
 // A corner as the contact has it: a pair.

@@ -9,13 +9,14 @@ use lib.ListN.{length, take, drop, replicate, length-append, length-replicate}
 use lib.Seq.{take_at}
 use lib.Ieee.{Float}
 use borrow.Author.Tests.{le-ltb}
+use Rattle.std.specs.Prelude.{Ok}
 use Rattle.course.specs.Rules.Arithmetic.{nought}
 use Rattle.course.specs.Rules.Lengths.{most_points, column_length, quad_numbers, cell_count, offset_count}
 use Rattle.course.specs.Rules.Tiles.{tiles_of}
 use Rattle.course.specs.Rules.Rect.{holds_of}
 use Rattle.course.specs.Grader.Index.{start}
 use Rattle.course.specs.Grader.Course.{from_points, cells_of}
-use Rattle.course.specs.Grader.Outcome.{CourseColumns, Outcome, outcome, filled, written, answered, lay_into, laid_figures, laid_answer, laid_cause_of, laid_values_of}
+use Rattle.course.specs.Grader.Outcome.{CourseColumns, Outcome, outcome, filled, written, answered, lay_into, laid_figures, laid_cause_of, laid_values_of}
 use Rattle.course.specs.declared.tiles.TrackPoint.{TrackPoint}
 use Rattle.course.proofs.LengthLaws.{points-fit}
 use Rattle.course.proofs.CourseTiles.{tiles-long}
@@ -65,18 +66,18 @@ same-columns p q r = λ i. columns (p i) (q i) (r i)
 -- ---- laid in columns of m points, with a list that is long enough
 module _ (m : ℕ) (fallback : Bool) (c : List TrackPoint) (l : CourseColumns) (fits : ltb (length l.list) (cells_of c) ≡ false) where
   -- all is written, and the answer is the course
-  pub laid-whole : lay_into m fallback c l ≡ outcome (laid_answer 0 (laid_figures fallback c)) (written m false (from_points c) l)
+  pub laid-whole : lay_into m fallback c l ≡ outcome (Ok (laid_figures fallback c)) (written m false (from_points c) l)
   unfolding lay_into answered
   laid-whole = ap (λ (s : Bool). outcome (answered s fallback c) (written m s (from_points c) l)) fits
 
   -- n is the number of points
   pub count : (laid_values_of (lay_into m fallback c l).answer).n ≡ length c
-  unfolding laid_values_of laid_answer laid_figures
+  unfolding laid_values_of laid_figures
   count = ap (λ (o : Outcome). (laid_values_of o.answer).n) laid-whole
 
   -- laying is not refused
   pub cause : laid_cause_of (lay_into m fallback c l).answer ≡ 0
-  unfolding laid_cause_of laid_answer
+  unfolding laid_cause_of
   cause = ap (λ (o : Outcome). laid_cause_of o.answer) laid-whole
 
 -- ---- what is lent of a course laid in columns of its own length
@@ -94,7 +95,7 @@ module _ (fallback : Bool) (c : List TrackPoint) (l : CourseColumns) (fits : ltb
   -- the course's own tiles, zeros and what is lent beyond; all its offsets and index entries and what is lent beyond
   pub lent_laid : (ts : List Float) (offs l' : List ℕ) → lent_by {n = length c} (lay_into (own_length c) fallback c l) (laid ts offs l')
       ≡ columns (tiles_of c ++ (zeros_past c ++ ts)) ((from_points c).offsets ++ offs) ((from_points c).list ++ l')
-  unfolding lent_by laid_values_of laid_answer laid_figures written from_points
+  unfolding lent_by laid_values_of laid_figures written from_points
   lent_laid ts offs l' =
       ap (λ (o : Outcome). lent_by {n = length c} o (laid ts offs l')) (laid-whole (own_length c) fallback c l fits)
       ∙ same-columns (filled-front (quad_numbers (own_length c)) (tiles_of c) l.tiles ts tiles-fit)

@@ -11,18 +11,18 @@ use lib.ListN.{length, get_or, take, drop, replicate, length-append, length-take
 use lib.Seq.{take-take, take-length}
 use lib.Ieee.{Float}
 use borrow.Author.Tests.{ltb-false, leb-true}
+use Rattle.std.specs.Prelude.{Result, Ok, Err}
 use Rattle.course.specs.Rules.Constants.{max_attempts}
 use Rattle.course.specs.Rules.Lengths.{most_points, column_length, quad_numbers, offset_count}
 use Rattle.course.specs.Grader.Course.{cells_of}
 use Rattle.course.specs.Grader.Outcome as course
-use Rattle.course.specs.Grader.Outcome.{Outcome, lay_into, laid_figures, laid_answer, laid_cause_of, laid_values_of}
+use Rattle.course.specs.Grader.Outcome.{Outcome, lay_into, laid_figures, error_number, laid_cause_of, laid_values_of}
 use Rattle.course.specs.Rules.Lay.{CoursePoints, course_of}
 use Rattle.course.specs.Grader.LayCall.{lay_call}
 use Rattle.course.specs.declared.cause.Cause.{Cause}
 use Rattle.course.specs.declared.tiles.TrackPoint.{TrackPoint}
-use Rattle.course.specs.declared.points.Laid.{Laid}
+use Rattle.course.specs.declared.points.LayError.{LayError}
 use Rattle.course.specs.declared.points.LaidCourse.{LaidCourse}
-use Rattle.course.specs.declared.points.Laid.TheVariants.{Course as Made, Short, Refused as NotLaid}
 use Rattle.course.proofs.BoolLaws.{and_left, and_right, or_no}
 use Rattle.course.proofs.CourseSizes.{course-sized}
 use Rattle.course.proofs.LayLaws.{roomy, lay-cause, lay-columns}
@@ -233,7 +233,7 @@ module _ (b : Opening) (k : LentLengths) (n : ℕ) (calls : List ℕ) (given : L
     counted = count (own_length c) fallback c l whole
 
     same-fallback : (laid_values_of o.answer).fallback ≡ fallback
-    unfolding laid_values_of laid_answer laid_figures
+    unfolding laid_values_of laid_figures
     same-fallback = ap (λ (x : Outcome). (laid_values_of x.answer).fallback) (laid-whole (own_length c) fallback c l whole)
 
     -- the whole columns, as they are lent to start
@@ -306,11 +306,10 @@ lays : (seed : ℕ) (l : course.CourseColumns) → laid_cause_of (lay_call max_a
 unfolding lay_number course_of
 lays seed l = lay-cause max_attempts seed l
 
-no-count : (r : Laid) (q : ℕ) → laid_cause_of r ≡ suc q → (laid_values_of r).n ≡ 0
+no-count : (r : Result LaidCourse LayError) (q : ℕ) → laid_cause_of r ≡ suc q → (laid_values_of r).n ≡ 0
 unfolding laid_cause_of laid_values_of
-no-count (Made v) q e = absurd (omega (arith, e))
-no-count (Short need) q e = refl
-no-count (NotLaid k) q e = refl
+no-count (Ok v) q e = absurd (omega (arith, e))
+no-count (Err x) q e = refl
 
 module _ (seed : ℕ) (l : course.CourseColumns) (b : Opening) (n : ℕ) (calls : List ℕ) (given : List Float) where
   abbrev lengths : LentLengths

@@ -13,7 +13,7 @@ ghost use Rattle.course.specs.Grader.Outcome.{lent};
 
 use crate::{answer, call};
 use course::cause::Cause;
-use course::points::Laid;
+use course::points::{LaidCourse, LayError};
 use course::{lay, points};
 use run::sheet::RunSheet;
 use run::start::StartValues;
@@ -32,7 +32,7 @@ pub const ANSWER_NUMBERS: usize = 12;
 // The answers of lay and start, and the sheet after the last call.
 #[derive(Clone, Copy)]
 pub struct Replayed {
-    pub laid: Laid,
+    pub laid: Result<LaidCourse, LayError>,
     pub start: Result<StartValues, Cause>,
     pub sheet: Result<RunSheet, Cause>,
 }
@@ -228,7 +228,7 @@ pub fn replay(
 {
     if !room_for(many, calls.len(), given.len(), words.len(), numbers.len()) {
         return Replayed {
-            laid: Laid::Refused(2),
+            laid: Err(LayError::Refused(Cause::Length)),
             start: Err(Cause::Length),
             sheet: Err(Cause::State),
         };

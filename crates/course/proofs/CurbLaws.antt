@@ -1,18 +1,19 @@
 -- The curbs of points, one point after the other. Assumes nothing.
-use Rattle.std.proofs.Common.{◌≡◌, ℕ, zero, suc, ◌+◌, ◌-◌, ◌*◌, ◌<◌, ◌≤◌, Bool, true, false, cond, eqb, ltb, leb, List, [], ◌∷◌, ◌++◌, length, take, drop, set, replicate, sym, refl, ap, ◌∙◌, subst, ap₂, append-nil, add-one, arith, take_at, le-ltb, lt-ltb, leb-true}
+use Rattle.std.proofs.Common.{◌≡◌, ℕ, zero, suc, ◌+◌, ◌-◌, ◌*◌, ◌<◌, ◌≤◌, Bool, true, false, cond, leb, List, [], ◌∷◌, ◌++◌, length, take, drop, set, replicate, sym, refl, ap, ◌∙◌, subst, ap₂, append-nil, add-one, arith, take_at, le-ltb, lt-ltb, leb-true}
 use lib.Ieee.{Float}
 use Rattle.course.specs.Rules.Lengths.{most_points, column_length, quad_numbers}
 use Rattle.course.specs.Rules.Arithmetic.{nought}
-use Rattle.course.specs.Rules.Tiles.{point_at, points_of, before_of, eight}
+use Rattle.course.specs.Rules.Tiles.{point_at, before_of, eight}
 use Rattle.course.specs.Steps.Tiles.{puts}
-use Rattle.course.specs.Grader.Points.{given_cause, given_of, all_good}
-use Rattle.course.specs.Grader.Curbs.{curb_room, after_of, bordered, curb_quad, white_of, quads_to, whites_to, filled_marks, Edged, edged, curb_answer, curb_cause_of, curb_count_of, curb_cause, curbs_at, curbs_call}
+use Rattle.std.specs.Prelude.{Result, Ok, Err}
+use Rattle.course.specs.Grader.Cause.{number_of, cause_number}
+use Rattle.course.specs.Grader.Points.{given_cause}
+use Rattle.course.specs.declared.cause.Cause.{Cause}
+use Rattle.course.specs.Grader.Curbs.{curb_room, after_of, bordered, curb_quad, white_of, quads_to, whites_to, filled_marks, Edged, edged, curb_cause_of, curb_count_of, curb_cause, curbs_at, curbs_call}
 use Rattle.course.specs.Steps.Tiles.{Curbed, CurbsTo}
-use Rattle.course.specs.declared.curbs.CurbAnswer.{CurbAnswer}
-use Rattle.course.specs.declared.curbs.CurbAnswer.TheVariants.{Count, Refused}
 use Rattle.course.proofs.LengthLaws.{column_fits, column-small}
 use Rattle.course.proofs.ColumnLaws.{Grown, grown-more, puts-grown, drop_past}
-use Rattle.course.proofs.LaidColumns.{GivenLong, given-long, all-clear, positive, at_most, fill-tiles}
+use Rattle.course.proofs.LaidColumns.{Passed, fill-tiles}
 use Rattle.course.specs.Rules.Counting.{digit}
 use Rattle.course.proofs.BoolLaws.{and_left, and_right, digit-le}
 
@@ -66,25 +67,19 @@ module _ (b e n : List Float) (k : ℕ) (q : List Float) (w : List ℕ) where
 -- ---- the call
 -- what is known where no cause holds, with columns for z curbs
 pub record Fits (z : ℕ) (b e n : List Float) (k : ℕ) (q : List Float) (w : List ℕ) : Type 0 where
-  pub some : 0 < k
   pub few : k ≤ z
   pub small : z ≤ most_points
   pub quads : quad_numbers z ≤ length q
   pub white : z ≤ length w
-  pub given : GivenLong b e n k
 
-pub fits : (z : ℕ) (b e n : List Float) (k : ℕ) (q : List Float) (w : List ℕ) → z ≡ column_length k → given_cause (curb_room z q w) b e n k ≡ 0 → Fits z b e n k q w
-unfolding given_cause curb_room
-fits z b e n k q w c h =
-    let p = all-clear (eqb k 0) (ltb most_points k) (curb_room z q w) (given_of b e n k) (all_good (points_of b e n k)) h in
-    record {
-      some = positive k p.some;
-      few = column_fits k z c (at_most most_points k p.few);
-      small = column-small k z c;
-      quads = leb-true (quad_numbers z) (length q) (and_left _ _ p.room);
-      white = leb-true z (length w) (and_right (leb (quad_numbers z) (length q)) _ p.room);
-      given = given-long b e n k p.given;
-    }
+pub fits : {z : ℕ} {b e n : List Float} {k : ℕ} {q : List Float} {w : List ℕ} → z ≡ column_length k → Passed b e n k (curb_room z q w) → Fits z b e n k q w
+unfolding curb_room
+fits {z} {k = k} {q} {w} c p = record {
+  few = column_fits k z c p.few;
+  small = column-small k z c;
+  quads = leb-true (quad_numbers z) (length q) (and_left _ _ p.room);
+  white = leb-true z (length w) (and_right (leb (quad_numbers z) (length q)) _ p.room);
+}
 
 -- the call with columns for z curbs
 abbrev curbs_in : ℕ → List Float → List Float → List Float → ℕ → List Float → List ℕ → Edged
@@ -94,11 +89,11 @@ curbs-in : (z : ℕ) (b e n : List Float) (k : ℕ) (q : List Float) (w : List �
 unfolding curbs_call curb_cause
 curbs-in z b e n k q w h = ap (λ (j : ℕ). curbs_in j b e n k q w) h
 
-pub turned-down : (z : ℕ) (b e n : List Float) (k : ℕ) (q : List Float) (w : List ℕ) (wide : Bool) (r : ℕ) → z ≡ column_length k → r ≡ given_cause wide b e n k → wide ≡ curb_room z q w → 0 < r
-    → edged (Refused r) q w ≡ curbs_call b e n k q w
-unfolding curbs_at curb_answer
-turned-down z b e n k q w wide zero c h v some = absurd (omega (arith, some))
-turned-down z b e n k q w wide (suc r) c h v some = ap (λ (j : ℕ). curbs_at z j b e n k q w) (h ∙ ap (λ (x : Bool). given_cause x b e n k) v) ∙ curbs-in z b e n k q w c
+pub turned-down : {z : ℕ} (b e n : List Float) (k : ℕ) {q : List Float} {w : List ℕ} {r : Result ℕ Cause} {x : Cause} → z ≡ column_length k → r ≡ Err x → Err x ≡ given_cause (curb_room z q w) b e n k
+    → edged r q w ≡ curbs_call b e n k q w
+unfolding curbs_at
+turned-down {z} b e n k {q} {w} c is h =
+    ap (λ (a : Result ℕ Cause). edged a q w) is ∙ ap (λ (a : Result Unit Cause). curbs_at z a b e n k q w) h ∙ curbs-in z b e n k q w c
 
 fill-marks : (own t t1 t2 : List ℕ) (k m : ℕ) → length own ≡ k → k ≤ m → t1 ≡ own ++ drop k t → t2 ≡ take k t1 ++ (replicate (m - k) 0 ++ drop m t1) → t2 ≡ filled_marks m own t
 unfolding filled_marks
@@ -107,29 +102,28 @@ fill-marks own t t1 t2 k m e h p r =
     ∙ ap₂ (λ (y z : List ℕ). y ++ (replicate (m - k) 0 ++ z)) (take_at own (drop k t) k e) (drop_past own t k m e h)
     ∙ ap (λ (j : ℕ). own ++ (replicate (m - j) 0 ++ drop m t)) (sym e)
 
-pub all-edged : (z : ℕ) (b e n : List Float) (k m : ℕ) (q q1 q2 : List Float) (w w1 w2 : List ℕ) → z ≡ column_length k → given_cause (curb_room z q w) b e n k ≡ 0 → CurbsTo b e n k k m q w q1 w1
+pub all-edged : (z : ℕ) (b e n : List Float) (k m : ℕ) (q q1 q2 : List Float) (w w1 w2 : List ℕ) → z ≡ column_length k → Passed b e n k (curb_room z q w) → CurbsTo b e n k k m q w q1 w1
     → q2 ≡ take (m * 8) q1 ++ (replicate (quad_numbers z - m * 8) nought ++ drop (quad_numbers z) q1) → w2 ≡ take m w1 ++ (replicate (z - m) 0 ++ drop z w1)
-    → edged (Count m) q2 w2 ≡ curbs_call b e n k q w
-unfolding curbs_at curb_answer
+    → edged (Ok m) q2 w2 ≡ curbs_call b e n k q w
+unfolding curbs_at
 all-edged z b e n k m q q1 q2 w w1 w2 c h t pq pw =
-    let few = (fits z b e n k q w c h).few in
-    same-edged (ap Count (sym t.count))
+    let few = (fits c h).few in
+    same-edged (ap Ok (sym t.count))
     (fill-tiles (quads_to b e n k k) q q1 q2 (m * 8) (quad_numbers z) t.long (omega (arith, few, t.few)) t.quads pq)
     (fill-marks (whites_to b e n k k) w w1 w2 m z t.count (omega (arith, few, t.few)) t.white pw)
-    ∙ ap (λ (j : ℕ). curbs_at z j b e n k q w) (sym h)
+    ∙ ap (λ (a : Result Unit Cause). curbs_at z a b e n k q w) (sym h.cause)
     ∙ curbs-in z b e n k q w c
   where
-    same-edged : {r r' : CurbAnswer} {q q' : List Float} {w w' : List ℕ} → r ≡ r' → q ≡ q' → w ≡ w' → edged r q w ≡ edged r' q' w'
+    same-edged : {r r' : Result ℕ Cause} {q q' : List Float} {w w' : List ℕ} → r ≡ r' → q ≡ q' → w ≡ w' → edged r q w ≡ edged r' q' w'
     same-edged pr pq pw = λ i. edged (pr i) (pq i) (pw i)
 
 -- ---- an answer gives its number back, and a count's answer the count
-pub curb-number-back : (k m : ℕ) → curb_cause_of (curb_answer k m) ≡ k
-unfolding curb_answer curb_cause_of
-curb-number-back zero m = refl
-curb-number-back (suc k) m = refl
+pub curb-number-back : (c : Cause) → curb_cause_of (Err c) ≡ number_of c
+unfolding curb_cause_of cause_number
+curb-number-back c = refl
 
-pub curb-count-back : (m : ℕ) → curb_count_of (curb_answer 0 m) ≡ m
-unfolding curb_answer curb_count_of
+pub curb-count-back : (m : ℕ) → curb_count_of (Ok m) ≡ m
+unfolding curb_count_of
 curb-count-back m = refl
 
 -- ---- the spread read forward, as the Rust does it: a marked point gives a curb to itself and to the three before it

@@ -1,6 +1,8 @@
 -- What `finish` leaves is what lay and points write. Assumes nothing.
 use Rattle.std.proofs.Common.{◌≡◌, ℕ, zero, suc, ◌-◌, ◌*◌, ◌<◌, ◌≤◌, Bool, true, false, cond, not, eqb, ltb, leb, List, [], ◌++◌, length, take, drop, replicate, sym, refl, ap, ◌∙◌, subst, ap₂, arith, length-take-le, take_at, lt-ltb, leb-true}
 use native.Mathlib.Decide.{dec_lt}
+use Rattle.std.specs.Prelude.{Result, Ok, Err}
+use Rattle.std.specs.Result.{is_ok}
 use lib.Ieee.{Float}
 use Rattle.course.specs.Rules.Lengths.{most_points, column_length, quad_numbers, cell_count, offset_count}
 use Rattle.course.specs.Rules.Rect.{holds_of, needed}
@@ -13,27 +15,30 @@ use Rattle.course.proofs.PackedRects.{scratch-cleared}
 use Rattle.course.specs.Rules.Arithmetic.{nought}
 use Rattle.course.specs.Grader.Course.{from_points, cells_of}
 use Rattle.course.specs.Rules.Tiles.{betas, xs, ys, point_at, points_of, tiles_to, tiles_of}
-use Rattle.course.specs.Grader.Outcome.{CourseColumns, lent, Outcome, outcome, filled, written, no_values, laid_figures, laid_answer, answered, lay_into, roomy_of}
+use Rattle.course.specs.Grader.Outcome.{CourseColumns, lent, Outcome, outcome, filled, written, laid_figures, answered, lay_into, roomy_of}
 use Rattle.course.specs.Steps.Tiles.{Roomy}
-use Rattle.course.specs.Grader.Points.{given_of, all_good, given_cause, points_cause, points_at, points_call}
+use Rattle.course.specs.Grader.Cause.{check}
+use Rattle.course.specs.Grader.Points.{given_of, all_good, count_cause, columns_cause, given_cause, points_cause, points_at, points_call}
+use Rattle.course.specs.declared.cause.Cause.{Cause}
+use Rattle.course.specs.declared.cause.Cause.TheVariants.{Length}
 use Rattle.course.specs.declared.tiles.TrackPoint.{TrackPoint}
 use Rattle.course.specs.declared.points.LaidCourse.{LaidCourse}
-use Rattle.course.specs.declared.points.Laid.{Laid}
-use Rattle.course.specs.declared.points.Laid.TheVariants.{Course as Made, Short, Refused}
+use Rattle.course.specs.declared.points.LayError.{LayError}
+use Rattle.course.specs.declared.points.LayError.TheVariants.{Short, Refused}
 use Rattle.course.proofs.LengthLaws.{column_fits, column-small}
 use Rattle.course.proofs.ColumnLaws.{drop_past}
 use Rattle.course.proofs.CourseTiles.{points-long, point-read, tiles-long, betas-taken, xs-taken, ys-taken, points-front}
 
 -- equal columns and equal answers
-pub same_outcome : {r r' : Laid} {a a' b b' e e' n n' t t' : List Float} {o o' l l' : List ℕ} → r ≡ r' → a ≡ a' → b ≡ b' → e ≡ e' → n ≡ n' → t ≡ t' → o ≡ o' → l ≡ l'
+pub same_outcome : {r r' : Result LaidCourse LayError} {a a' b b' e e' n n' t t' : List Float} {o o' l l' : List ℕ} → r ≡ r' → a ≡ a' → b ≡ b' → e ≡ e' → n ≡ n' → t ≡ t' → o ≡ o' → l ≡ l'
     → outcome r (lent a b e n t o l) ≡ outcome r' (lent a' b' e' n' t' o' l')
 same_outcome pr pa pb pe pn pt po pl = λ i. outcome (pr i) (lent (pa i) (pb i) (pe i) (pn i) (pt i) (po i) (pl i))
 
 abbrev figures : ℕ → Bool → ℕ → TrackPoint → LaidCourse
 figures k f m p = record { n = k; fallback = f; entries = m; first = p }
 
-same-made : {k k' m m' : ℕ} {p p' : TrackPoint} {f : Bool} → k ≡ k' → m ≡ m' → p ≡ p' → Made (figures k f m p) ≡ Made (figures k' f m' p')
-same-made {f = f} pk pm pp = λ i. Made (figures (pk i) f (pm i) (pp i))
+same-made : {k k' m m' : ℕ} {p p' : TrackPoint} {f : Bool} → k ≡ k' → m ≡ m' → p ≡ p' → ◌≡◌ {A = Result LaidCourse LayError} (Ok (figures k f m p)) (Ok (figures k' f m' p'))
+same-made {f = f} pk pm pp = λ i. Ok (figures (pk i) f (pm i) (pp i))
 
 fill-column : (own c c' : List Float) (k m : ℕ) → own ≡ take k c → k ≤ length c → c' ≡ take k c ++ (replicate (m - k) nought ++ drop m c) → c' ≡ filled m own c
 unfolding filled
@@ -133,20 +138,20 @@ module _ {m : ℕ} {l : CourseColumns} {k : ℕ} {l' : CourseColumns} {scratch w
       built.entries ∙ ap (λ (z : Bool). cond z l.list (index_of (holds_of (tiles_of (points-in l k))) (length (points-in l k)) cell_count ++ drop (needed (tiles_of (points-in l k)) (length (points-in l k))) l.list)) (sym built.too_short ∙ h)
       ∙ ap (λ (j : ℕ). index_of (holds_of (tiles_of (points-in l k))) (length (points-in l k)) cell_count ++ drop j l.list) (sym list-long)
 
-  done : (fallback : Bool) (r : Laid) → r ≡ answered short fallback (points-in l k) → outcome r l' ≡ lay_into m fallback (points-in l k) l
+  done : (fallback : Bool) (r : Result LaidCourse LayError) → r ≡ answered short fallback (points-in l k) → outcome r l' ≡ lay_into m fallback (points-in l k) l
   unfolding lay_into written from_points
   done fallback r is =
       same_outcome (is ∙ ap (λ (s : Bool). answered s fallback (points-in l k)) short-is) alpha-is beta-is x-is y-is tiles-is (offsets-is _ short-is) (list-is _ short-is)
 
   -- what `finish` ends with: cause 3 where the list is too short, else the course
-  pub done-short : (fallback : Bool) → short ≡ true → outcome (Short need) l' ≡ lay_into m fallback (points-in l k) l
-  unfolding answered laid_answer laid_figures
-  done-short fallback h = done fallback (Short need) (ap Short need-is ∙ sym (ap (λ (s : Bool). answered s fallback (points-in l k)) h))
+  pub done-short : (fallback : Bool) → short ≡ true → outcome (Err (Short need)) l' ≡ lay_into m fallback (points-in l k) l
+  unfolding answered
+  done-short fallback h = done fallback (Err (Short need)) (ap (λ (j : ℕ). Err (Short j)) need-is ∙ sym (ap (λ (s : Bool). answered s fallback (points-in l k)) h))
 
-  pub done-laid : (fallback : Bool) {first : TrackPoint} → first ≡ point_at l.beta l.x l.y 0 → short ≡ false → outcome (Made (figures k fallback need first)) l' ≡ lay_into m fallback (points-in l k) l
-  unfolding answered laid_answer laid_figures
+  pub done-laid : (fallback : Bool) {first : TrackPoint} → first ≡ point_at l.beta l.x l.y 0 → short ≡ false → outcome (Ok (figures k fallback need first)) l' ≡ lay_into m fallback (points-in l k) l
+  unfolding answered laid_figures
   done-laid fallback {first} f h =
-      done fallback (Made (figures k fallback need first))
+      done fallback (Ok (figures k fallback need first))
       (same-made (sym (points-long l.beta l.x l.y k)) need-is (f ∙ sym (point-read l.beta l.x l.y k 0 d.size.0))
       ∙ sym (ap (λ (s : Bool). answered s fallback (points-in l k)) h))
 
@@ -193,75 +198,69 @@ given-long b e n k h =
     let h1 = and_right (leb k (length b)) _ h in
     record { beta = leb-true k (length b) (and_left _ _ h); x = leb-true k (length e) (and_left _ _ h1); y = leb-true k (length n) (and_right (leb k (length e)) _ h1) }
 
--- where no cause holds
-pub record AllClear (p q r s : Bool) : Type 0 where
-  pub some : p ≡ false
-  pub few : q ≡ false
-  pub room : r ≡ true
-  pub given : s ≡ true
+-- ---- the checks: what each that passed tells, and the cause of each that did not
+pub check-passed : (b : Bool) (c : Cause) {u : Unit {0}} → Ok u ≡ check b c → b ≡ true
+unfolding check
+check-passed true c h = refl
+check-passed false c h = absurd (off-on (sym (ap is_ok h)))
 
-abbrev pub first-cause : Bool → Bool → Bool → Bool → Bool → ℕ
-first-cause p q r s t = cond p 9 (cond q 9 (cond (not r) 2 (cond (not s) 2 (cond (not t) 8 0))))
-
-pub all-clear : (p q r s t : Bool) → first-cause p q r s t ≡ 0 → AllClear p q r s
-all-clear true q r s t h = absurd (omega (arith, h))
-all-clear false true r s t h = absurd (omega (arith, h))
-all-clear false false false s t h = absurd (omega (arith, h))
-all-clear false false true false t h = absurd (omega (arith, h))
-all-clear false false true true t h = record { some = refl; few = refl; room = refl; given = refl }
-
-pub positive : (k : ℕ) → eqb k 0 ≡ false → 0 < k
+positive : (k : ℕ) → eqb k 0 ≡ false → 0 < k
 positive zero h = absurd (off-on (sym h))
 positive (suc k) h = omega arith
 
-pub at_most : (m k : ℕ) → ltb m k ≡ false → k ≤ m
+at_most : (m k : ℕ) → ltb m k ≡ false → k ≤ m
 at_most m k h = elim (dec_lt m k) [ yes l ↦ absurd (off-on (sym h ∙ lt-ltb m k l)) | no l ↦ omega arith ]
+
+two-passed : (c d : Cause) {u : Unit {0}} (p q : Bool) → Ok u ≡ cond p (Err c) (cond q (Err d) (Ok tt)) → (p ≡ false) × (q ≡ false)
+two-passed c d true q h = absurd (off-on (sym (ap is_ok h)))
+two-passed c d false true h = absurd (off-on (sym (ap is_ok h)))
+two-passed c d false false h = (refl, refl)
+
+-- no cause of given points
+pub record Passed (b e n : List Float) (k : ℕ) (wide : Bool) : Type 0 where
+  pub some : 0 < k
+  pub few : k ≤ most_points
+  pub room : wide ≡ true
+  pub given : GivenLong b e n k
+  pub cause : given_cause wide b e n k ≡ Ok tt
+
+module _ (b e n : List Float) (k : ℕ) (wide : Bool) where
+  pub passed : {u v w : Unit {0}} → Ok u ≡ count_cause k → Ok v ≡ check wide Length → Ok w ≡ columns_cause b e n k → Passed b e n k wide
+  unfolding count_cause columns_cause given_cause
+  passed h i j =
+      let p = two-passed _ _ (eqb k 0) (ltb most_points k) h in
+      record {
+        some = positive k p.0;
+        few = at_most most_points k p.1;
+        room = check-passed wide Length i;
+        given = given-long b e n k (not-false (given_of b e n k) (two-passed _ _ (not (given_of b e n k)) (not (all_good (points_of b e n k))) j).0);
+        cause = rw (sym h, sym i, sym j);
+      }
+    where
+      not-false : (s : Bool) → not s ≡ false → s ≡ true
+      not-false true h = refl
+      not-false false h = absurd (off-on (sym h))
+
+  pub by-count : {x : Cause} → Err x ≡ count_cause k → Err x ≡ given_cause wide b e n k
+  unfolding given_cause
+  by-count h = rw (sym h)
+
+  pub by-room : {x : Cause} {u : Unit {0}} → Ok u ≡ count_cause k → Err x ≡ check wide Length → Err x ≡ given_cause wide b e n k
+  unfolding given_cause
+  by-room g h = rw (sym g, sym h)
+
+  pub by-columns : {x : Cause} {u v : Unit {0}} → Ok u ≡ count_cause k → Ok v ≡ check wide Length → Err x ≡ columns_cause b e n k → Err x ≡ given_cause wide b e n k
+  unfolding given_cause
+  by-columns g h i = rw (sym g, sym h, sym i)
 
 -- given points that pass, with columns of m
 pub record Fit (m : ℕ) (b e n : List Float) (k : ℕ) (a' b' e' n' t' : List Float) (o' : List ℕ) : Type 0 where
-  pub some : 0 < k
   pub few : k ≤ m
   pub small : m ≤ most_points
   pub room : Roomy m a' b' e' n' t' o'
-  pub given : GivenLong b e n k
 
--- no cause: what was tested, and what the tests answered
-pub none_of : (r : ℕ) → r ≤ 0 → r ≡ 0
-none_of r h = omega arith
-
-pub no-cause : (b e n : List Float) (k : ℕ) (room wide : Bool) (r : ℕ) → r ≡ given_cause wide b e n k → wide ≡ room → r ≤ 0 → given_cause room b e n k ≡ 0
-no-cause b e n k room wide r h w z = sym (h ∙ ap (λ (x : Bool). given_cause x b e n k) w) ∙ none_of r z
-
-pub fit : (m : ℕ) (b e n : List Float) (k : ℕ) (a' b' e' n' t' : List Float) (o' : List ℕ) → m ≡ column_length k → given_cause (roomy_of m a' b' e' n' t' o') b e n k ≡ 0 → Fit m b e n k a' b' e' n' t' o'
-unfolding given_cause
-fit m b e n k a' b' e' n' t' o' c h =
-    let p = all-clear (eqb k 0) (ltb most_points k) (roomy_of m a' b' e' n' t' o') (given_of b e n k) (all_good (points_of b e n k)) h in
-    record {
-      some = positive k p.some;
-      few = column_fits k m c (at_most most_points k p.few);
-      small = column-small k m c;
-      room = room p.room;
-      given = given-long b e n k p.given;
-    }
-
--- no cause of given points is 3, the one that has a value
-none-needs : (p q r s t : Bool) → 0 < first-cause p q r s t → Refused (first-cause p q r s t) ≡ laid_answer (first-cause p q r s t) no_values
-unfolding laid_answer
-none-needs true q r s t z = refl
-none-needs false true r s t z = refl
-none-needs false false false s t z = refl
-none-needs false false true false t z = refl
-none-needs false false true true false z = refl
-none-needs false false true true true z = absurd (omega (arith, z))
-
-refused-by : (b e n : List Float) (k : ℕ) (room : Bool) → 0 < given_cause room b e n k → Refused (given_cause room b e n k) ≡ laid_answer (given_cause room b e n k) no_values
-unfolding given_cause
-refused-by b e n k room z = none-needs (eqb k 0) (ltb most_points k) room (given_of b e n k) (all_good (points_of b e n k)) z
-
-turned-away : (m k : ℕ) (ps : List TrackPoint) (l : CourseColumns) → 0 < k → points_at m k ps l ≡ outcome (laid_answer k no_values) l
-unfolding points_at
-turned-away m zero ps l z = absurd (omega (arith, z))
-turned-away m (suc k) ps l z = refl
+pub fit : {m : ℕ} {b e n : List Float} {k : ℕ} {a' b' e' n' t' : List Float} {o' : List ℕ} → m ≡ column_length k → Passed b e n k (roomy_of m a' b' e' n' t' o') → Fit m b e n k a' b' e' n' t' o'
+fit {m} {k = k} c p = record { few = column_fits k m c p.few; small = column-small k m c; room = room p.room }
 
 -- the call of points with columns of m
 abbrev points_in : ℕ → List Float → List Float → List Float → ℕ → CourseColumns → Outcome
@@ -272,28 +271,26 @@ unfolding points_call points_cause
 points-call m b e n k l h = ap (λ (z : ℕ). points_in z b e n k l) h
 
 -- refused: nothing is written
-pub refused : (m : ℕ) (b e n : List Float) (k : ℕ) (a' b' e' n' t' : List Float) (o' l' : List ℕ) (wide : Bool) (r : ℕ) → m ≡ column_length k → r ≡ given_cause wide b e n k → wide ≡ roomy_of m a' b' e' n' t' o' → 0 < r
-    → outcome (Refused r) (lent a' b' e' n' t' o' l') ≡ points_call b e n k (lent a' b' e' n' t' o' l')
-refused m b e n k a' b' e' n' t' o' l' wide r c h w z =
-    let is = h ∙ ap (λ (x : Bool). given_cause x b e n k) w in
-    let some = subst (λ (j : ℕ). 0 < j) is z in
-    ap (λ (j : ℕ). outcome (Refused j) (lent a' b' e' n' t' o' l')) is
-    ∙ ap (λ (x : Laid). outcome x (lent a' b' e' n' t' o' l')) (refused-by b e n k (roomy_of m a' b' e' n' t' o') some)
-    ∙ sym (turned-away m _ (points_of b e n k) (lent a' b' e' n' t' o' l') some)
-    ∙ points-call m b e n k (lent a' b' e' n' t' o' l') c
+pub refused : {m : ℕ} (b e n : List Float) (k : ℕ) {l : CourseColumns} {r : Result LaidCourse LayError} {x : Cause} → m ≡ column_length k → r ≡ Err (Refused x)
+    → Err x ≡ given_cause (roomy_of m l.alpha l.beta l.x l.y l.tiles l.offsets) b e n k → outcome r l ≡ points_call b e n k l
+unfolding points_at
+refused {m} b e n k {l} c is h =
+    ap (λ (z : Result LaidCourse LayError). outcome z l) is
+    ∙ ap (λ (z : Result Unit Cause). points_at m z (points_of b e n k) l) h
+    ∙ points-call m b e n k l c
 
 -- accepted: the given points go in front, and the rest is what lay does
-pub accepted : (m : ℕ) (b e n : List Float) (k : ℕ) (a' b' e' n' t' : List Float) (o' l' : List ℕ) (b1 e1 n1 : List Float) (w : Outcome) → m ≡ column_length k → given_cause (roomy_of m a' b' e' n' t' o') b e n k ≡ 0
+pub accepted : (m : ℕ) (b e n : List Float) (k : ℕ) (a' b' e' n' t' : List Float) (o' l' : List ℕ) (b1 e1 n1 : List Float) (w : Outcome) → m ≡ column_length k → Passed b e n k (roomy_of m a' b' e' n' t' o')
     → b1 ≡ take k b ++ drop k b' → e1 ≡ take k e ++ drop k e' → n1 ≡ take k n ++ drop k n'
     → w ≡ lay_into m false (points_of b1 e1 n1 k) (lent a' b1 e1 n1 t' o' l') → w ≡ points_call b e n k (lent a' b' e' n' t' o' l')
 unfolding points_at
 accepted m b e n k a' b' e' n' t' o' l' b1 e1 n1 w c h pb pe pn is =
-    let f = fit m b e n k a' b' e' n' t' o' c h in
-    let g = f.given in
+    let f = fit c h in
+    let g = h.given in
     is
     ∙ lay-past m false (points_of b1 e1 n1 k) a' b' e' n' a' b1 e1 n1 t' o' l' refl (past b b' b1 g.beta f.few pb) (past e e' e1 g.x f.few pe) (past n n' n1 g.y f.few pn)
     ∙ ap (λ (ps : List TrackPoint). lay_into m false ps (lent a' b' e' n' t' o' l')) (fronts g.beta g.x g.y)
-    ∙ ap (λ (j : ℕ). points_at m j (points_of b e n k) (lent a' b' e' n' t' o' l')) (sym h)
+    ∙ ap (λ (z : Result Unit Cause). points_at m z (points_of b e n k) (lent a' b' e' n' t' o' l')) (sym h.cause)
     ∙ points-call m b e n k (lent a' b' e' n' t' o' l') c
   where
     past : (s l c : List Float) → k ≤ length s → k ≤ m → c ≡ take k s ++ drop k l → drop m c ≡ drop m l

@@ -1,6 +1,7 @@
 -- What a call of lay leaves and answers: the course of its seed, refusals by 2 and 3 alone, and nothing that depends on what stood in the columns. Assumes nothing.
-use Rattle.std.proofs.Common.{◌≡◌, ℕ, zero, suc, ◌+◌, ◌-◌, ◌<◌, ◌≤◌, Bool, true, false, cond, ltb, List, [], ◌++◌, length, take, drop, replicate, sym, refl, ap, ◌∙◌, ap₂, append_assoc, arith, length-append, take-append-drop, take_at, ne_eqb}
+use Rattle.std.proofs.Common.{◌≡◌, ℕ, ◌+◌, ◌-◌, ◌<◌, ◌≤◌, Bool, true, false, cond, ltb, List, [], ◌++◌, length, take, drop, replicate, sym, refl, ap, ◌∙◌, ap₂, append_assoc, arith, length-append, take-append-drop, take_at}
 use lib.Bits.{bit_xor}
+use Rattle.std.specs.Prelude.{Result, Ok, Err}
 use lib.ListN.{length-replicate, length-map}
 use lib.Ieee.{Float}
 use Rattle.course.specs.Rules.Arithmetic.{nought}
@@ -8,14 +9,18 @@ use Rattle.course.specs.Rules.Constants.{max_attempts}
 use Rattle.course.specs.Rules.Lengths.{most_points, laid_length, column_length, quad_numbers}
 use Rattle.course.specs.Rules.Tiles.{betas, xs, ys, points_of, tiles_of}
 use Rattle.course.specs.Grader.Course.{from_points, cells_of}
-use Rattle.course.specs.Grader.Outcome.{CourseColumns, lent, Outcome, outcome, roomy_of, filled, written, laid_figures, laid_answer, answered, lay_into, laid_cause_of, laid_values_of}
+use Rattle.course.specs.Grader.Outcome.{CourseColumns, lent, Outcome, outcome, roomy_of, filled, written, answered, lay_into, laid_cause_of, laid_values_of, error_number, error_entries}
+use Rattle.course.specs.Grader.Cause.{number_of, check}
+use Rattle.course.specs.declared.cause.Cause.{Cause}
+use Rattle.course.specs.declared.cause.Cause.TheVariants.{Length}
 use Rattle.rng.specs.Rules.SplitMix.{at_state, seeded}
 use Rattle.course.specs.Rules.Lay.{CoursePoints, course_from, course_within, course_of}
 use Rattle.course.specs.Grader.LayCall.{lay_cause, lay_at, lay_call}
 use Rattle.course.specs.Steps.Lay.{Columns}
 use Rattle.course.specs.declared.tiles.TrackPoint.{TrackPoint}
 use Rattle.course.specs.declared.points.LaidCourse.{LaidCourse}
-use Rattle.course.specs.declared.points.Laid.TheVariants.{Refused}
+use Rattle.course.specs.declared.points.LayError.{LayError}
+use Rattle.course.specs.declared.points.LayError.TheVariants.{Short, Refused}
 use Rattle.course.proofs.CourseTiles.{points-are, tiles-long}
 use Rattle.course.proofs.CourseSizes.{Sized, within-sized, course-sized}
 use Rattle.course.proofs.LengthLaws.{laid-few, column-laid}
@@ -27,12 +32,16 @@ abbrev pub roomy : CourseColumns → Bool
 roomy l = roomy_of laid_length l.alpha l.beta l.x l.y l.tiles l.offsets
 
 -- ---- for the proofs of the calls
-pub refused-short : (c : CoursePoints) (l : CourseColumns) → roomy l ≡ false → outcome (Refused 2) l ≡ lay_at (lay_cause l) c l
-unfolding lay_cause lay_at laid_answer
-refused-short c l h = rw h
+pub refused-short : (c : CoursePoints) {l : CourseColumns} {r : Result LaidCourse LayError} {x : Cause} → r ≡ Err (Refused x) → Err x ≡ check (roomy l) Length → outcome r l ≡ lay_at (lay_cause l) c l
+unfolding lay_cause lay_at
+refused-short c {l} is h = ap (λ (z : Result LaidCourse LayError). outcome z l) is ∙ ap (λ (z : Result Unit Cause). lay_at z c l) h
+
+short-columns : (c : CoursePoints) (l : CourseColumns) → roomy l ≡ false → outcome (Err (Refused Length)) l ≡ lay_at (lay_cause l) c l
+unfolding check
+short-columns c l h = refused-short c refl (rw h)
 
 pub laid-roomy : (c : CoursePoints) (l : CourseColumns) → roomy l ≡ true → lay_into laid_length c.fallback c.points l ≡ lay_at (lay_cause l) c l
-unfolding lay_cause lay_at
+unfolding lay_cause lay_at check
 laid-roomy c l h = rw h
 
 in-front : (own c : List Float) (n : ℕ) → take n c ≡ own → c ≡ own ++ drop n c
@@ -62,31 +71,28 @@ laid {p} l {c} {n = n} {fallback} full r ea eb ex ey is =
     ∙ laid-roomy p l full
 
 -- ---- an answer gives its number back, a course's answer its values, and cause 3 the length needed
-pub number-back : (k : ℕ) (v : LaidCourse) → laid_cause_of (laid_answer k v) ≡ k
-unfolding laid_answer laid_cause_of
-number-back zero v = refl
-number-back (suc zero) v = refl
-number-back (suc (suc zero)) v = refl
-number-back (suc (suc (suc zero))) v = refl
-number-back (suc (suc (suc (suc k)))) v = simp (ne_eqb (suc (suc (suc (suc k)))) 0 (λ h. omega (arith, h)), ne_eqb (suc (suc (suc (suc k)))) 3 (λ h. omega (arith, h)))
+pub number-back : (e : LayError) → laid_cause_of (Err e) ≡ error_number e
+unfolding laid_cause_of
+number-back e = refl
 
-pub values-back : (v : LaidCourse) → laid_values_of (laid_answer 0 v) ≡ v
-unfolding laid_answer laid_values_of
+pub values-back : (v : LaidCourse) → laid_values_of (Ok v) ≡ v
+unfolding laid_values_of
 values-back v = refl
 
-pub length_back : (v : LaidCourse) → (laid_values_of (laid_answer 3 v)).entries ≡ v.entries
-unfolding laid_answer laid_values_of
-length_back v = refl
+pub length_back : (k : ℕ) → (laid_values_of (Err (Short k))).entries ≡ k
+unfolding laid_values_of error_entries
+length_back k = refl
 
 -- ---- laws of the calls. Lay refuses by 2 exactly where a column is short, and then by 3 exactly where the list is
 laid-cause : (short fallback : Bool) (ps : List TrackPoint) → laid_cause_of (answered short fallback ps) ≡ cond short 3 0
-unfolding answered
-laid-cause short fallback ps = number-back (cond short 3 0) (laid_figures fallback ps)
+unfolding answered laid_cause_of error_number
+laid-cause true fallback ps = refl
+laid-cause false fallback ps = refl
 
 cause-at : (c : CoursePoints) (l : CourseColumns) (b : Bool) → roomy l ≡ b → laid_cause_of (lay_at (lay_cause l) c l).answer ≡ cond b (cond (ltb (length l.list) (cells_of c.points)) 3 0) 2
-unfolding lay_into laid_cause_of
+unfolding lay_into laid_cause_of error_number number_of
 cause-at c l true h = ap (λ (w : Outcome). laid_cause_of w.answer) (sym (laid-roomy c l h)) ∙ laid-cause (ltb (length l.list) (cells_of c.points)) c.fallback c.points
-cause-at c l false h = ap (λ (w : Outcome). laid_cause_of w.answer) (sym (refused-short c l h))
+cause-at c l false h = ap (λ (w : Outcome). laid_cause_of w.answer) (sym (short-columns c l h))
 
 pub lay-cause : (attempts seed : ℕ) (l : CourseColumns)
     → laid_cause_of (lay_call attempts seed l).answer ≡ cond (roomy l) (cond (ltb (length l.list) (cells_of (course_within attempts seed).points)) 3 0) 2
@@ -94,9 +100,9 @@ unfolding lay_call
 lay-cause attempts seed l = cause-at (course_within attempts seed) l (roomy l) refl
 
 -- a call refused by 2 leaves the columns as they were
-pub lay-untouched : (attempts seed : ℕ) (l : CourseColumns) → roomy l ≡ false → lay_call attempts seed l ≡ outcome (Refused 2) l
+pub lay-untouched : (attempts seed : ℕ) (l : CourseColumns) → roomy l ≡ false → lay_call attempts seed l ≡ outcome (Err (Refused Length)) l
 unfolding lay_call
-lay-untouched attempts seed l h = sym (refused-short (course_within attempts seed) l h)
+lay-untouched attempts seed l h = sym (short-columns (course_within attempts seed) l h)
 
 -- with room, lay writes and answers by the seed's points
 pub lay-roomy : (attempts seed : ℕ) (l : CourseColumns) → roomy l ≡ true → lay_call attempts seed l ≡ lay_into laid_length (course_within attempts seed).fallback (course_within attempts seed).points l

@@ -5,9 +5,12 @@ ghost use Rattle.course.specs.Rules.Lengths.{most_points, quad_numbers};
 ghost use Rattle.course.specs.Rules.Tiles.{point_at, before_of};
 ghost use Rattle.course.specs.Rules.Trig.{sin_cos_of};
 ghost use Rattle.course.specs.Steps.Numbers.{sin_cos_as};
+ghost use Rattle.course.specs.Grader.Cause.{check};
 ghost use Rattle.course.specs.Grader.Curbs.{turn_at, steep_turn, one_way, mark_at, after_of, bordered, side_of, edge_of, curb_quad, white_of, edged, curb_room, curbs_call};
 ghost use Rattle.course.specs.Steps.Tiles.{Curbed, CurbsTo};
+ghost use Rattle.course.specs.declared.cause.Cause.TheVariants.{Length};
 
+use crate::cause::Cause;
 use crate::constants::{BORDER, TRACK_TURN_RATE, TRACK_WIDTH};
 use crate::tiles::{PointColumns, TrackPoint};
 use crate::trig::SinCos;
@@ -16,13 +19,6 @@ use crate::{columns, constants, numeric, points, tiles, trig};
 const OUTER: f64 = TRACK_WIDTH + BORDER;
 
 const STEEP: f64 = TRACK_TURN_RATE * 0.2;
-
-// How many curbs there are, or the number of the cause.
-#[derive(Clone, Copy)]
-pub enum CurbAnswer {
-    Count(u32),
-    Refused(u32),
-}
 
 // How far beta turns at point i.
 fn turn_at(points: &PointColumns, i: usize) -> f64
@@ -168,16 +164,19 @@ fn write_curbs(points: &PointColumns, quads: &mut [f64], white: &mut [u8]) -> us
     m
 }
 
-// Whether the lent columns have their lengths, for m curbs (cause 2).
-#[tactic(auto, unfolding(crate::specs::Grader::Curbs::curb_room))]
-fn curb_room(m: usize, quads: &[f64], white: &[u8]) -> bool
+// Cause 2 of lent columns: each has its length, for m curbs.
+#[tactic(auto, unfolding(crate::specs::Grader::Cause::check, crate::specs::Grader::Curbs::curb_room))]
+fn room_check(m: usize, quads: &[f64], white: &[u8]) -> Result<(), Cause>
     requires { m ≤ most_points }
-    ensures { result ≡ curb_room m quads.now white.now }
+    ensures { result ≡ check (curb_room m quads.now white.now) Length }
 {
-    (8 * m <= quads.len()) & (m <= white.len())
+    if (8 * m <= quads.len()) & (m <= white.len()) {
+        return Ok(());
+    }
+    Err(Cause::Length)
 }
 
-// The curbs of the given points in the lent columns.
+// The curbs of the given points in the lent columns; how many there are.
 pub fn curbs(
     pbeta: &[f64],
     px: &[f64],
@@ -185,18 +184,16 @@ pub fn curbs(
     count: u32,
     quads: &mut [f64],
     white: &mut [u8],
-) -> CurbAnswer
+) -> Result<u32, Cause>
     ensures { edged result quads.new white.new
         ≡ curbs_call pbeta.now px.now py.now count quads.old
         white.old }
 {
     let n = count as usize;
     let m = constants::column_length(n);
-    let room = curb_room(m, quads, white);
-    let k = points::given_cause(room, pbeta, px, py, n);
-    if 0 < k {
-        return CurbAnswer::Refused(k);
-    }
+    points::count_check(n)?;
+    room_check(m, quads, white)?;
+    points::given_check(pbeta, px, py, n)?;
     let points = PointColumns {
         beta: pbeta,
         x: px,
@@ -206,5 +203,5 @@ pub fn curbs(
     let found = write_curbs(&points, quads, white);
     columns::clear_from(quads, found * 8, 8 * m);
     white[found..m].fill(0);
-    CurbAnswer::Count(found as u32)
+    Ok(found as u32)
 }

@@ -11,7 +11,7 @@ ghost use Rattle.course.specs.Steps.Lay.{columns_of, SameColumns, InFront, tried
 use crate::checkpoints::Checkpoint;
 use crate::constants::{LAID_LENGTH, MAX_ATTEMPTS, TAU, TRACK_RAD};
 use crate::point_columns::PointColumns;
-use crate::points::Laid;
+use crate::points::{LaidCourse, LayError};
 use crate::tiles::TrackPoint;
 use crate::{checkpoints, columns, points, track, trig, walk};
 use rng::SplitMix64;
@@ -108,16 +108,14 @@ pub fn lay_attempts(
     tiles: &mut [f64],
     offsets: &mut [u32],
     list: &mut [u32],
-) -> Laid
+) -> Result<LaidCourse, LayError>
     ensures { outcome result (lent alpha.new beta.new x.new y.new tiles.new
         offsets.new list.new)
         ≡ lay_call attempts seed
         (lent alpha.old beta.old x.old y.old tiles.old
         offsets.old list.old) }
 {
-    if !points::roomy(LAID_LENGTH, alpha, beta, x, y, tiles, offsets) {
-        return Laid::Refused(2);
-    }
+    points::room_check(LAID_LENGTH, alpha, beta, x, y, tiles, offsets)?;
     let mut cols = PointColumns { alpha, beta, x, y };
     let made = first_attempt(attempts, seed, &mut cols);
     let n = or_ring(made, &mut cols);
@@ -145,7 +143,7 @@ pub fn lay(
     tiles: &mut [f64],
     offsets: &mut [u32],
     list: &mut [u32],
-) -> Laid
+) -> Result<LaidCourse, LayError>
     ensures { outcome result (lent alpha.new beta.new x.new y.new tiles.new
         offsets.new list.new)
         ≡ lay_call max_attempts seed
@@ -166,16 +164,14 @@ pub fn lay_checkpoints(
     tiles: &mut [f64],
     offsets: &mut [u32],
     list: &mut [u32],
-) -> Laid
+) -> Result<LaidCourse, LayError>
     ensures { outcome result (lent alpha.new beta.new x.new y.new tiles.new
         offsets.new list.new)
         ≡ lay_on_call cs
         (lent alpha.old beta.old x.old y.old tiles.old
         offsets.old list.old) }
 {
-    if !points::roomy(LAID_LENGTH, alpha, beta, x, y, tiles, offsets) {
-        return Laid::Refused(2);
-    }
+    points::room_check(LAID_LENGTH, alpha, beta, x, y, tiles, offsets)?;
     let mut cols = PointColumns { alpha, beta, x, y };
     let made = attempt(&cs, &mut cols);
     let n = or_ring(made, &mut cols);

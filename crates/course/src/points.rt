@@ -2,10 +2,14 @@
 ghost use Rattle.std.specs.Prelude.{◌≡◌, ◌+◌, ◌-◌, ◌*◌, ◌<◌, ◌≤◌, Bool, ◌++◌, length, take, drop};
 ghost use Rattle.course.specs.Rules.Lengths.{most_points};
 ghost use Rattle.course.specs.Rules.Tiles.{points_of};
-ghost use Rattle.course.specs.Grader.Outcome.{lent, outcome, roomy_of, lay_into, no_course, laid_cause_of, laid_values_of};
-ghost use Rattle.course.specs.Grader.Points.{good_point, all_good, given_of, given_cause, points_call};
+ghost use Rattle.course.specs.Grader.Cause.{check};
+ghost use Rattle.course.specs.Grader.Outcome.{lent, outcome, roomy_of, lay_into, no_course, error_number, error_entries, laid_cause_of, laid_values_of};
+ghost use Rattle.course.specs.Grader.Points.{good_point, all_good, given_of, count_cause, columns_cause, points_call};
+ghost use Rattle.course.specs.declared.cause.Cause.TheVariants.{Length};
+ghost use Rattle.course.specs.declared.points.LayError.TheVariants.{Refused};
 ghost use Rattle.course.specs.Steps.Tiles.{Roomy};
 
+use crate::cause::Cause;
 use crate::constants::{MOST_POINTS, OFFSET_COUNT};
 use crate::tiles::{PointColumns, TrackPoint};
 use crate::{columns, constants, index, numeric, tiles};
@@ -23,25 +27,55 @@ pub struct LaidCourse {
     pub first: TrackPoint,
 }
 
-// What lay and points answer.
-#[derive(Clone, Copy)]
-pub enum Laid {
-    // the course stands in the lent columns
-    Course(LaidCourse),
+// Why lay and points are refused.
+#[derive(Clone, Copy, Debug, PartialEq, Eq)]
+pub enum LayError {
     // cause 3, with the list length needed
     Short(u32),
-    // another cause's number
-    Refused(u32),
+    // another cause
+    Refused(Cause),
+}
+
+impl From<Cause> for LayError {
+    ghost from_gives = { λ cause error. error ≡ Refused cause };
+
+    fn from(cause: Cause) -> LayError {
+        LayError::Refused(cause)
+    }
+}
+
+impl LayError {
+    // The number of its cause.
+    #[tactic(auto, unfolding(crate::specs::Grader::Outcome::error_number))]
+    pub fn number(self) -> u32
+        ensures { result ≡ error_number self }
+    {
+        match self {
+            LayError::Short(_) => 3,
+            LayError::Refused(cause) => cause.number(),
+        }
+    }
+
+    // The list length needed at cause 3, else 0.
+    #[tactic(auto, unfolding(crate::specs::Grader::Outcome::error_entries))]
+    fn entries(self) -> u32
+        ensures { result ≡ error_entries self }
+    {
+        match self {
+            LayError::Short(entries) => entries,
+            LayError::Refused(_) => 0,
+        }
+    }
 }
 
 // The number of the cause that lay or points answered, 0 where it made a course.
-pub fn laid_cause(answer: Laid) -> u32
-    ensures { result ≡ laid_cause_of answer }
+#[tactic(auto, unfolding(crate::specs::Grader::Outcome::laid_cause_of))]
+pub fn laid_cause(answer: &Result<LaidCourse, LayError>) -> u32
+    ensures { result ≡ laid_cause_of answer.now }
 {
     match answer {
-        Laid::Course(_) => 0,
-        Laid::Short(_) => 3,
-        Laid::Refused(cause) => cause,
+        Ok(_) => 0,
+        Err(error) => error.number(),
     }
 }
 
@@ -63,13 +97,13 @@ fn no_course(entries: u32) -> LaidCourse
 }
 
 // The values that lay or points answered, 0 and false where a case has none; at cause 3 the length needed.
-pub fn laid_values(answer: Laid) -> LaidCourse
+#[tactic(auto, unfolding(crate::specs::Grader::Outcome::laid_values_of))]
+pub fn laid_values(answer: Result<LaidCourse, LayError>) -> LaidCourse
     ensures { result ≡ laid_values_of answer }
 {
     match answer {
-        Laid::Course(values) => values,
-        Laid::Short(entries) => no_course(entries),
-        Laid::Refused(_) => no_course(0),
+        Ok(values) => values,
+        Err(error) => no_course(error.entries()),
     }
 }
 
@@ -91,8 +125,9 @@ pub(crate) fn all_good(points: &PointColumns) -> bool
     ok
 }
 
-// Whether the lent columns have their lengths, those of points m entries (cause 2).
-pub(crate) fn roomy(
+// Cause 2 of lent columns: each has its length, those of points m entries.
+#[tactic(auto, unfolding(crate::specs::Grader::Cause::check, crate::specs::Grader::Outcome::roomy_of))]
+pub(crate) fn room_check(
     m: usize,
     alpha: &[f64],
     beta: &[f64],
@@ -100,11 +135,11 @@ pub(crate) fn roomy(
     y: &[f64],
     tiles: &[f64],
     offsets: &[u32],
-) -> bool
+) -> Result<(), Cause>
     requires { m ≤ most_points }
     ensures { result
-        ≡ roomy_of m alpha.now beta.now x.now y.now tiles.now
-        offsets.now }
+        ≡ check (roomy_of m alpha.now beta.now x.now y.now tiles.now
+        offsets.now) Length }
 {
     let a = m <= alpha.len();
     let b = m <= beta.len();
@@ -112,7 +147,10 @@ pub(crate) fn roomy(
     let d = m <= y.len();
     let e = 8 * m <= tiles.len();
     let f = OFFSET_COUNT <= offsets.len();
-    a & (b & (c & (d & (e & f))))
+    if a & (b & (c & (d & (e & f)))) {
+        return Ok(());
+    }
+    Err(Cause::Length)
 }
 
 // Whether the given columns have the count given with them.
@@ -123,21 +161,26 @@ pub(crate) fn given(beta: &[f64], x: &[f64], y: &[f64], n: usize) -> bool
     (n <= beta.len()) & ((n <= x.len()) & (n <= y.len()))
 }
 
-// The first of the causes 9, 2 and 8 of given points that holds, else 0; `room`: no lent column is short.
-pub(crate) fn given_cause(room: bool, b: &[f64], x: &[f64], y: &[f64], count: usize) -> u32
-    ensures { result ≡ given_cause room b.now x.now y.now count }
+// Cause 9 of given points: there is one, and there are not too many.
+#[tactic(auto, unfolding(crate::specs::Grader::Points::count_cause))]
+pub(crate) fn count_check(count: usize) -> Result<(), Cause>
+    ensures { result ≡ count_cause count }
 {
     if count == 0 {
-        return 9;
+        return Err(Cause::Count);
     }
     if MOST_POINTS < count {
-        return 9;
+        return Err(Cause::Count);
     }
-    if !room {
-        return 2;
-    }
+    Ok(())
+}
+
+// Causes 2 and 8 of given points: their columns have the count given with them, and each point is within its range.
+pub(crate) fn given_check(b: &[f64], x: &[f64], y: &[f64], count: usize) -> Result<(), Cause>
+    ensures { result ≡ columns_cause b.now x.now y.now count }
+{
     if !given(b, x, y, count) {
-        return 2;
+        return Err(Cause::Length);
     }
     let points = PointColumns {
         beta: b,
@@ -146,9 +189,9 @@ pub(crate) fn given_cause(room: bool, b: &[f64], x: &[f64], y: &[f64], count: us
         count,
     };
     if !all_good(&points) {
-        return 8;
+        return Err(Cause::Range);
     }
-    0
+    Ok(())
 }
 
 // Zeros, tiles and index, once the columns, of m points, begin with the n points.
@@ -163,7 +206,7 @@ pub(crate) fn finish(
     tiles: &mut [f64],
     offsets: &mut [u32],
     list: &mut [u32],
-) -> Laid
+) -> Result<LaidCourse, LayError>
     requires n_nonzero { (0 < n) × (n ≤ m) × (m ≤ most_points) }
     requires roomy { Roomy m alpha.old beta.old x.old y.old tiles.old offsets.old }
     ensures { outcome result (lent alpha.new beta.new x.new y.new tiles.new
@@ -188,13 +231,13 @@ pub(crate) fn finish(
     let built = index::build_index(&tiles[..used], n, alpha, offsets, list);
     columns::clear_from(alpha, 0, m);
     match built {
-        Ok(entries) => Laid::Course(LaidCourse {
+        Ok(entries) => Ok(LaidCourse {
             n: n as u32,
             fallback,
             entries: entries as u32,
             first,
         }),
-        Err(need) => Laid::Short(need as u32),
+        Err(need) => Err(LayError::Short(need as u32)),
     }
 }
 
@@ -224,7 +267,7 @@ pub fn points(
     tiles: &mut [f64],
     offsets: &mut [u32],
     list: &mut [u32],
-) -> Laid
+) -> Result<LaidCourse, LayError>
     ensures { outcome result (lent alpha.new beta.new x.new y.new tiles.new
         offsets.new list.new)
         ≡ points_call pbeta.now px.now py.now count
@@ -233,11 +276,9 @@ pub fn points(
 {
     let n = count as usize;
     let m = constants::column_length(n);
-    let room = roomy(m, alpha, beta, x, y, tiles, offsets);
-    let k = given_cause(room, pbeta, px, py, n);
-    if 0 < k {
-        return Laid::Refused(k);
-    }
+    count_check(n)?;
+    room_check(m, alpha, beta, x, y, tiles, offsets)?;
+    given_check(pbeta, px, py, n)?;
     let points = PointColumns {
         beta: pbeta,
         x: px,

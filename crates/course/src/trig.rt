@@ -209,8 +209,7 @@ pub(crate) fn sin_cos(a: f64) -> SinCos
     turned(a, quarter_turns(a))
 }
 
-// Cause 8 of an angle: |a| at most 16.
-
+// Cause 8 of an angle: |a| is at most 16.
 fn angle_check(a: f64) -> Result<(), Cause>
     ensures { result ≡ angle_cause a }
 {

@@ -8,8 +8,8 @@ use Rattle.course.specs.Grader.Angle.{angle_cause_of, value_of}
 use Rattle.course.specs.Grader.Cause.{cause_number}
 use Rattle.course.specs.declared.cause.Cause.{Cause}
 use Rattle.course.specs.declared.checkpoints.Checkpoint.{Checkpoint}
-use Rattle.course.specs.declared.points.Laid.{Laid}
-use Rattle.course.specs.declared.curbs.CurbAnswer.{CurbAnswer}
+use Rattle.course.specs.declared.points.LaidCourse.{LaidCourse}
+use Rattle.course.specs.declared.points.LayError.{LayError}
 use Rattle.run.specs.Grader.State.{State}
 use Rattle.run.specs.Grader.Start.{Begun, no_start}
 use Rattle.run.specs.Grader.Sheet.{no_figures}
@@ -40,7 +40,7 @@ use Rattle.abi.specs.declared.flat.Draw.{Draw}
 
 -- ---- courses and numbers
 
-unfoldable pub flat_laid : Laid → FlatLaid
+unfoldable pub flat_laid : Result LaidCourse LayError → FlatLaid
 flat_laid a =
     record {
       cause = laid_cause_of a;
@@ -52,7 +52,7 @@ flat_laid a =
       y = (laid_values_of a).first.y;
     }
 
-unfoldable pub flat_curbs : CurbAnswer → FlatCurbs
+unfoldable pub flat_curbs : Result ℕ Cause → FlatCurbs
 flat_curbs a = record { cause = curb_cause_of a; count = curb_count_of a }
 
 unfoldable pub flat_angle : Result Float Cause → FlatAngle
@@ -157,7 +157,7 @@ flat_saved_for a = record { cause = saved_cause_of a; n = (saved_for_of a).n; se
 
 -- ---- a whole replay: its three answers, and the columns that it is lent
 
-unfoldable pub flat_answers : Laid → Result StartValues Cause → Result RunSheet Cause → FlatReplayed
+unfoldable pub flat_answers : Result LaidCourse LayError → Result StartValues Cause → Result RunSheet Cause → FlatReplayed
 flat_answers l b s =
     record {
       laid = flat_laid l;

@@ -8,7 +8,7 @@ use Rattle.course.specs.Grader.Cause.{cause_number}
 use Rattle.course.specs.Rules.Lengths.{laid_length}
 use Rattle.course.specs.Rules.Constants.{max_attempts}
 use Rattle.course.specs.Grader.Course.{from_points, cells_of}
-use Rattle.course.specs.Grader.Outcome.{CourseColumns, Outcome, outcome, roomy_of, written, laid_figures, laid_answer, laid_cause_of, laid_values_of}
+use Rattle.course.specs.Grader.Outcome.{CourseColumns, Outcome, outcome, roomy_of, written, laid_figures, laid_cause_of, laid_values_of}
 use Rattle.course.specs.Rules.Lay.{course_of}
 use Rattle.course.specs.Grader.LayCall.{lay_call}
 use Rattle.course.specs.declared.tiles.TrackPoint.{TrackPoint}
@@ -104,6 +104,6 @@ pub record Certificate (seed : ℕ) (l : CourseColumns) (by : Lending (seed_tile
   -- lay refuses exactly when document 01 has a cause for it
   pub lays : laid_cause_of (lay_call max_attempts seed l).answer ≡ lay_number seed l
   -- the course is exactly the one that document 01 gives the seed: all that is answered and written
-  pub course : lay_number seed l ≡ 0 → lay_call max_attempts seed l ≡ outcome (laid_answer 0 (laid_figures (course_of seed).fallback (course_of seed).points)) (written laid_length false (from_points (course_of seed).points) l)
+  pub course : lay_number seed l ≡ 0 → lay_call max_attempts seed l ≡ outcome (Ok (laid_figures (course_of seed).fallback (course_of seed).points)) (written laid_length false (from_points (course_of seed).points) l)
   -- and on it the run is the plain scorer's
   pub run : lay_number seed l ≡ 0 → Demand3 full_words most_tiles (course_of seed).points (lay_call max_attempts seed l) by label b is

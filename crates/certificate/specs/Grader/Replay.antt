@@ -2,12 +2,15 @@
 -- answers is said by the plain scorer (document 01, "The plain scorer") on the definition's course. Assumes nothing.
 use Rattle.std.specs.Prelude.{Bool, false, cond, ◌&&◌, List, [], ◌∷◌, ◌++◌, ℕ, zero, suc, ◌*◌, min, leb, eqb, length, get_or, drop, replicate, Float, Result, Ok, Err}
 use Rattle.course.specs.Rules.Constants.{max_attempts}
-use Rattle.course.specs.Grader.Outcome.{CourseColumns, no_values, laid_answer}
+use Rattle.course.specs.Grader.Outcome.{CourseColumns}
 use Rattle.course.specs.Rules.Lay.{CoursePoints, course_of}
 use Rattle.course.specs.Grader.LayCall.{lay_call}
 use Rattle.course.specs.declared.cause.Cause.{Cause}
 use Rattle.course.specs.declared.tiles.TrackPoint.{TrackPoint}
-use Rattle.course.specs.declared.points.Laid.{Laid}
+use Rattle.course.specs.declared.cause.Cause.TheVariants.{Length}
+use Rattle.course.specs.declared.points.LaidCourse.{LaidCourse}
+use Rattle.course.specs.declared.points.LayError.{LayError}
+use Rattle.course.specs.declared.points.LayError.TheVariants.{Refused as NotLaid}
 use Rattle.run.specs.Grader.Widths.{most_tiles}
 use Rattle.run.specs.Grader.Sheet.{share_of}
 use Rattle.certificate.specs.Rules.Answers.{Answer}
@@ -88,14 +91,14 @@ laid_course (suc k) seed = record { points = []; fallback = false }
 
 -- what a replay leaves: the answers of lay and start, the sheet after the last call, the lent columns, and every answer in words and numbers
 pub record Replay : Type 0 where
-  pub laid : Laid
+  pub laid : Result LaidCourse LayError
   pub start : Result StartValues Cause
   pub sheet : Result RunSheet Cause
   pub lent : CourseColumns
   pub words : List ℕ
   pub numbers : List Float
 
-abbrev pub replay : Laid → Result StartValues Cause → Result RunSheet Cause → CourseColumns → List ℕ → List Float → Replay
+abbrev pub replay : Result LaidCourse LayError → Result StartValues Cause → Result RunSheet Cause → CourseColumns → List ℕ → List Float → Replay
 replay laid start sheet l words numbers = record { laid = laid; start = start; sheet = sheet; lent = l; words = words; numbers = numbers }
 
 -- on the course c, with start's cause k and n calls
@@ -126,4 +129,4 @@ replay_of seed l b n calls given words numbers =
     let c = laid_course (lay_number seed l) seed in
     cond (room_for n (length calls) (length given) (length words) (length numbers))
     (replay_on l seed c (start_number c.points most_tiles k b) b n (tolds_to k calls given n) words numbers)
-    (record { laid = laid_answer 2 no_values; start = Err Cause.Length; sheet = Err Cause.State; lent = l; words = words; numbers = numbers })
+    (record { laid = Err (NotLaid Length); start = Err Cause.Length; sheet = Err Cause.State; lent = l; words = words; numbers = numbers })

@@ -1,6 +1,6 @@
 -- Document 01, "Refusals by cause", and document 02, order 1 (11 and 12): the number of each cause. Cause 3 is lay's and points' alone, and comes with a length
 -- (Outcome). Assumes nothing.
-use Rattle.std.specs.Prelude.{ℕ, Result, Ok, Err}
+use Rattle.std.specs.Prelude.{ℕ, Bool, cond, Result, Ok, Err}
 use Rattle.course.specs.declared.cause.Cause.{Cause}
 use Rattle.course.specs.declared.cause.Cause.TheVariants.{Settings, Length, State, Turn, Limit, Action, Range, Count, Index, Form, Course}
 
@@ -21,3 +21,7 @@ number_of Course = 12
 unfoldable pub cause_number : {A : Type 0} → Result A Cause → ℕ
 cause_number (Ok values) = 0
 cause_number (Err c) = number_of c
+
+-- a test that a call passes, or is refused by the cause
+unfoldable pub check : Bool → Cause → Result Unit Cause
+check passes c = cond passes (Ok tt) (Err c)

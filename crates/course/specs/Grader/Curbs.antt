@@ -1,6 +1,7 @@
 -- Document 01, "Beside the run" (Curbs; the Rust's `border_quads`) and "Refusals by cause": curbs 9, 2, 8. Over the given columns
 -- b (beta), x and y of k points. Assumes nothing.
-use Rattle.std.specs.Prelude.{ℕ, zero, suc, ◌+◌, ◌-◌, ◌%◌, Bool, cond, ◌&&◌, ◌||◌, List, [], ◌∷◌, ◌++◌, length, drop, replicate, nat_le, nat_lt, slice_index_or, Float}
+use Rattle.std.specs.Prelude.{ℕ, zero, suc, ◌+◌, ◌-◌, ◌%◌, Bool, cond, ◌&&◌, ◌||◌, List, [], ◌∷◌, ◌++◌, length, drop, replicate, nat_le, nat_lt, slice_index_or, Result, Ok, Err, Float}
+use Rattle.std.specs.Result.{result_unwrap_or}
 use Rattle.std.specs.Float.{nan}
 use Rattle.std.specs.Float.Ieee.{lt, neg}
 use Rattle.course.specs.Rules.Arithmetic.{◌⊕◌, ◌⊖◌, ◌⊗◌, natural, decimal, nought}
@@ -11,9 +12,9 @@ use Rattle.course.specs.Rules.Lengths.{column_length, quad_numbers}
 use Rattle.course.specs.Rules.Tiles.{pair, eight, point_at, before_of}
 use Rattle.course.specs.Grader.Outcome.{filled}
 use Rattle.course.specs.Grader.Points.{given_cause}
+use Rattle.course.specs.Grader.Cause.{cause_number}
+use Rattle.course.specs.declared.cause.Cause.{Cause}
 use Rattle.course.specs.declared.tiles.TrackPoint.{TrackPoint}
-use Rattle.course.specs.declared.curbs.CurbAnswer.{CurbAnswer}
-use Rattle.course.specs.declared.curbs.CurbAnswer.TheVariants.{Count, Refused}
 
 -- ---- which points have a curb
 
@@ -91,39 +92,32 @@ filled_marks m own c = own ++ (replicate (m - length own) 0 ++ drop m c)
 
 -- the answer, and the two lent columns after the call
 pub record Edged : Type 0 where
-  pub answer : CurbAnswer
+  pub answer : Result ℕ Cause
   pub quads : List Float
   pub white : List ℕ
 
-abbrev pub edged : CurbAnswer → List Float → List ℕ → Edged
+abbrev pub edged : Result ℕ Cause → List Float → List ℕ → Edged
 edged r q w = record { answer = r; quads = q; white = w }
 
--- number and value of each case: the count where no cause holds (0), else the cause's number
-unfoldable pub curb_answer : ℕ → ℕ → CurbAnswer
-curb_answer zero m = Count m
-curb_answer (suc k) m = Refused (suc k)
+-- number and count of an answer: 0 where no cause holds; a refusal has no count (0)
+unfoldable pub curb_cause_of : Result ℕ Cause → ℕ
+curb_cause_of r = cause_number r
 
--- the same read back from an answer; a refusal has no count (0)
-unfoldable pub curb_cause_of : CurbAnswer → ℕ
-curb_cause_of (Count m) = 0
-curb_cause_of (Refused k) = k
-
-unfoldable pub curb_count_of : CurbAnswer → ℕ
-curb_count_of (Count m) = m
-curb_count_of (Refused k) = 0
+unfoldable pub curb_count_of : Result ℕ Cause → ℕ
+curb_count_of r = result_unwrap_or r 0
 
 -- the lent columns have their lengths, for m curbs
 unfoldable pub curb_room : ℕ → List Float → List ℕ → Bool
 curb_room m q w = nat_le (quad_numbers m) (length q) && nat_le m (length w)
 
-unfoldable pub curb_cause : List Float → List Float → List Float → ℕ → List Float → List ℕ → ℕ
+unfoldable pub curb_cause : List Float → List Float → List Float → ℕ → List Float → List ℕ → Result Unit Cause
 curb_cause b x y k q w = given_cause (curb_room (column_length k) q w) b x y k
 
 -- by the cause: the curbs in columns for m of them, or the columns as they were
-unfoldable pub curbs_at : ℕ → ℕ → List Float → List Float → List Float → ℕ → List Float → List ℕ → Edged
-curbs_at m zero b x y k q w =
-    edged (curb_answer 0 (length (whites_to b x y k k))) (filled (quad_numbers m) (quads_to b x y k k) q) (filled_marks m (whites_to b x y k k) w)
-curbs_at m (suc c) b x y k q w = edged (curb_answer (suc c) 0) q w
+unfoldable pub curbs_at : ℕ → Result Unit Cause → List Float → List Float → List Float → ℕ → List Float → List ℕ → Edged
+curbs_at m (Ok none) b x y k q w =
+    edged (Ok (length (whites_to b x y k k))) (filled (quad_numbers m) (quads_to b x y k k) q) (filled_marks m (whites_to b x y k k) w)
+curbs_at m (Err c) b x y k q w = edged (Err c) q w
 
 unfoldable pub curbs_call : List Float → List Float → List Float → ℕ → List Float → List ℕ → Edged
 curbs_call b x y k q w = curbs_at (column_length k) (curb_cause b x y k q w) b x y k q w

@@ -1,13 +1,14 @@
 -- Document 01, "Lay" (Lent) and "Refusals by cause": what a course leaves in the lent columns, and what is answered. Assumes nothing.
-use Rattle.std.specs.Prelude.{ℕ, ◌-◌, Bool, false, cond, ◌&&◌, List, [], ◌++◌, length, drop, replicate, ◌==◌, nat_le, nat_lt, slice_index_or, Float}
+use Rattle.std.specs.Prelude.{ℕ, ◌-◌, Bool, false, cond, ◌&&◌, List, [], ◌++◌, length, drop, replicate, nat_le, nat_lt, slice_index_or, Result, Ok, Err, Float}
 use Rattle.course.specs.Rules.Arithmetic.{nought}
 use Rattle.course.specs.Rules.Lengths.{quad_numbers, offset_count}
 use Rattle.course.specs.Rules.Tiles.{no_point}
 use Rattle.course.specs.Grader.Course.{Course, from_points, cells_of}
+use Rattle.course.specs.Grader.Cause.{number_of}
 use Rattle.course.specs.declared.tiles.TrackPoint.{TrackPoint}
 use Rattle.course.specs.declared.points.LaidCourse.{LaidCourse}
-use Rattle.course.specs.declared.points.Laid.{Laid}
-use Rattle.course.specs.declared.points.Laid.TheVariants.{Course as Made, Short, Refused}
+use Rattle.course.specs.declared.points.LayError.{LayError}
+use Rattle.course.specs.declared.points.LayError.TheVariants.{Short, Refused}
 
 -- the lent columns
 pub record CourseColumns : Type 0 where
@@ -24,10 +25,10 @@ lent a b x y t o l = record { alpha = a; beta = b; x = x; y = y; tiles = t; offs
 
 -- an answer, and the lent columns after the call
 pub record Outcome : Type 0 where
-  pub answer : Laid
+  pub answer : Result LaidCourse LayError
   pub lent : CourseColumns
 
-abbrev pub outcome : Laid → CourseColumns → Outcome
+abbrev pub outcome : Result LaidCourse LayError → CourseColumns → Outcome
 outcome r l = record { answer = r; lent = l }
 
 -- the lent columns have their lengths, those of points m entries; the index list has none
@@ -65,24 +66,27 @@ no_course entries = record { n = 0; fallback = false; entries = entries; first =
 abbrev pub no_values : LaidCourse
 no_values = no_course 0
 
--- number and values of each case: the values where no cause holds (0), for cause 3 the length needed, else the cause's number alone
-unfoldable pub laid_answer : ℕ → LaidCourse → Laid
-laid_answer k v = cond (k == 0) (Made v) (cond (k == 3) (Short v.entries) (Refused k))
+-- number and values of each case: an error's number is its cause's, 3 for a short list; `no_values` for what a case does not have
+unfoldable pub error_number : LayError → ℕ
+error_number (Short length-needed) = 3
+error_number (Refused c) = number_of c
 
--- the same read back from an answer; `no_values` for what a case does not have
-unfoldable pub laid_cause_of : Laid → ℕ
-laid_cause_of (Made v) = 0
-laid_cause_of (Short length-needed) = 3
-laid_cause_of (Refused k) = k
+unfoldable pub laid_cause_of : Result LaidCourse LayError → ℕ
+laid_cause_of (Ok v) = 0
+laid_cause_of (Err e) = error_number e
 
-unfoldable pub laid_values_of : Laid → LaidCourse
-laid_values_of (Made v) = v
-laid_values_of (Short length-needed) = no_course length-needed
-laid_values_of (Refused k) = no_values
+-- the length needed at cause 3
+unfoldable pub error_entries : LayError → ℕ
+error_entries (Short length-needed) = length-needed
+error_entries (Refused c) = 0
 
--- the answer of a call with room, by whether the list is too short: cause 3 or none
-unfoldable pub answered : Bool → Bool → List TrackPoint → Laid
-answered short fallback ps = laid_answer (cond short 3 0) (laid_figures fallback ps)
+unfoldable pub laid_values_of : Result LaidCourse LayError → LaidCourse
+laid_values_of (Ok v) = v
+laid_values_of (Err e) = no_course (error_entries e)
+
+-- the answer of a call with room, by whether the list is too short: cause 3 with the length needed, or the values
+unfoldable pub answered : Bool → Bool → List TrackPoint → Result LaidCourse LayError
+answered short fallback ps = cond short (Err (Short (cells_of ps))) (Ok (laid_figures fallback ps))
 
 -- ---- what is done
 

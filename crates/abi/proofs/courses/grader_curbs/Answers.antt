@@ -4,5 +4,5 @@ use Rattle.abi.proofs.courses.grader_curbs.Goals as goal
 
 pub returns : goal.returns
 returns c =
-    let whole = curbs-whole _ _ _ _ _ c.curbs-2.ensures c.curbs.ensures in
+    let whole = curbs-whole _ _ _ _ _ c.from.ensures c.curbs.ensures in
     record { value = whole.0; quads_after = whole.1.0; white_after = whole.1.1 }

@@ -4,5 +4,5 @@ use Rattle.abi.proofs.courses.grader_lay.Goals as goal
 
 pub returns : goal.returns
 returns c =
-    let whole = laid-whole _ _ _ _ c.laid.ensures c.lay.ensures in
+    let whole = laid-whole _ _ _ _ c.from.ensures c.lay.ensures in
     record { value = whole.0; list_after = whole.1 }

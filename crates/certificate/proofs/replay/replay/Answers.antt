@@ -1,13 +1,12 @@
 -- `certificate::replay::replay` meets its contract. Assumes nothing.
 use mathlib.Core.Path.{sym, ◌∙◌}
 use Rattle.run.specs.Grader.State.{view}
-use Rattle.course.specs.Grader.Outcome.{laid_answer}
 use Rattle.certificate.specs.Grader.Replay.{replay_of}
 use Rattle.certificate.proofs.ReplayLaws.{room-each, replayed}
 use Rattle.certificate.proofs.replay.replay.Goals as goal
 
 pub returns-then-not-room_for : goal.returns-then-not-room_for
-unfolding replay_of laid_answer
+unfolding replay_of
 returns-then-not-room_for c = rw (sym c.room_for.ensures ∙ c.if-not-room_for.true)
 
 pub replies-requires : goal.replies-requires

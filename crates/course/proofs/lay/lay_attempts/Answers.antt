@@ -1,12 +1,13 @@
 -- `course::lay::lay_attempts` meets its contract: where the columns have room, `finish` is called when all is ready for it. Assumes nothing.
-use Rattle.std.proofs.Common.{sym, ◌∙◌, rules}
+use Rattle.std.proofs.Common.{rules}
+use Rattle.std.proofs.lemmas.Result.{err_from_is_err_and}
 use Rattle.course.specs.Grader.Outcome.{lent}
 use Rattle.course.specs.Grader.LayCall.{lay_call}
 use Rattle.course.specs.Rules.Lay.{course_within}
 use Rattle.course.specs.Steps.Lay.{columns_of}
 use Rattle.course.proofs.CourseSizes.{within-sized}
 use Rattle.course.proofs.Generating.{Made, made-or-ring, within-tried}
-use Rattle.course.proofs.LaidColumns.{room}
+use Rattle.course.proofs.LaidColumns.{room, check-passed}
 use Rattle.course.proofs.LayLaws.{points_lent, refused-short, finish-size, laid}
 use Rattle.course.proofs.lay.lay_attempts.Goals as goal
 use Rattle.course.proofs.lay.lay_attempts.Goals.{After-is_none}
@@ -19,13 +20,15 @@ ready c =
     let m = c.first_attempt-made in
     made-or-ring m.result (within-tried c.args.attempts c.args.seed) m.ensures.in_front m.ensures.some c.or_ring-n.ensures.points c.is_none.ensures
 
-pub returns-then-not-roomy : goal.returns-then-not-roomy
+pub returns-in_err-room_check : goal.returns-in_err-room_check
 unfolding lay_call
-returns-then-not-roomy c = refused-short _ _ (sym c.roomy.ensures ∙ c.if-not-roomy.true)
+returns-in_err-room_check c =
+    let p = err_from_is_err_and c.from_residual.result c.from_residual.ensures.1 in
+    refused-short _ (rw (p.1, p.2)) c.in_err-room_check.ensures
 
 pub invariant_of-cols : goal.invariant_of-cols
 invariant_of-cols c =
-    let r = room (sym c.roomy.ensures ∙ c.if-not-roomy.false) in
+    let r = room (check-passed _ _ c.in_ok-room_check.ensures) in
     record { room_alpha = r.alpha; room_beta = r.beta; room_x = r.x; room_y = r.y }
 
 pub finish-requires-clause-n_nonzero : goal.finish-requires-clause-n_nonzero
@@ -33,7 +36,7 @@ finish-requires-clause-n_nonzero c = finish-size (ready (goal.at.finish-requires
 
 pub finish-requires-clause-roomy : goal.finish-requires-clause-roomy
 finish-requires-clause-roomy c =
-    let m = room (sym c.roomy.ensures ∙ c.if-not-roomy.false) in
+    let m = room (check-passed _ _ c.in_ok-room_check.ensures) in
     record { alpha = search rules; beta = search rules; x = search rules; y = search rules; tiles = m.tiles; offsets = m.offsets }
 
 -- the columns that `finish` is lent are those that the struct held
@@ -41,4 +44,4 @@ pub returns : goal.returns
 unfolding lay_call
 returns c =
     laid (lent c.args.alpha.now c.args.beta.now c.args.x.now c.args.y.now c.args.tiles.now c.args.offsets.now c.args.list.now)
-    (sym c.roomy.ensures ∙ c.if-not-roomy.false) (ready (goal.at.returns c).After-is_none) (search rules) (search rules) (search rules) (search rules) c.finish.ensures
+    (check-passed _ _ c.in_ok-room_check.ensures) (ready (goal.at.returns c).After-is_none) (search rules) (search rules) (search rules) (search rules) c.finish.ensures

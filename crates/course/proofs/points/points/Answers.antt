@@ -1,29 +1,42 @@
 -- `course::points::points` meets its contract. Assumes nothing.
-use Rattle.course.proofs.LaidColumns.{fit, refused, accepted, no-cause}
 use Rattle.std.proofs.Common.{arith}
+use Rattle.std.proofs.lemmas.Result.{err_from_is_err_and}
+use Rattle.course.proofs.LaidColumns.{passed, by-count, by-room, by-columns, fit, refused, accepted}
 use Rattle.course.proofs.points.points.Goals as goal
 
-pub returns-then-k-gt0 : goal.returns-then-k-gt0
-returns-then-k-gt0 c = refused _ _ _ _ _ _ _ _ _ _ _ _ _ _ c.column_length-m.ensures.value c.given_cause-k.ensures c.roomy-room.ensures c.if-k-gt0.true
+pub returns-in_err-count_check : goal.returns-in_err-count_check
+returns-in_err-count_check c =
+    let p = err_from_is_err_and c.from_residual.result c.from_residual.ensures.1 in
+    refused _ _ _ _ c.column_length-m.ensures.value (rw (p.1, p.2)) (by-count _ _ _ _ _ c.in_err-count_check.ensures)
+
+pub returns-in_err-room_check : goal.returns-in_err-room_check
+returns-in_err-room_check c =
+    let p = err_from_is_err_and c.from_residual-in_err-room_check.result c.from_residual-in_err-room_check.ensures.1 in
+    refused _ _ _ _ c.column_length-m.ensures.value (rw (p.1, p.2)) (by-room _ _ _ _ _ c.in_ok-count_check.ensures c.in_err-room_check.ensures)
+
+pub returns-in_err-given_check : goal.returns-in_err-given_check
+returns-in_err-given_check c =
+    let p = err_from_is_err_and c.from_residual-in_err-given_check.result c.from_residual-in_err-given_check.ensures.1 in
+    refused _ _ _ _ c.column_length-m.ensures.value (rw (p.1, p.2))
+    (by-columns _ _ _ _ _ c.in_ok-count_check.ensures c.in_ok-room_check.ensures c.in_err-given_check.ensures)
 
 pub invariant_of-points : goal.invariant_of-points
 invariant_of-points c =
-    let z = no-cause _ _ _ _ _ _ _ c.given_cause-k.ensures c.roomy-room.ensures c.if-k-gt0.false in
-    let g = (fit _ _ _ _ _ _ _ _ _ _ _ c.column_length-m.ensures.value z).given in
-    record { beta_long = g.beta; x_long = g.x; y_long = g.y }
+    let p = passed _ _ _ _ _ c.in_ok-count_check.ensures c.in_ok-room_check.ensures c.in_ok-given_check.ensures in
+    record { beta_long = p.given.beta; x_long = p.given.x; y_long = p.given.y }
 
 pub copy_points-requires : goal.copy_points-requires
 copy_points-requires c =
-    let z = no-cause _ _ _ _ _ _ _ c.given_cause-k.ensures c.roomy-room.ensures c.if-k-gt0.false in
-    let f = fit _ _ _ _ _ _ _ _ _ _ _ c.column_length-m.ensures.value z in
+    let p = passed _ _ _ _ _ c.in_ok-count_check.ensures c.in_ok-room_check.ensures c.in_ok-given_check.ensures in
+    let f = fit c.column_length-m.ensures.value p in
     (omega (arith, f.room.beta, f.few), omega (arith, f.room.x, f.few), omega (arith, f.room.y, f.few))
 
 pub finish-requires : goal.finish-requires
 finish-requires c =
-    let z = no-cause _ _ _ _ _ _ _ c.given_cause-k.ensures c.roomy-room.ensures c.if-k-gt0.false in
-    let f = fit _ _ _ _ _ _ _ _ _ _ _ c.column_length-m.ensures.value z in
+    let p = passed _ _ _ _ _ c.in_ok-count_check.ensures c.in_ok-room_check.ensures c.in_ok-given_check.ensures in
+    let f = fit c.column_length-m.ensures.value p in
     record {
-      n_nonzero = (f.some, f.few, f.small);
+      n_nonzero = (p.some, f.few, f.small);
       roomy = record {
         alpha = f.room.alpha;
         beta = omega (arith, f.room.beta, c.copy_points.auto.beta);
@@ -36,6 +49,6 @@ finish-requires c =
 
 pub returns : goal.returns
 returns c =
-    let z = no-cause _ _ _ _ _ _ _ c.given_cause-k.ensures c.roomy-room.ensures c.if-k-gt0.false in
-    accepted _ _ _ _ _ _ _ _ _ _ _ _ _ _ _ _ c.column_length-m.ensures.value z
+    let p = passed _ _ _ _ _ c.in_ok-count_check.ensures c.in_ok-room_check.ensures c.in_ok-given_check.ensures in
+    accepted _ _ _ _ _ _ _ _ _ _ _ _ _ _ _ _ c.column_length-m.ensures.value p
     c.copy_points.ensures.beta_after c.copy_points.ensures.x_after c.copy_points.ensures.y_after c.finish.ensures
