@@ -14,14 +14,11 @@ use Rattle.course.specs.declared.cause.Cause.{Cause}
 use Rattle.course.specs.declared.checkpoints.Checkpoint.{Checkpoint}
 use Rattle.course.specs.declared.points.Laid.{Laid}
 use Rattle.course.specs.declared.curbs.CurbAnswer.{CurbAnswer}
-use Rattle.run.specs.Grader.State.{view}
 use Rattle.run.specs.Grader.Drive.{drive_cause_of, drive_parts_of}
 use Rattle.run.specs.Grader.Settle.{settle_cause_of, settle_values_of, settled_parts, SettledPoses, settled_poses}
 use Rattle.run.specs.Grader.Numbers.{motions_from, force_numbers, car_from, car_numbers}
 use Rattle.run.specs.Grader.Save.{AfterSave, after_save}
-use Rattle.run.specs.Grader.Restore.{AfterRestore, after_restore, restore_cause_of}
 use Rattle.certificate.specs.Grader.Replay.{Replay, replay}
-use Rattle.run.specs.declared.state.Run.{Run}
 use Rattle.run.specs.declared.state.Setup.{Setup}
 use Rattle.run.specs.declared.state.Progress.{Progress}
 use Rattle.run.specs.declared.state.Car.{Car}
@@ -31,9 +28,8 @@ use Rattle.run.specs.declared.drive.DroveParts.{DroveParts}
 use Rattle.run.specs.declared.settle.SettleAnswer.{SettleAnswer}
 use Rattle.run.specs.declared.settle.SettleValues.{SettleValues}
 use Rattle.run.specs.declared.sheet.RunSheet.{RunSheet}
-use Rattle.run.specs.declared.restore.RestoreAnswer.{RestoreAnswer}
 use Rattle.run.proofs.DriveLaws.{refused-keeps}
-use Rattle.abi.specs.Grader.Flat.{flat_laid, flat_curbs, run_of, flat_driven, flat_settled, flat_sheet, flat_saved, saved_out, flat_save, flat_restored, flat_answers, flat_replayed, replay_columns, columns_after}
+use Rattle.abi.specs.Grader.Flat.{flat_laid, flat_curbs, flat_driven, flat_settled, flat_sheet, flat_saved, saved_out, flat_save, flat_answers, flat_replayed, replay_columns, columns_after}
 use Rattle.abi.specs.Grader.InPlace.{DrivenInPlace, driven_in_place, drive_in_place, SettledInPlace, settled_in_place}
 use Rattle.abi.specs.declared.flat.FlatLaid.{FlatLaid}
 use Rattle.abi.specs.declared.flat.FlatCurbs.{FlatCurbs}
@@ -104,11 +100,6 @@ settled-whole {next = next} {c = c} {w = w} {last = last} ek ev e =
 pub saved-whole : (f : FlatSaved) (a : Result ℕ Cause) (out : List ℕ) (d : AfterSave) → f ≡ flat_saved a → after_save a out ≡ d → saved_out f out ≡ flat_save d
 unfolding flat_save
 saved-whole f a out d e p = ap (λ (g : FlatSaved). saved_out g out) e ∙ ap flat_save p
-
--- the struct that restore returns, from its answer and state
-pub restored-whole : (a : RestoreAnswer) (r : Run) (d : AfterRestore) (k : ℕ) → k ≡ restore_cause_of a → after_restore a (view r) ≡ d → record { cause = k; run = r } ≡ flat_restored d
-unfolding flat_restored run_of view
-restored-whole a r d k e p = (λ i. record { cause = e i; run = r }) ∙ ap flat_restored p
 
 -- ---- a whole replay
 

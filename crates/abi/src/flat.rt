@@ -6,8 +6,8 @@ ghost use Rattle.run.specs.Grader.State.{view};
 ghost use Rattle.run.specs.Grader.Start.{no_start, begun};
 ghost use Rattle.run.specs.Grader.Drive.{drive_cause_of};
 ghost use Rattle.run.specs.Grader.Settle.{settle_cause_of, settle_values_of};
-ghost use Rattle.run.specs.Grader.Restore.{restore_cause_of};
-ghost use Rattle.abi.specs.Grader.Flat.{flat_laid, flat_curbs, flat_started, flat_sheet, flat_saved, flat_saved_for, flat_angle, flat_answers};
+ghost use Rattle.run.specs.Grader.Restore.{after_restore};
+ghost use Rattle.abi.specs.Grader.Flat.{flat_laid, flat_curbs, flat_started, flat_sheet, flat_saved, flat_restored, flat_saved_for, flat_angle, flat_answers};
 
 use certificate::replay::Replayed;
 use course::cause::Cause;
@@ -16,7 +16,7 @@ use course::points::Laid;
 use course::trig::Angle;
 use course::{cause, points};
 use run::drive::DriveAnswer;
-use run::restore::{RestoreAnswer, SavedCourse};
+use run::restore::{Restoration, SavedFor};
 use run::settle::{SettleAnswer, SettleValues};
 use run::sheet::RunSheet;
 use run::start::{StartValues, Started};
@@ -308,31 +308,31 @@ impl From<Result<u32, Cause>> for FlatSaved {
     }
 }
 
-// The cause that restore answered, 0 where it restored.
-pub(crate) fn restore_cause(answer: RestoreAnswer) -> u32
-    ensures { result ≡ restore_cause_of answer }
-{
-    match answer {
-        RestoreAnswer::Restored => 0,
-        RestoreAnswer::Refused(cause) => cause,
+// The answer of restore, and the state.
+impl From<Restoration> for FlatRestored {
+    ghost from_gives = { λ r f. f ≡ flat_restored (after_restore r.answer (view r.run)) };
+
+    #[tactic(auto, unfolding(crate::specs::Grader::Flat::flat_restored, crate::specs::Grader::Flat::run_of, run::specs::Grader::State::view))]
+    fn from(r: Restoration) -> FlatRestored {
+        FlatRestored {
+            cause: cause::cause_number(&r.answer),
+            run: r.run,
+        }
     }
 }
 
 // The answer of saved_course.
-pub(crate) fn saved_for(answer: SavedCourse) -> FlatSavedFor
-    ensures { result ≡ flat_saved_for answer }
-{
-    match answer {
-        SavedCourse::Course(v) => FlatSavedFor {
-            cause: 0,
+impl From<Result<SavedFor, Cause>> for FlatSavedFor {
+    ghost from_gives = { λ a f. f ≡ flat_saved_for a };
+
+    #[tactic(auto, unfolding(crate::specs::Grader::Flat::flat_saved_for))]
+    fn from(answer: Result<SavedFor, Cause>) -> FlatSavedFor {
+        let v = answer.unwrap_or(SavedFor { seed: 0, n: 0 });
+        FlatSavedFor {
+            cause: cause::cause_number(&answer),
             n: v.n,
             seed: v.seed,
-        },
-        SavedCourse::Refused(cause) => FlatSavedFor {
-            cause,
-            n: 0,
-            seed: 0,
-        },
+        }
     }
 }
 

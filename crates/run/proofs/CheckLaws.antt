@@ -1,8 +1,8 @@
 -- Checks that end at the first cause that holds: what a check that none ended tells of each test, and the number of the cause that ends one. Assumes nothing.
 use mathlib.Core.Bool.{Bool, true, false, cond}
-use mathlib.Core.Path.{◌≡◌, refl, ap}
+use mathlib.Core.Path.{◌≡◌, refl, sym, ap, ◌∙◌}
 use Prim.Native.Nat.{ℕ, suc}
-use Rattle.std.specs.Prelude.{Result, Ok, Err, is_ok}
+use Rattle.std.specs.Prelude.{Option, Some, None, Result, Ok, Err, is_ok, ok_or}
 use Rattle.std.proofs.lemmas.Bool.{false≢true}
 use Rattle.course.specs.Grader.Cause.{number_of, cause_number}
 use Rattle.course.specs.declared.cause.Cause.{Cause}
@@ -11,6 +11,15 @@ use Rattle.course.specs.declared.cause.Cause.{Cause}
 pub passed : {A E : Type 0} (b : Bool) (k : E) (r : Result A E) {x : A} → cond b (Err k) r ≡ Ok x → (b ≡ false) × (r ≡ Ok x)
 passed true k r e = absurd (false≢true (ap is_ok e))
 passed false k r e = (refl, e)
+
+-- what `ok_or` refuses was not there, and is refused by the cause given
+pub not-there : {A : Type 0} (o : Option A) {r : Result A Cause} {k j : Cause} → r ≡ ok_or o k → r ≡ Err j → (o ≡ None) × (j ≡ k)
+not-there {A} None {k = k} e h = (refl, ap (cause_in k) (sym h ∙ e))
+  where
+    cause_in : Cause → Result A Cause → Cause
+    cause_in d (Ok x) = d
+    cause_in d (Err c) = c
+not-there (Some x) e h = absurd (false≢true (sym (ap is_ok (sym e ∙ h))))
 
 -- the number of a check, test by test
 pub cause-by : {A : Type 0} (b : Bool) (k : Cause) (r : Result A Cause) → cause_number (cond b (Err k) r) ≡ cond b (number_of k) (cause_number r)

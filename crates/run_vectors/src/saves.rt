@@ -3,7 +3,7 @@ ghost use Rattle.std.specs.Prelude.{◌≤◌};
 
 use crate::{change, hash, read};
 use course::cause::Cause;
-use run::restore::{RestoreAnswer, SavedCourse};
+use run::restore::SavedFor;
 use run::state::Run;
 use run::{restore, save};
 use std::io;
@@ -127,25 +127,30 @@ pub fn replay_save<W: Write>(to: &mut W, rest: &[u8], run: Run) -> io::Result<()
     vectors::line_hex(to, vectors::hash::marks(&out))
 }
 
-fn line_course<W: Write>(to: &mut W, of: SavedCourse) -> io::Result<()> {
+fn line_course<W: Write>(to: &mut W, of: Result<SavedFor, Cause>) -> io::Result<()> {
     match of {
-        SavedCourse::Course(c) => {
+        Ok(c) => {
             vectors::line_u64(to, c.seed)?;
             vectors::line_u64(to, c.n as u64)
         }
-        SavedCourse::Refused(cause) => vectors::line_refused(to, cause),
+        Err(cause) => vectors::line_refused(to, cause.number()),
     }
 }
 
 // The restored run; where the restore is refused, the one before it.
-fn taken<W: Write>(to: &mut W, answer: RestoreAnswer, before: Run, after: Run) -> io::Result<Run> {
+fn taken<W: Write>(
+    to: &mut W,
+    answer: Result<(), Cause>,
+    before: Run,
+    after: Run,
+) -> io::Result<Run> {
     match answer {
-        RestoreAnswer::Restored => {
+        Ok(()) => {
             to.write_all(b"restored\n")?;
             Ok(after)
         }
-        RestoreAnswer::Refused(cause) => {
-            vectors::line_refused(to, cause)?;
+        Err(cause) => {
+            vectors::line_refused(to, cause.number())?;
             Ok(before)
         }
     }
