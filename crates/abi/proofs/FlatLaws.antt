@@ -11,16 +11,13 @@ use Rattle.course.specs.declared.cause.Cause.{Cause}
 use Rattle.course.specs.declared.checkpoints.Checkpoint.{Checkpoint}
 use Rattle.course.specs.declared.points.LaidCourse.{LaidCourse}
 use Rattle.course.specs.declared.points.LayError.{LayError}
-use Rattle.run.specs.Grader.State.{view}
 use Rattle.run.specs.Grader.Drive.{DroveParts, drove_parts, drive_parts_of}
 use Rattle.course.specs.Grader.Cause.{cause_number}
 use Rattle.run.specs.Grader.Settle.{settled_parts, SettledPoses, settled_poses}
 use Rattle.std.specs.Result.{result_unwrap_or}
 use Rattle.run.specs.Grader.Numbers.{motions_from, force_numbers, car_from, car_numbers}
 use Rattle.run.specs.Grader.Save.{AfterSave, after_save}
-use Rattle.run.specs.Grader.Restore.{AfterRestore, after_restore, restore_cause_of}
 use Rattle.certificate.specs.Grader.Replay.{Replay, replay}
-use Rattle.run.specs.declared.state.Run.{Run}
 use Rattle.run.specs.declared.state.Setup.{Setup}
 use Rattle.run.specs.declared.state.Progress.{Progress}
 use Rattle.run.specs.declared.state.Car.{Car}
@@ -30,9 +27,8 @@ use Rattle.run.specs.declared.dynamics.Force.{Force}
 use Rattle.std.specs.Prelude.{Ok, Err}
 use Rattle.run.specs.declared.settle.SettleValues.{SettleValues}
 use Rattle.run.specs.declared.sheet.RunSheet.{RunSheet}
-use Rattle.run.specs.declared.restore.RestoreAnswer.{RestoreAnswer}
 use Rattle.run.proofs.DriveLaws.{refused-keeps}
-use Rattle.abi.specs.Grader.Flat.{flat_laid, flat_curbs, run_of, flat_driven, no_settle, flat_settled, flat_sheet, flat_saved, saved_out, flat_save, flat_restored, flat_answers, flat_replayed, replay_columns, columns_after}
+use Rattle.abi.specs.Grader.Flat.{flat_laid, flat_curbs, flat_driven, no_settle, flat_settled, flat_sheet, flat_saved, saved_out, flat_save, flat_answers, flat_replayed, replay_columns, columns_after}
 use Rattle.abi.specs.Grader.InPlace.{DrivenInPlace, driven_in_place, forces_after, drive_in_place, SettledInPlace, settled_in_place}
 use Rattle.abi.specs.declared.flat.FlatLaid.{FlatLaid}
 use Rattle.abi.specs.declared.flat.FlatCurbs.{FlatCurbs}
@@ -103,11 +99,6 @@ settled-whole {next = next} {c = c} {w = w} {last = last} ek ev e =
 pub saved-whole : (f : FlatSaved) (a : Result ℕ Cause) (out : List ℕ) (d : AfterSave) → f ≡ flat_saved a → after_save a out ≡ d → saved_out f out ≡ flat_save d
 unfolding flat_save
 saved-whole f a out d e p = ap (λ (g : FlatSaved). saved_out g out) e ∙ ap flat_save p
-
--- the struct that restore returns, from its answer and state
-pub restored-whole : (a : RestoreAnswer) (r : Run) (d : AfterRestore) (k : ℕ) → k ≡ restore_cause_of a → after_restore a (view r) ≡ d → record { cause = k; run = r } ≡ flat_restored d
-unfolding flat_restored run_of view
-restored-whole a r d k e p = (λ i. record { cause = e i; run = r }) ∙ ap flat_restored p
 
 -- ---- a whole replay
 

@@ -4,7 +4,9 @@ use mathlib.Core.List.{List, [], ◌∷◌, map}
 use mathlib.Core.Path.{◌≡◌, refl, ap, ◌∙◌}
 use Prim.Native.Nat.{ℕ, zero, suc}
 use native.Mathlib.Omega.{arith}
-use Rattle.std.specs.Prelude.{Result, Ok, Err}
+use mathlib.Core.Bool.{false}
+use lib.Dec.{eqb}
+use Rattle.std.specs.Prelude.{Option, Some, None, Result, Ok, Err}
 use lib.ListN.{length, get_or}
 use lib.Ieee.{Float}
 use borrow.Author.Tests.{ne_eqb}
@@ -16,10 +18,9 @@ use Rattle.run.specs.Rules.Pass.{gathered_of, pass_of, still_car}
 use Rattle.run.specs.Grader.Drive.{drive_check, drive_at, drive_parts_of, drive_of}
 use Rattle.run.specs.Grader.Settle.{settle_check, settled_by, settle_at, settle_parts_of, poses_after, settle_poses_of, settle_of}
 use Rattle.run.specs.Grader.Start.{zero_state, started_by, start_at, start_of}
-use Rattle.run.specs.Grader.Saved.{Loaded, loaded}
-use Rattle.run.specs.Grader.Saved.Loaded.{kept, not_kept}
+use Rattle.run.specs.Grader.Saved.{Fields, loaded}
 use Rattle.run.specs.Grader.Save.{save_check, save_at, save_of}
-use Rattle.run.specs.Grader.Restore.{restore_answer, restore_cause_of, restore_cause, restored_state, restore_at, restore_of}
+use Rattle.run.specs.Grader.Restore.{restore_check, restored_state, restore_at, restore_of}
 use Rattle.certificate.specs.Rules.Answers.{Answer, Reply}
 use Rattle.certificate.specs.Rules.Answers.Reply.{answered, decided}
 use Rattle.certificate.specs.Grader.Calls.{Call, Replied, reply_of, replies_of, state_after, going, Went, went, saves_after, state_next, request_of, requests_said, going_after}
@@ -95,18 +96,22 @@ host-list m most l a cs = (
 abbrev went_as : HostWent → Went
 went_as r = went r.reply (value_going r.going)
 
+refused-read : (e : Cause) → eqb (number_of e) 0 ≡ false
+refused-read e =
+    let p = number-some e in
+    ne_eqb (number_of e) 0 (λ z. omega (arith, p.1, z))
+
 save-at : (k : Result Unit Cause) (s : State) (out : List ℕ) (bs : List (List ℕ)) → saves_kept (flat_save (save_at k s out)) bs ≡ saves_after (save_at k s out).answer (save_at k s out).out bs
 unfolding saves_kept flat_save flat_saved save_at cause_number
 save-at (Ok none) s out bs = refl
 save-at (Err e) s out bs =
-    let p = number-some e in
-    rw (ne_eqb (number_of e) 0 (λ z. omega (arith, p.1, z)))
+    rw (refused-read e)
 
-restore-at : (m k : ℕ) (l : Columns) (r : Loaded) (h : Kept) → kept_state (run_kept (flat_restored (restore_at m k l r)) h) ≡ state_next (restore_at m k l r).answer (restore_at m k l r).state (kept_state h)
-unfolding run_kept flat_restored run_of view restore_at restore_answer restore_cause_of restored_state kept_state kept_from car_from car_numbers wheel_from
-restore-at m zero l (kept f) h = refl
-restore-at m zero l not_kept h = refl
-restore-at m (suc k) l r h = rw (ne_eqb (suc k) 0 (λ z. omega (arith, z)))
+restore-at : (m : ℕ) (k : Result Unit Cause) (l : Columns) (r : Option Fields) (h : Kept) → kept_state (run_kept (flat_restored (restore_at m k l r)) h) ≡ state_next (restore_at m k l r).answer (restore_at m k l r).state (kept_state h)
+unfolding run_kept flat_restored run_of view restore_at cause_number number_of restored_state kept_state kept_from car_from car_numbers wheel_from
+restore-at m (Ok none) l (Some f) h = refl
+restore-at m (Ok none) l None h = refl
+restore-at m (Err e) l r h = rw (refused-read e)
 
 one-request : (m most : ℕ) (g : HostGoing) (r : HostRequest) → went_as (host_request m most g r) ≡ request_of m most (value_going g) (value_request r)
 unfolding host_request request_of value_request value_going flat_save flat_saved flat_restored save_of restore_of
@@ -117,8 +122,8 @@ one-request m most g (HostRequest.save out) =
     ap (λ (bs : List (List ℕ)). went (decided (cause_number (save_at k s out).answer)) (going s bs)) (save-at k s out g.saves)
 one-request m most g (HostRequest.restore l n i) =
     let r = loaded m most (get_or g.saves i []) in
-    let k = restore_cause l n r in
-    ap (λ (s : State). went (decided (restore_cause_of (restore_at m k l r).answer)) (going s g.saves)) (restore-at m k l r g.kept)
+    let k = restore_check l n r in
+    ap (λ (s : State). went (decided (cause_number (restore_at m k l r).answer)) (going s g.saves)) (restore-at m k l r g.kept)
 
 host-said : (m most : ℕ) (rs : List HostRequest) (g : HostGoing) → host_said m most g rs ≡ requests_said m most (value_going g) (map value_request rs)
 unfolding host_said requests_said

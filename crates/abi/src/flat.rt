@@ -4,14 +4,14 @@ ghost use Rattle.std.specs.Prelude.{◌≡◌};
 ghost use Rattle.std.specs.Result.{result_unwrap_or};
 ghost use Rattle.run.specs.Grader.State.{view};
 ghost use Rattle.run.specs.Grader.Start.{no_start, begun};
-ghost use Rattle.run.specs.Grader.Restore.{restore_cause_of};
-ghost use Rattle.abi.specs.Grader.Flat.{flat_laid, flat_curbs, flat_started, flat_sheet, flat_saved, flat_saved_for, flat_angle, flat_answers};
+ghost use Rattle.abi.specs.Grader.Flat.{flat_laid, flat_curbs, flat_started, flat_sheet, flat_saved, flat_saved_for, flat_angle, flat_answers, flat_restored};
+ghost use Rattle.run.specs.Grader.Restore.{after_restore};
 
 use certificate::replay::Replayed;
 use course::cause::Cause;
 use course::points::{LaidCourse, LayError};
 use course::{cause, points};
-use run::restore::{RestoreAnswer, SavedCourse};
+use run::restore::{Restoration, SavedFor};
 use run::sheet::RunSheet;
 use run::start::{StartValues, Started};
 use run::state::{Pose, Progress, Run};
@@ -272,31 +272,31 @@ impl From<Result<u32, Cause>> for FlatSaved {
     }
 }
 
-// The cause that restore answered, 0 where it restored.
-pub(crate) fn restore_cause(answer: RestoreAnswer) -> u32
-    ensures { result ≡ restore_cause_of answer }
-{
-    match answer {
-        RestoreAnswer::Restored => 0,
-        RestoreAnswer::Refused(cause) => cause,
+// The answer of restore, and the state.
+impl From<Restoration> for FlatRestored {
+    ghost from_gives = { λ r f. f ≡ flat_restored (after_restore r.answer (view r.run)) };
+
+    #[tactic(auto, unfolding(crate::specs::Grader::Flat::flat_restored, crate::specs::Grader::Flat::run_of, run::specs::Grader::State::view))]
+    fn from(r: Restoration) -> FlatRestored {
+        FlatRestored {
+            cause: cause::cause_number(&r.answer),
+            run: r.run,
+        }
     }
 }
 
 // The answer of saved_course.
-pub(crate) fn saved_for(answer: SavedCourse) -> FlatSavedFor
-    ensures { result ≡ flat_saved_for answer }
-{
-    match answer {
-        SavedCourse::Course(v) => FlatSavedFor {
-            cause: 0,
+impl From<Result<SavedFor, Cause>> for FlatSavedFor {
+    ghost from_gives = { λ a f. f ≡ flat_saved_for a };
+
+    #[tactic(auto, unfolding(crate::specs::Grader::Flat::flat_saved_for))]
+    fn from(answer: Result<SavedFor, Cause>) -> FlatSavedFor {
+        let v = answer.unwrap_or(SavedFor { seed: 0, n: 0 });
+        FlatSavedFor {
+            cause: cause::cause_number(&answer),
             n: v.n,
             seed: v.seed,
-        },
-        SavedCourse::Refused(cause) => FlatSavedFor {
-            cause,
-            n: 0,
-            seed: 0,
-        },
+        }
     }
 }
 

@@ -7,7 +7,6 @@ ghost use Rattle.run.specs.Grader.Save.{save_of};
 ghost use Rattle.run.specs.Grader.Restore.{restore_of, saved_course_of};
 ghost use Rattle.abi.specs.Grader.Flat.{saved_out, flat_save, flat_restored, flat_saved_for};
 
-use crate::flat;
 use crate::flat::{FlatRestored, FlatSaved, FlatSavedFor};
 use run::state::Run;
 use run::{restore, save};
@@ -33,13 +32,7 @@ pub extern "C" fn grader_restore(
         ≡ flat_restored (restore_of full_words most_tiles bytes.now
         (columns tiles.now offsets.now list.now) n) }
 {
-    let r = restore::restore(bytes, tiles, offsets, list, n);
-    let answer = r.answer;
-    let run = r.run;
-    FlatRestored {
-        cause: flat::restore_cause(answer),
-        run,
-    }
+    FlatRestored::from(restore::restore(bytes, tiles, offsets, list, n))
 }
 
 // The seed and tile count of the course that saved bytes are of.
@@ -47,5 +40,5 @@ pub extern "C" fn grader_restore(
 pub extern "C" fn grader_saved_course(bytes: &[u8]) -> FlatSavedFor
     ensures { result ≡ flat_saved_for (saved_course_of full_words most_tiles bytes.now) }
 {
-    flat::saved_for(restore::saved_course(bytes))
+    FlatSavedFor::from(restore::saved_course(bytes))
 }

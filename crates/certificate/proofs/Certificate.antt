@@ -31,9 +31,8 @@ use Rattle.run.specs.Grader.Start.{Settings, start_short, start_check, setup_of,
 use Rattle.run.specs.Grader.Numbers.{pose_numbers}
 use Rattle.run.specs.Grader.Saved.{fields_of, saved_form}
 use Rattle.run.specs.Grader.Save.{save_check, save_at, save_of}
-use Rattle.run.specs.Grader.Restore.{restore_answer, AfterRestore, after_restore, restore_of, restore_cause_of}
+use Rattle.run.specs.Grader.Restore.{AfterRestore, after_restore, restore_of}
 use Rattle.run.specs.Grader.Drive.{drive_check, drive_at, drive_parts_of, drive_of}
-use Rattle.course.specs.Grader.Cause.{number_of}
 use Rattle.run.specs.Grader.Settle.{settle_check, settle_at, settle_parts_of, poses_after, settle_poses_of, settle_of}
 use Rattle.certificate.specs.Rules.Answers.{Answer, Reply}
 use Rattle.certificate.specs.Rules.Answers.Answer.{refused}
@@ -103,11 +102,11 @@ zeros-after m most (g ∷ gs) = ap (λ (r : Replied). state_after m most r.state
 
 -- and every save by 4, every restore by 11, since there is no save
 zeros-item : (m most : ℕ) {n : ℕ} (o : Outcome) (i : CourseItem n) → request_of m most (going (zero_state m) []) (request_by o i) ≡ went (turned_down i) (going (zero_state m) [])
-unfolding request_of request_by turned_down save_of save_check save_at cause_number number_of restore_answer restore_cause_of zero_state first_progress unfit
+unfolding request_of request_by turned_down save_of save_check save_at cause_number number_of zero_state first_progress unfit
 zeros-item m most o (CourseItem.call g) = ap (λ (r : Replied). went (answered r.answer) (going r.state [])) (zeros-refuse m most (call_of o g))
 zeros-item m most o (CourseItem.save out) = refl
 zeros-item m most o (CourseItem.restore by i) =
-    ap (λ (d : AfterRestore). went (decided (restore_cause_of d.answer)) (going (state_next d.answer d.state (zero_state m)) [])) (none-restored m most (lent_by o by) (laid_values_of o.answer).n)
+    ap (λ (d : AfterRestore). went (decided (cause_number d.answer)) (going (state_next d.answer d.state (zero_state m)) [])) (none-restored m most (lent_by o by) (laid_values_of o.answer).n)
 
 zeros-down : (m most : ℕ) {n : ℕ} (o : Outcome) (is : List (CourseItem n)) → requests_said m most (going (zero_state m) []) (requests_of o is) ≡ map turned_down is
 unfolding requests_said
@@ -268,7 +267,7 @@ module _ (m most : ℕ) (c : List TrackPoint) (room : most ≤ 64 * m) (some : 0
 
       trip : R → (h : History) → Fine h → ltb (settles h) (drives h) ≡ false → (lent : Lending (length c))
           → restore_of m most (saved_form (fields_of (history_state m most c room some fits label h))) (lent_by o lent) (length c)
-          ≡ cond (short_of (length c) (lent_by o lent)) (after_restore (restore_answer 2) (zero_state m)) (after_restore (restore_answer 0) (history_state m most c room some fits label h))
+          ≡ cond (short_of (length c) (lent_by o lent)) (after_restore (Result.Err Cause.Length) (zero_state m)) (after_restore (Result.Ok tt) (history_state m most c room some fits label h))
       trip r h f e lent = round_trip m most c room some fits small label h (f.1.1 r) e (lent_by o lent) (holds lent)
 
       -- each item is one that the laws of a list ask for

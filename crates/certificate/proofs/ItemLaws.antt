@@ -9,7 +9,7 @@ use lib.Dec.{ltb, leb, leb-zero, leb-suc-zero, leb-suc-suc}
 use lib.ListN.{length, get_or, drop}
 use lib.Seq.{take-append_seam}
 use Rattle.course.specs.Grader.Outcome.{Outcome, laid_values_of}
-use Rattle.course.specs.Grader.Cause.{cause_number}
+use Rattle.course.specs.Grader.Cause.{number_of, cause_number}
 use Rattle.course.specs.declared.cause.Cause.{Cause}
 use Rattle.course.specs.declared.tiles.TrackPoint.{TrackPoint}
 use Rattle.course.proofs.BoolLaws.{cleared}
@@ -17,7 +17,7 @@ use Rattle.run.specs.Grader.State.{State, Columns, short_of}
 use Rattle.run.specs.Grader.Start.{zero_state}
 use Rattle.run.specs.Grader.Saved.{fields_of, saved_form}
 use Rattle.run.specs.Grader.Save.{save_check, save_at, save_of}
-use Rattle.run.specs.Grader.Restore.{restore_answer, AfterRestore, after_restore, restore_cause, restore_at, restore_of, restore_cause_of}
+use Rattle.run.specs.Grader.Restore.{AfterRestore, after_restore, restore_check, restore_at, restore_of}
 use Rattle.run.proofs.CheckLaws.{number-some}
 use Rattle.run.proofs.SavedLaws.{none-loaded}
 use Rattle.certificate.specs.Rules.Answers.{Reply}
@@ -28,8 +28,8 @@ use Rattle.certificate.specs.Claim.Items.{Lending, lent_by, lengths_of, CourseCa
 use Rattle.certificate.proofs.ScoreLaws.{sums_of, one-sums}
 
 -- no bytes are no saved form
-pub none-restored : (m most : ℕ) (l : Columns) (n : ℕ) → restore_of m most [] l n ≡ after_restore (restore_answer 11) (zero_state m)
-unfolding restore_of restore_at restore_cause
+pub none-restored : (m most : ℕ) (l : Columns) (n : ℕ) → restore_of m most [] l n ≡ after_restore (Result.Err Cause.Form) (zero_state m)
+unfolding restore_of restore_at restore_check
 none-restored m most l n = rw (none-loaded m most)
 
 module _ (m most : ℕ) (c : List TrackPoint) (o : Outcome) (counted : (laid_values_of o.answer).n ≡ length c)
@@ -39,7 +39,7 @@ module _ (m most : ℕ) (c : List TrackPoint) (o : Outcome) (counted : (laid_val
     (save-number : (h : History) → Fine h → (room : ℕ) → cause_number (save_check most (state_at h).setup (state_at h).progress room) ≡ save_number c h room)
     (round_trip : Restores → (h : History) → Fine h → ltb (settles h) (drives h) ≡ false → (by : Lending (length c))
     → restore_of m most (saved_form (fields_of (state_at h))) (lent_by o by) (length c)
-    ≡ cond (short_of (length c) (lent_by o by)) (after_restore (restore_answer 2) (zero_state m)) (after_restore (restore_answer 0) (state_at h)))
+    ≡ cond (short_of (length c) (lent_by o by)) (after_restore (Result.Err Cause.Length) (zero_state m)) (after_restore (Result.Ok tt) (state_at h)))
   where
     abbrev pub bytes_at : History → List ℕ
     bytes_at h = saved_form (fields_of (state_at h))
@@ -76,17 +76,23 @@ module _ (m most : ℕ) (c : List TrackPoint) (o : Outcome) (counted : (laid_val
         ap (λ (bs : List ℕ). went (decided 0) (going (state_at k.calls) (bs ∷ map bytes_at k.saves))) (take-append_seam (bytes_at k.calls) (drop (length (bytes_at k.calls)) out))
     save-at (Result.Err e) k out = rw (number-some e).1
 
-    -- ---- a restore, by the number of its cause
-    abbrev restored_by : ℕ → History → AfterRestore
-    restored_by zero h = after_restore (restore_answer 0) (state_at h)
-    restored_by (suc j) h = after_restore (restore_answer (suc j)) (zero_state m)
+    -- ---- a restore, by its check
+    abbrev restored_by : Result Unit Cause → History → AfterRestore
+    restored_by (Result.Ok none) h = after_restore (Result.Ok tt) (state_at h)
+    restored_by (Result.Err e) h = after_restore (Result.Err e) (zero_state m)
 
-    by_length : (b : Bool) (h : History) → cond b (after_restore (restore_answer 2) (zero_state m)) (after_restore (restore_answer 0) (state_at h)) ≡ restored_by (cond b 2 0) h
+    by_length : (b : Bool) (h : History) → cond b (after_restore (Result.Err Cause.Length) (zero_state m)) (after_restore (Result.Ok tt) (state_at h)) ≡ restored_by (cond b (Result.Err Cause.Length) (Result.Ok tt)) h
     by_length true h = refl
     by_length false h = refl
 
-    abbrev or_none : Bool → Bool → ℕ
-    or_none none short = cond none 11 (cond short 2 0)
+    abbrev or_none : Bool → Bool → Result Unit Cause
+    or_none none short = cond none (Result.Err Cause.Form) (cond short (Result.Err Cause.Length) (Result.Ok tt))
+
+    none-number : (none short : Bool) → cause_number (or_none none short) ≡ cond none 11 (cond short 2 0)
+    unfolding cause_number number_of
+    none-number true short = refl
+    none-number false true = refl
+    none-number false false = refl
 
     one-restore : Restores → (hs : List History) → AllFine hs → (i : ℕ) (h : History) (by : Lending (length c))
         → restore_of m most (get_or (map bytes_at hs) i []) (lent_by o by) (length c) ≡ restored_by (or_none (leb (length hs) i) (short_of (length c) (lent_by o by))) (get_or hs i h)
@@ -98,12 +104,12 @@ module _ (m most : ℕ) (c : List TrackPoint) (o : Outcome) (counted : (laid_val
         one-restore w hs f.1 i h by ∙ ap (λ (b : Bool). restored_by (or_none b (short_of (length c) (lent_by o by))) (get_or hs i h)) (sym (leb-suc-suc (length hs) i))
 
     abbrev after_restoring : KeptCalls → AfterRestore → Went
-    after_restoring k d = went (decided (restore_cause_of d.answer)) (going (state_next d.answer d.state (state_at k.calls)) (map bytes_at k.saves))
+    after_restoring k d = went (decided (cause_number d.answer)) (going (state_next d.answer d.state (state_at k.calls)) (map bytes_at k.saves))
 
-    restore-at : (j : ℕ) (k : KeptCalls) (i : ℕ) → after_restoring k (restored_by j (get_or k.saves i k.calls)) ≡ went (decided j) (going_of (taken_up c j k i))
-    unfolding restore_answer restore_cause_of taken_up
-    restore-at zero k i = refl
-    restore-at (suc j) k i = refl
+    restore-at : (r : Result Unit Cause) (k : KeptCalls) (i : ℕ) → after_restoring k (restored_by r (get_or k.saves i k.calls)) ≡ went (decided (cause_number r)) (going_of (taken_up c (cause_number r) k i))
+    unfolding cause_number taken_up
+    restore-at (Result.Ok none) k i = refl
+    restore-at (Result.Err e) k i = rw (number-some e).1
 
     -- ---- one item
     request-is : (k : KeptCalls) → KeptFine k → (i : CourseItem (length c)) → OkItem i → request_of m most (going_of k) (request_by o i) ≡ went (reply_to c k (item_by o i)) (going_of (after_item c k (item_by o i)))
@@ -116,6 +122,7 @@ module _ (m most : ℕ) (c : List TrackPoint) (o : Outcome) (counted : (laid_val
         ap (λ (n : ℕ). after_restoring k (restore_of m most (get_or (map bytes_at k.saves) i []) (lent_by o by) n)) counted
         ∙ ap (after_restoring k) (one-restore w k.saves f.1 i k.calls by)
         ∙ restore-at (or_none (leb (length k.saves) i) (short_of (length c) (lent_by o by))) k i
+        ∙ ap (λ (j : ℕ). went (decided j) (going_of (taken_up c j k i))) (none-number (leb (length k.saves) i) (short_of (length c) (lent_by o by)))
 
     -- ---- what is kept stays a run's
     note-fine : (k : KeptCalls) → KeptFine k → (room j : ℕ) → save_number c k.calls room ≡ j → KeptFine (noted c j k)

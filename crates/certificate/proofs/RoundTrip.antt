@@ -5,7 +5,7 @@ use mathlib.Core.List.{List, [], ◌∷◌}
 use mathlib.Core.Path.{◌≡◌, refl, sym, ap, ◌∙◌, subst}
 use Prim.Native.Nat.{ℕ, ◌*◌, ◌^◌, ◌≤◌, ◌<◌}
 use native.Mathlib.Omega.{arith}
-use Rattle.std.specs.Prelude.{Result, Ok}
+use Rattle.std.specs.Prelude.{Option, Some, Result, Ok, Err}
 use lib.Dec.{T, ltb, leb}
 use lib.ListN.{length}
 use lib.Ieee.{Float, binary64, fits, le}
@@ -24,10 +24,9 @@ use Rattle.run.specs.Grader.Touch.{sound_poses}
 use Rattle.run.specs.Grader.Contact.{wheel_sets, Contacted}
 use Rattle.run.specs.Grader.Numbers.{pose_from, poses_at, pose_numbers}
 use Rattle.run.specs.Grader.Start.{setup_of, zero_state, first_contact}
-use Rattle.run.specs.Grader.Saved.{fields_of, saved_form, sound_fields, Loaded}
-use Rattle.run.specs.Grader.Saved.Loaded.{kept}
+use Rattle.run.specs.Grader.Saved.{Fields, fields_of, saved_form, sound_fields}
 use Rattle.run.specs.Grader.Save.{save_check}
-use Rattle.run.specs.Grader.Restore.{restore_answer, bit_count, restore_cause, restored_state, AfterRestore, after_restore, restore_at, restore_of}
+use Rattle.run.specs.Grader.Restore.{bit_count, restore_check, restored_state, AfterRestore, after_restore, restore_at, restore_of}
 use Rattle.run.proofs.CheckLaws.{cause-by}
 use Rattle.run.proofs.BelowLaws.{below}
 use Rattle.run.proofs.PlainContact.{wheels_by}
@@ -146,27 +145,27 @@ module _ (m most : ℕ) (c : List TrackPoint) (room : most ≤ 64 * m) (some : 0
           }
 
       abbrev by_length : Bool → AfterRestore
-      by_length b = cond b (after_restore (restore_answer 2) (zero_state m)) (after_restore (restore_answer 0) (state_at h))
+      by_length b = cond b (after_restore (Err Cause.Length) (zero_state m)) (after_restore (Ok tt) (state_at h))
 
       -- what is left of the causes behind 12
-      abbrev cause_left : Bool → Bool → ℕ
-      cause_left isShort isSound = cond isShort 2 (cond (not isSound) 10 0)
+      abbrev cause_left : Bool → Bool → Result Unit Cause
+      cause_left isShort isSound = cond isShort (Err Cause.Length) (cond (not isSound) (Err Cause.Index) (Ok tt))
 
       abbrev sound_at : Bool
       sound_at = sound_poses l.offsets l.list (length c) (poses_at (pose_numbers (last_poses h)) 0)
 
-      go : (b : Bool) → short_of (length c) l ≡ b → restore_at m (cause_left b sound_at) l (kept (fields_of (state_at h))) ≡ by_length b
+      go : (b : Bool) → short_of (length c) l ≡ b → restore_at m (cause_left b sound_at) l (Some (fields_of (state_at h))) ≡ by_length b
       unfolding restore_at
       go true e = refl
       go false e =
-          ap (λ (b : Bool). restore_at m (cause_left false b) l (kept (fields_of (state_at h)))) ((holds e).sound (poses_at (pose_numbers (last_poses h)) 0))
-          ∙ ap (after_restore (restore_answer 0)) (restored (holds e))
+          ap (λ (b : Bool). restore_at m (cause_left false b) l (Some (fields_of (state_at h)))) ((holds e).sound (poses_at (pose_numbers (last_poses h)) 0))
+          ∙ ap (after_restore (Ok tt)) (restored (holds e))
 
       pub round_trip : restore_of m most (saved_form (fields_of (state_at h))) l (length c) ≡ by_length (short_of (length c) l)
-      unfolding restore_of restore_cause fields_of setup_of
+      unfolding restore_of restore_check fields_of setup_of
       round_trip =
-          ap (λ (x : Loaded). restore_at m (restore_cause l (length c) x) l x) (loaded-back m most (fields_of (state_at h)) carried sound)
-          ∙ ap (λ (b : Bool). restore_at m (cond (not b) 12 (cause_left (short_of (length c) l) sound_at)) l (kept (fields_of (state_at h)))) (eq-eqb (length c) (length c) refl)
+          ap (λ (x : Option Fields). restore_at m (restore_check l (length c) x) l x) (loaded-back m most (fields_of (state_at h)) carried sound)
+          ∙ ap (λ (b : Bool). restore_at m (cond (not b) (Err Cause.Course) (cause_left (short_of (length c) l) sound_at)) l (Some (fields_of (state_at h)))) (eq-eqb (length c) (length c) refl)
           ∙ go (short_of (length c) l) refl
 
   pub save-number : (h : History) (n : ℕ) → cause_number (save_check most (state_at h).setup (state_at h).progress n) ≡ save_number c h n

@@ -1,9 +1,9 @@
 -- Checks that end at the first cause that holds: what a check that none ended tells of each test, and the number of the cause that ends one. Assumes nothing.
 use mathlib.Core.Bool.{Bool, true, false, cond}
-use mathlib.Core.Path.{◌≡◌, refl, ap, sym}
+use mathlib.Core.Path.{◌≡◌, refl, ap, sym, ◌∙◌}
 use Prim.Native.Nat.{ℕ, suc}
 use native.Mathlib.Omega.{arith}
-use Rattle.std.specs.Prelude.{Result, Ok, Err, is_ok}
+use Rattle.std.specs.Prelude.{Result, Ok, Err, is_ok, Option, Some, None, ok_or}
 use Rattle.std.proofs.lemmas.Bool.{false≢true}
 use Rattle.course.specs.Grader.Cause.{number_of, cause_number}
 use Rattle.course.specs.declared.cause.Cause.{Cause}
@@ -16,6 +16,15 @@ passed false k r e = (refl, e)
 -- the same of a check that passes, read from the right
 pub met-none : {A E : Type 0} {v : A} (b : Bool) (k : E) (r : Result A E) → Ok v ≡ cond b (Err k) r → (b ≡ false) × (Ok v ≡ r)
 met-none b k r e = let p = passed b k r (sym e) in (p.0, sym p.1)
+
+-- what `ok_or` refuses was not there, and is refused by the cause given
+pub not-there : {A : Type 0} (o : Option A) {r : Result A Cause} {k j : Cause} → r ≡ ok_or o k → r ≡ Err j → (o ≡ None) × (j ≡ k)
+not-there {A} None {k = k} e h = (refl, ap (cause_in k) (sym h ∙ e))
+  where
+    cause_in : Cause → Result A Cause → Cause
+    cause_in d (Ok x) = d
+    cause_in d (Err c) = c
+not-there (Some x) e h = absurd (false≢true (sym (ap is_ok (sym e ∙ h))))
 
 -- the number of a check, test by test
 pub cause-by : {A : Type 0} (b : Bool) (k : Cause) (r : Result A Cause) → cause_number (cond b (Err k) r) ≡ cond b (number_of k) (cause_number r)

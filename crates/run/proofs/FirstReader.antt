@@ -4,6 +4,7 @@ use mathlib.Core.List.{List, [], ◌∷◌, ◌++◌}
 use mathlib.Core.Path.{◌≡◌, refl, sym, ap, ap₂, ◌∙◌, subst}
 use Prim.Native.Nat.{ℕ, ◌+◌, ◌*◌, ◌/◌, ◌^◌, ◌≤◌, ◌<◌}
 use native.Mathlib.Omega.{arith}
+use Rattle.std.specs.Prelude.{Option, Some, None}
 use lib.Dec.{ltb}
 use lib.ListN.{length, get_or, replicate, get_or-append}
 use lib.Seq.{get_or_at}
@@ -15,9 +16,8 @@ use Rattle.form.proofs.TableLaws.{map_below}
 use Rattle.form.proofs.MapLaws.{map-in}
 use Rattle.form.proofs.LaterRows.{no_fields, packed-past, parsed-past, parsed-many, later-refused, map_at, zeros-low, number-zeros, some_byte}
 use Rattle.run.specs.Grader.Numbers.{control_count, pose_count}
-use Rattle.run.specs.Grader.Saved.{Fields, wide_seed, narrow_part, wide_part, ten_fields, bytes_of, field_bytes, saved_form, field_at, float_in, fields_with, seed_from, fields_from, seeds_ok, sound_fields, Loaded, loaded_from, loaded}
-use Rattle.run.specs.Grader.Saved.Loaded.{kept, not_kept}
-use Rattle.run.specs.Grader.Restore.{restore_cause, course_at}
+use Rattle.run.specs.Grader.Saved.{Fields, wide_seed, narrow_part, wide_part, ten_fields, bytes_of, field_bytes, saved_form, field_at, float_in, fields_with, seed_from, fields_from, seeds_ok, sound_fields, loaded_from, loaded}
+use Rattle.run.specs.Grader.Restore.{restore_check, course_at}
 use Rattle.run.specs.Laws.FirstReader.{first_saved, first_form, first_loaded_from, first_loaded, RefusedByFirst, FirstReader}
 
 -- ---- what is saved
@@ -42,13 +42,13 @@ wide_bit f wide fit =
 -- ---- what is read
 module _ (m most : ℕ) where
   -- a bit past the ten
-  later-bit : (bs : List ℕ) → 2 ^ 10 ≤ map_in bs → first_loaded m most bs ≡ not_kept
+  later-bit : (bs : List ℕ) → 2 ^ 10 ≤ map_in bs → first_loaded m most bs ≡ None
   unfolding first_loaded first_loaded_from rows_of
   later-bit bs h = ap (first_loaded_from m most) (later-refused (first_form m) bs h)
 
-  by-eleven : (bs : List ℕ) → first_loaded m most bs ≡ not_kept → RefusedByFirst m most bs
-  unfolding restore_cause
-  by-eleven bs e = ((λ l n. ap (restore_cause l n) e), ap course_at e)
+  by-eleven : (bs : List ℕ) → first_loaded m most bs ≡ None → RefusedByFirst m most bs
+  unfolding restore_check
+  by-eleven bs e = ((λ l n. ap (restore_check l n) e), ap course_at e)
 
   -- a field more behind the ten changes nothing of them
   front : (fs gs : List (List ℕ)) (k : ℕ) → length fs ≡ 10 → k < 10 → field_at (fs ++ gs) k ≡ field_at fs k
@@ -75,8 +75,8 @@ module _ (m most : ℕ) where
       }
 
   -- without a wide seed, the seed is the narrow one
-  agrees_from : (fs : List (List ℕ)) (f : Fields) → length fs ≡ 10 → first_loaded_from m most (fields fs) ≡ kept f
-      → loaded_from m most (fields (fs ++ (replicate 8 0 ∷ []))) ≡ kept f
+  agrees_from : (fs : List (List ℕ)) (f : Fields) → length fs ≡ 10 → first_loaded_from m most (fields fs) ≡ Some f
+      → loaded_from m most (fields (fs ++ (replicate 8 0 ∷ []))) ≡ Some f
   unfolding first_loaded_from loaded_from fields_from seed_from seeds_ok
   agrees_from fs f n e =
       let gs = fs ++ (replicate 8 0 ∷ []) in
@@ -85,17 +85,17 @@ module _ (m most : ℕ) where
       let wide : number (field_at gs 10) ≡ 0 = ap number (get_or_at fs (replicate 8 0) [] [] 10 n) ∙ number-zeros 8 in
       let all = ap₂ (λ (x y : ℕ). fields_with (seed_from x y) m gs) narrow wide ∙ fields-past (number (field_at fs 0)) fs (replicate 8 0 ∷ []) n in
       let one = ap₂ seeds_ok narrow wide in
-      (λ i. cond (ltb (flags i) 8 && (one i && sound_fields most (all i))) (kept (all i)) not_kept) ∙ e
+      (λ i. cond (ltb (flags i) 8 && (one i && sound_fields most (all i))) (Some (all i)) None) ∙ e
 
-  abbrev IsKept : Loaded → Type 0
-  IsKept (kept f) = Unit
-  IsKept not_kept = ⊥
+  abbrev IsKept : Option Fields → Type 0
+  IsKept (Some f) = Unit
+  IsKept None = ⊥
 
-  agrees-all : (bs : List ℕ) (f : Fields) → first_loaded m most bs ≡ kept f → loaded m most bs ≡ kept f
+  agrees-all : (bs : List ℕ) (f : Fields) → first_loaded m most bs ≡ Some f → loaded m most bs ≡ Some f
   unfolding first_loaded first_loaded_from loaded rows_of field_bytes no_fields
   agrees-all bs f e = go (parsed (first_form m) bs) refl e
     where
-      go : (p : Parsed) → parsed (first_form m) bs ≡ p → first_loaded_from m most p ≡ kept f → loaded m most bs ≡ kept f
+      go : (p : Parsed) → parsed (first_form m) bs ≡ p → first_loaded_from m most p ≡ Some f → loaded m most bs ≡ Some f
       go (fields fs) q r =
           ap (loaded_from m most) (parsed-past (first_form m) (record { bytes = 8; zeros = false } ∷ []) bs fs q)
           ∙ agrees_from fs f (parsed-many (first_form m) bs fs q) r

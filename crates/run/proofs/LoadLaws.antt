@@ -4,6 +4,8 @@ use mathlib.Core.List.{List, [], ◌∷◌, ◌++◌}
 use mathlib.Core.Path.{◌≡◌, refl, sym, ap, ap₂, ◌∙◌, subst}
 use Prim.Native.Nat.{ℕ, zero, suc, ◌+◌, ◌*◌, ◌/◌, ◌%◌, ◌≤◌}
 use native.Mathlib.Omega.{arith}
+use Rattle.std.specs.Prelude.{Option, Some, None, option_map}
+use Rattle.std.specs.Bool.{then_some}
 use lib.Dec.{ltb, eqb}
 use lib.ListN.{length, get_or, take, drop, length-drop, length-replicate}
 use lib.Seq.{drop-drop, drop-cons, take_at, get_or_at, length-take-le}
@@ -19,9 +21,8 @@ use Rattle.form.proofs.FormLaws.{Fits, none, shown, hidden, parse-only}
 use Rattle.form.proofs.MapLaws.{Sized, cut-joined}
 use Rattle.run.specs.Grader.Widths.{full_words}
 use Rattle.run.specs.Grader.Numbers.{control_count}
-use Rattle.run.specs.Grader.Saved.{Fields, field_bytes, second_form, field_at, float_in, fields_with, seed_from, fields_from, seeds_ok, sound_fields, Loaded, loaded_from, loaded}
-use Rattle.run.specs.Grader.Saved.Loaded.{kept, not_kept}
-use Rattle.run.specs.Steps.Load.{saved_field, seeds_read, fields_as, loaded_as}
+use Rattle.run.specs.Grader.Saved.{Fields, field_bytes, second_form, field_at, float_in, fields_with, seed_from, fields_from, seeds_ok, sound_fields, loaded_from, loaded}
+use Rattle.run.specs.Steps.Load.{saved_field, seeds_read, fields_as}
 use Rattle.run.specs.declared.saved.SeedParts.{SeedParts}
 use Rattle.run.specs.declared.load.Fields.{Fields as CodeFields}
 use Rattle.run.proofs.FieldSizes.{all-bytes}
@@ -168,8 +169,8 @@ module _ (m most : ℕ) (bs : List ℕ) where
   passed fs = ltb (number (field_at fs 5)) 8 && (seeds_ok (number (field_at fs 0)) (number (field_at fs 10)) && sound_fields most (fields_from m fs))
 
   -- what was read, with its tests, is what the bytes say
-  abbrev Tested : Bool → List (List ℕ) → Loaded
-  Tested ok fs = cond (ok && passed fs) (kept (fields_from m fs)) not_kept
+  abbrev Tested : Bool → List (List ℕ) → Option Fields
+  Tested ok fs = cond (ok && passed fs) (Some (fields_from m fs)) None
 
   read-loaded : (full to : List ℕ) (ok : Bool) (map : ℕ) → sum (field_bytes m) ≤ length to → read ok map full ≡ unpack_into (field_bytes m) [] bs to
       → Tested ok (cut (field_bytes m) full) ≡ loaded m most bs
@@ -184,34 +185,38 @@ module _ (m most : ℕ) (bs : List ℕ) where
           (ap (λ (x : Read). cut (field_bytes m) x.full) r ∙ cut-joined (field_bytes m) [] fs (drop (length (joined fs)) to) (parsed-sized (second_form m) bs fs q))
       go broken q r = ap (λ (x : Read). Tested x.ok (cut (field_bytes m) full)) r
 
-  abbrev IsKept : Loaded → Type 0
-  IsKept (kept f) = Unit
-  IsKept not_kept = ⊥
+  abbrev IsKept : Option Fields → Type 0
+  IsKept (Some f) = Unit
+  IsKept None = ⊥
 
-  abbrev fields_in : Fields → Loaded → Fields
-  fields_in d (kept f) = f
-  fields_in d not_kept = d
+  abbrev fields_in : Fields → Option Fields → Fields
+  fields_in d (Some f) = f
+  fields_in d None = d
 
   -- what is kept is sound
-  pub kept-sound : (f : Fields) → loaded m most bs ≡ kept f → sound_fields most f ≡ true
+  pub kept-sound : (f : Fields) → loaded m most bs ≡ Some f → sound_fields most f ≡ true
   unfolding loaded loaded_from
   kept-sound f e = go (parsed (second_form m) bs) e
     where
-      tested : (fs : List (List ℕ)) (b : Bool) → passed fs ≡ b → cond b (kept (fields_from m fs)) not_kept ≡ kept f → sound_fields most f ≡ true
+      tested : (fs : List (List ℕ)) (b : Bool) → passed fs ≡ b → cond b (Some (fields_from m fs)) None ≡ Some f → sound_fields most f ≡ true
       tested fs true q r =
           ap (sound_fields most) (sym (ap (fields_in f) r))
           ∙ and_right (seeds_ok (number (field_at fs 0)) (number (field_at fs 10))) (sound_fields most (fields_from m fs)) (and_right (ltb (number (field_at fs 5)) 8) _ q)
       tested fs false q r = absurd (subst IsKept (sym r) tt)
 
-      go : (p : Parsed) → loaded_from m most p ≡ kept f → sound_fields most f ≡ true
+      go : (p : Parsed) → loaded_from m most p ≡ Some f → sound_fields most f ≡ true
       go (fields fs) q = tested fs (passed fs) refl q
       go broken q = absurd (subst IsKept (sym q) tt)
 
 -- the same of the code's values
+mapped : (b : Bool) (f : CodeFields) → option_map fields_as (then_some b f) ≡ cond b (Some (fields_as f)) None
+mapped true f = refl
+mapped false f = refl
+
 pub load_is : (most : ℕ) (bs full to ws : List ℕ) (ok one sound : Bool) (map seed : ℕ) (p : SeedParts) (f : CodeFields) → length full ≡ sum (field_bytes full_words) → sum (field_bytes full_words) ≤ length to → ws ≡ field_bytes full_words
     → read ok map full ≡ unpack_into ws [] bs to → p ≡ seeds_read (saved_field full 0) (saved_field full 10) → seed ≡ seed_from p.narrow p.wide
     → fields_as f ≡ fields_with seed full_words (cut (field_bytes full_words) full) → one ≡ seeds_ok p.narrow p.wide → sound ≡ sound_fields most (fields_as f)
-    → loaded_as (ok && (ltb (get_or full 340 0) 8 && (one && sound))) f ≡ loaded full_words most bs
+    → option_map fields_as (then_some (ok && (ltb (get_or full 340 0) 8 && (one && sound))) f) ≡ loaded full_words most bs
 unfolding fields_from
 load_is most bs full to ws ok one sound map seed p f long room table e parts s fs o q =
     let cuts = cut (field_bytes full_words) full in
@@ -219,11 +224,13 @@ load_is most bs full to ws ok one sound map seed p f long room table e parts s f
     let all = fs ∙ ap (λ (k : ℕ). fields_with k full_words cuts) (s ∙ ap (λ (x : SeedParts). seed_from x.narrow x.wide) parts) in
     let single = o ∙ ap (λ (x : SeedParts). seeds_ok x.narrow x.wide) parts in
     let tested = q ∙ ap (sound_fields most) all in
-    (λ i. cond (ok && (ltb (flags i) 8 && (single i && tested i))) (kept (all i)) not_kept)
+    mapped (ok && (ltb (get_or full 340 0) 8 && (one && sound))) f
+    ∙ (λ i. cond (ok && (ltb (flags i) 8 && (single i && tested i))) (Some (all i)) None)
     ∙ read-loaded full_words most bs full to ok map room (e ∙ ap (λ (l : List ℕ). unpack_into l [] bs to) table)
 
-pub not-loaded : (ok : Bool) (f : CodeFields) {r : Loaded} → ok ≡ false → loaded_as ok f ≡ r → not_kept ≡ r
-not-loaded ok f h e = ap (λ (b : Bool). loaded_as b f) (sym h) ∙ e
+-- what was not read is not loaded, and what was read is
+pub not-loaded : {o : Option CodeFields} {r : Option Fields} → o ≡ None → option_map fields_as o ≡ r → None ≡ r
+not-loaded h e = ap (option_map fields_as) (sym h) ∙ e
 
-pub is-loaded : (ok : Bool) (f : CodeFields) {r : Loaded} → ok ≡ true → loaded_as ok f ≡ r → kept (fields_as f) ≡ r
-is-loaded ok f h e = ap (λ (b : Bool). loaded_as b f) (sym h) ∙ e
+pub is-loaded : {o : Option CodeFields} {f : CodeFields} {r : Option Fields} → o ≡ Some f → option_map fields_as o ≡ r → Some (fields_as f) ≡ r
+is-loaded h e = ap (option_map fields_as) (sym h) ∙ e

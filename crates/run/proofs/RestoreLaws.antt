@@ -4,35 +4,36 @@ use mathlib.Core.List.{List}
 use mathlib.Core.Path.{◌≡◌, refl, sym, ap, ap₂, ◌∙◌}
 use Prim.Native.Nat.{ℕ, zero, suc, ◌*◌, ◌≤◌, ◌<◌}
 use native.Mathlib.Omega.{arith}
+use Rattle.std.specs.Prelude.{Option, Some, None, Result, Ok, Err}
 use lib.Dec.{leb, eqb}
 use lib.ListN.{length}
 use borrow.Author.Tests.{le-ltb, not-false, eqb-true, leb-true}
 use Rattle.course.specs.Rules.Lengths.{most_points}
-use Rattle.course.proofs.BoolLaws.{and_left, and_right, cleared}
+use Rattle.course.specs.declared.cause.Cause.{Cause}
+use Rattle.course.proofs.BoolLaws.{and_left, and_right}
 use Rattle.run.specs.Rules.Arguments.{settings_ok}
 use Rattle.run.specs.Grader.State.{State, Columns, short_of}
 use Rattle.run.specs.Grader.Numbers.{poses_at}
 use Rattle.run.specs.Grader.Touch.{sound_poses}
 use Rattle.run.specs.Grader.Start.{zero_state, first_contact}
-use Rattle.run.specs.Grader.Saved.{Fields, sound_fields, Loaded, loaded}
-use Rattle.run.specs.Grader.Saved.Loaded.{kept, not_kept}
-use Rattle.run.specs.Grader.Restore.{restore_answer, restore_cause, run_from, restored_state, AfterRestore, after_restore, restore_at, restore_of}
-use Rattle.run.specs.declared.restore.RestoreAnswer.TheVariants.{Restored, Refused as NotRestored}
+use Rattle.run.specs.Grader.Saved.{Fields, sound_fields, loaded}
+use Rattle.run.specs.Grader.Restore.{restore_check, run_from, restored_state, after_restore, restore_at, restore_of}
 use Rattle.run.proofs.CallLaws.{long}
+use Rattle.run.proofs.CheckLaws.{passed}
 
--- ---- what a cause of 0 tells
+-- ---- what no cause tells
 pub record RestoreFacts (most : ℕ) (l : Columns) (n : ℕ) (f : Fields) : Type 0 where
   pub some : 0 < n
   pub few : n ≤ most
   pub tiles : n * 8 ≤ length l.tiles
   pub sound : sound_poses l.offsets l.list n (poses_at f.poses 0) ≡ true
 
-pub restore-facts : (most : ℕ) (l : Columns) (n : ℕ) (f : Fields) → most ≤ most_points → sound_fields most f ≡ true → restore_cause l n (kept f) ≡ 0 → RestoreFacts most l n f
-unfolding restore_cause sound_fields short_of
+pub restore-facts : (most : ℕ) (l : Columns) (n : ℕ) (f : Fields) → most ≤ most_points → sound_fields most f ≡ true → restore_check l n (Some f) ≡ Ok tt → RestoreFacts most l n f
+unfolding restore_check sound_fields short_of
 restore-facts most l n f m h e =
-    let p = cleared (not (eqb n f.n)) 11 _ e in
-    let q = cleared (short_of n l) 1 _ p.1 in
-    let r = cleared (not (sound_poses l.offsets l.list n (poses_at f.poses 0))) 9 0 q.1 in
+    let p = passed (not (eqb n f.n)) _ _ e in
+    let q = passed (short_of n l) _ _ p.1 in
+    let r = passed (not (sound_poses l.offsets l.list n (poses_at f.poses 0))) _ _ q.1 in
     let same : n ≡ f.n = eqb-true n f.n (not-false (eqb n f.n) p.0) in
     let range = and_left (leb 1 f.n && leb f.n most) _ (and_right (settings_ok f.share f.limit) _ h) in
     let few : n ≤ most = omega (arith, same, leb-true f.n most (and_right (leb 1 f.n) (leb f.n most) range)) in
@@ -51,18 +52,19 @@ unfolding restored_state
 run-restored m l f s credited wheels e c w = e ∙ ap₂ (run_from f) c w
 
 module _ (m most : ℕ) (bs : List ℕ) (l : Columns) (n : ℕ) where
-  pub restore-none : (x : AfterRestore) → not_kept ≡ loaded m most bs → x ≡ after_restore (NotRestored 11) (zero_state m) → x ≡ restore_of m most bs l n
-  unfolding restore_of restore_at restore_cause restore_answer
-  restore-none x e q = q ∙ ap (λ (r : Loaded). restore_at m (restore_cause l n r) l r) e
+  pub restore-none : None ≡ loaded m most bs → after_restore (Err Cause.Form) (zero_state m) ≡ restore_of m most bs l n
+  unfolding restore_of restore_at restore_check
+  restore-none e = ap (λ (r : Option Fields). restore_at m (restore_check l n r) l r) e
 
-  pub restore-refused : (x : AfterRestore) (f : Fields) (k : ℕ) → kept f ≡ loaded m most bs → k ≡ restore_cause l n (kept f) → (k ≡ 0 → ⊥)
-      → x ≡ after_restore (NotRestored k) (zero_state m) → x ≡ restore_of m most bs l n
-  unfolding restore_of restore_at restore_answer
-  restore-refused x f zero e c h q = absurd (h refl)
-  restore-refused x f (suc k) e c h q = q ∙ ap (λ (j : ℕ). restore_at m j l (kept f)) c ∙ ap (λ (r : Loaded). restore_at m (restore_cause l n r) l r) e
+  pub restore-refused : (f : Fields) (r : Result Unit Cause) (k : Cause) → Some f ≡ loaded m most bs → r ≡ restore_check l n (Some f) → r ≡ Err k
+      → after_restore (Err k) (zero_state m) ≡ restore_of m most bs l n
+  unfolding restore_of restore_at
+  restore-refused f r k e c h =
+      ap (λ (j : Result Unit Cause). restore_at m j l (Some f)) (sym h ∙ c) ∙ ap (λ (x : Option Fields). restore_at m (restore_check l n x) l x) e
 
-  pub restore-accepted : (s : State) (f : Fields) (k : ℕ) → kept f ≡ loaded m most bs → k ≡ restore_cause l n (kept f) → k ≡ 0 → s ≡ restored_state m l f
-      → after_restore Restored s ≡ restore_of m most bs l n
-  unfolding restore_of restore_at restore_answer
-  restore-accepted s f k e c h q =
-      ap (after_restore Restored) q ∙ ap (λ (j : ℕ). restore_at m j l (kept f)) (sym h ∙ c) ∙ ap (λ (r : Loaded). restore_at m (restore_cause l n r) l r) e
+  pub restore-accepted : (s : State) (f : Fields) (r : Result Unit Cause) → Some f ≡ loaded m most bs → r ≡ restore_check l n (Some f) → r ≡ Ok tt → s ≡ restored_state m l f
+      → after_restore (Ok tt) s ≡ restore_of m most bs l n
+  unfolding restore_of restore_at
+  restore-accepted s f r e c h q =
+      ap (after_restore (Ok tt)) q ∙ ap (λ (j : Result Unit Cause). restore_at m j l (Some f)) (sym h ∙ c)
+      ∙ ap (λ (x : Option Fields). restore_at m (restore_check l n x) l x) e

@@ -5,6 +5,7 @@ use mathlib.Core.List.{List, [], ◌∷◌}
 use mathlib.Core.Path.{◌≡◌, refl, sym, ap, ap₂, ◌∙◌}
 use Prim.Native.Nat.{ℕ, zero, suc, ◌+◌, ◌*◌, ◌/◌, ◌^◌, ◌≤◌, ◌<◌}
 use native.Mathlib.Omega.{arith}
+use Rattle.std.specs.Prelude.{Some, None}
 use lib.Dec.{T, ltb}
 use lib.ListN.{length}
 use lib.Ieee.{Float, binary64, fits}
@@ -19,7 +20,6 @@ use Rattle.run.specs.Rules.Below.{how_many}
 use Rattle.run.specs.Grader.Words.{member, set_of}
 use Rattle.run.specs.Grader.Numbers.{pose_count, control_count}
 use Rattle.run.specs.Grader.Saved.{Fields, flags_of, wide_seed, narrow_part, wide_part, ten_fields, bytes_of, field_bytes, saved_form, second_form, fields_with, seed_from, fields_from, seeds_ok, all_below, sound_fields, loaded_from, loaded}
-use Rattle.run.specs.Grader.Saved.Loaded.{kept, not_kept}
 use Rattle.run.specs.Grader.Restore.{bit_count}
 use Rattle.run.proofs.WordLaws.{word_lt, length-set_of, member-set_of, how_many-cong}
 use Rattle.run.proofs.WordBounds.{all-below}
@@ -133,18 +133,18 @@ flags-known : (f : Fields) → ltb (number (low 1 (flags_of f.lap f.ended f.fall
 flags-known f = ap (λ (x : ℕ). ltb x 8) (flags-back f.lap f.ended f.fallback) ∙ lt-ltb _ 8 (flags-small f.lap f.ended f.fallback)
 
 -- ---- the whole form
-pub loaded-back : (m most : ℕ) (f : Fields) → Carried m f → sound_fields most f ≡ true → loaded m most (saved_form f) ≡ kept f
+pub loaded-back : (m most : ℕ) (f : Fields) → Carried m f → sound_fields most f ≡ true → loaded m most (saved_form f) ≡ Some f
 unfolding loaded loaded_from saved_form bytes_of ten_fields
 loaded-back m most f k e =
     let flags = number (low 1 (flags_of f.lap f.ended f.fallback)) in
     let one = seeds_ok (number (low 4 (narrow_part f.seed))) (number (low 8 (wide_part f.seed))) in
     ap (loaded_from m most) (form-back (second_form m) (map_of (bytes_of f)) (bytes_of f) (few-rows m) (map-fits (second_form m) (bytes_of f) (bytes-sized m f (carried-whole m f k))))
-    ∙ ap (λ (r : Fields). cond (ltb flags 8 && (one && sound_fields most r)) (kept r) not_kept) (fields_back m f k)
-    ∙ ap₂ (λ (a b : Bool). cond (a && (b && sound_fields most f)) (kept f) not_kept) (flags-known f) (seed-back f.seed k.seed).alone
-    ∙ ap (λ (b : Bool). cond b (kept f) not_kept) e
+    ∙ ap (λ (r : Fields). cond (ltb flags 8 && (one && sound_fields most r)) (Some r) None) (fields_back m f k)
+    ∙ ap₂ (λ (a b : Bool). cond (a && (b && sound_fields most f)) (Some f) None) (flags-known f) (seed-back f.seed k.seed).alone
+    ∙ ap (λ (b : Bool). cond b (Some f) None) e
 
 -- no bytes are no saved form
-pub none-loaded : (m most : ℕ) → loaded m most [] ≡ not_kept
+pub none-loaded : (m most : ℕ) → loaded m most [] ≡ None
 unfolding loaded loaded_from
 none-loaded m most = ap (loaded_from m most) (parsed-short (second_form m) [] (omega arith))
 

@@ -1,11 +1,11 @@
 // What saved bytes say of a run, or that they are refused (document 02, orders 1 and 3, cause 11).
-ghost use Rattle.std.specs.Prelude.{◌≡◌, [], ◌∷◌, ◌++◌, ◌+◌, ◌≤◌, length, take, drop};
+ghost use Rattle.std.specs.Prelude.{◌≡◌, [], ◌∷◌, ◌++◌, ◌+◌, ◌≤◌, length, take, drop, option_map};
 ghost use Rattle.form.specs.Rules.Bytes.{number, words_from, floats_from};
 ghost use Rattle.form.specs.Rules.Form.{sum, cut};
 ghost use Rattle.run.specs.Grader.Widths.{full_words, most_tiles};
 ghost use Rattle.run.specs.Grader.Numbers.{control_count, pose_count};
 ghost use Rattle.run.specs.Grader.Saved.{field_bytes, field_at, float_in, fields_with, sound_fields, loaded};
-ghost use Rattle.run.specs.Steps.Load.{seeds_read, fields_as, loaded_as, saved_field};
+ghost use Rattle.run.specs.Steps.Load.{seeds_read, fields_as, saved_field};
 
 use crate::numbers::{CAR_NUMBERS, POSE_NUMBERS};
 use crate::saved::{ALL_BYTES, SeedParts};
@@ -53,13 +53,6 @@ pub(crate) struct Fields {
     pub car: [f64; CAR_NUMBERS],
     pub poses: [f64; POSE_NUMBERS],
     pub n: u32,
-}
-
-// Whether bytes are taken, and what they say.
-#[derive(Clone, Copy)]
-pub(crate) struct Loaded {
-    pub ok: bool,
-    pub fields: Fields,
 }
 
 // The number of the four bytes from `at` on.
@@ -162,9 +155,9 @@ fn is_sound(f: Fields) -> bool
     settings & (count & (state::poses_ok(poses) & (tiles & (f.tick <= f.limit))))
 }
 
-// What the bytes say; no field of theirs may stand with zeros, flags above 7 are unknown, and one seed stands at most.
-pub(crate) fn load(bytes: &[u8]) -> Loaded
-    ensures { loaded_as result.ok result.fields ≡ loaded full_words most_tiles bytes.now }
+// What the bytes say, if they are not refused; no field of theirs may stand with zeros, flags above 7 are unknown, and one seed stands at most.
+pub(crate) fn load(bytes: &[u8]) -> Option<Fields>
+    ensures { option_map fields_as result ≡ loaded full_words most_tiles bytes.now }
 {
     let widths = saved::field_bytes();
     let zeros = [false; 0];
@@ -175,8 +168,6 @@ pub(crate) fn load(bytes: &[u8]) -> Loaded
     let known = full[FLAGS_AT] < 8;
     let one = saved::seeds_ok(seeds);
     let sound = is_sound(fields);
-    Loaded {
-        ok: u.ok & (known & (one & sound)),
-        fields,
-    }
+    let taken = u.ok & (known & (one & sound));
+    taken.then_some(fields)
 }

@@ -1,13 +1,10 @@
 // The call `restore`: a run from the bytes of a save, on its course; and `saved_course`, which course that is (document 02, order 1).
-ghost use Rattle.std.specs.Prelude.{◌≡◌};
+ghost use Rattle.std.specs.Prelude.{◌≡◌, Some};
 ghost use Rattle.run.specs.Grader.Widths.{full_words, most_tiles};
 ghost use Rattle.run.specs.Grader.State.{view, columns};
 ghost use Rattle.run.specs.Grader.Numbers.{poses_at};
-ghost use Rattle.run.specs.Grader.Start.{zero_state};
-ghost use Rattle.run.specs.Grader.Saved.Loaded.{kept};
-ghost use Rattle.run.specs.Grader.Restore.{run_from, restore_cause, after_restore, restore_of, saved_course_of};
-ghost use Rattle.run.specs.Steps.Load.{fields_as};
-ghost use Rattle.run.specs.declared.restore.RestoreAnswer.TheVariants.{Refused as NotRestored};
+ghost use Rattle.run.specs.Grader.Restore.{run_from, after_restore, restore_of, saved_course_of, restore_check};
+ghost use Rattle.run.specs.Steps.Load.{fields_as, restored_as};
 
 use crate::load::Fields;
 use crate::quad::Stance;
@@ -15,18 +12,13 @@ use crate::state::{Progress, Run, Setup};
 use crate::touch::Columns;
 use crate::widths::{FULL_WORDS, WHEEL_WORDS};
 use crate::{contact, load, numbers, start, state, words};
-
-// How a restore is answered, or the number of the cause that refuses it.
-#[derive(Clone, Copy)]
-pub enum RestoreAnswer {
-    Restored,
-    Refused(u32),
-}
+use course::cause::Cause;
 
 // The answer, and the state beside it: the state of zeros where it is refused.
+// Kept as a pair: a refused restore gives a state too, which an `Err` with a cause alone would not hand on.
 #[derive(Clone, Copy)]
 pub struct Restoration {
-    pub answer: RestoreAnswer,
+    pub answer: Result<(), Cause>,
     pub run: Run,
 }
 
@@ -37,31 +29,24 @@ pub struct SavedFor {
     pub n: u32,
 }
 
-// The course that saved bytes are of, or the number of the cause that refuses them.
-#[derive(Clone, Copy)]
-pub enum SavedCourse {
-    Course(SavedFor),
-    Refused(u32),
-}
-
-// The first of the causes 12, 2 and 10 that holds of what was saved and of the lent course, else 0.
-fn restore_cause(
+// Refused by the first of the causes 12, 2 and 10 that holds of what was saved and of the lent course.
+fn restore_check(
     f: Fields,
     tiles: &[f64],
     offsets: &[u32],
     list: &[u32],
     n: u32,
     stance: &Stance,
-) -> u32
+) -> Result<(), Cause>
     requires { stance.now.poses ≡ poses_at f.poses 0 }
     ensures { result
-        ≡ restore_cause (columns tiles.now offsets.now list.now) n (kept (fields_as f)) }
+        ≡ restore_check (columns tiles.now offsets.now list.now) n (Some (fields_as f)) }
 {
     if n != f.n {
-        return 12;
+        return Err(Cause::Course);
     }
     if state::is_short(n, tiles.len(), offsets.len()) {
-        return 2;
+        return Err(Cause::Length);
     }
     let columns = Columns {
         tiles,
@@ -69,9 +54,9 @@ fn restore_cause(
         list,
     };
     if !columns.cells_sound(n as usize, &stance.cells) {
-        return 10;
+        return Err(Cause::Index);
     }
-    0
+    Ok(())
 }
 
 // The saved run with these sets; so many tiles are credited as the first set has.
@@ -106,36 +91,22 @@ fn run_of(f: Fields, credited: [u64; FULL_WORDS], wheels: [u64; WHEEL_WORDS]) ->
     }
 }
 
-// A cause's number and the state of zeros.
-fn refused(k: u32) -> Restoration
-    ensures { after_restore result.answer (view result.run) ≡ after_restore (NotRestored k) (zero_state full_words) }
-{
-    let run = start::zero_run();
-    Restoration {
-        answer: RestoreAnswer::Refused(k),
-        run,
-    }
-}
-
-// The run that was saved, on the lent course, or the number of the cause with the state of zeros. What the wheels touch at the last poses is
-// found anew; what they would credit there is dropped.
-pub fn restore(bytes: &[u8], tiles: &[f64], offsets: &[u32], list: &[u32], n: u32) -> Restoration
-    ensures { after_restore result.answer (view result.run)
+// The run that was saved, on the lent course. What the wheels touch at the last poses is found anew; what they would credit there is dropped.
+fn restored(
+    bytes: &[u8],
+    tiles: &[f64],
+    offsets: &[u32],
+    list: &[u32],
+    n: u32,
+) -> Result<Run, Cause>
+    ensures { restored_as result
         ≡ restore_of full_words most_tiles bytes.now
         (columns tiles.now offsets.now list.now) n }
 {
-    let l = load::load(bytes);
-    if !l.ok {
-        return refused(11);
-    }
-    let f = l.fields;
-    let last = f.poses;
-    let poses = numbers::poses_from(&last);
+    let f = load::load(bytes).ok_or(Cause::Form)?;
+    let poses = numbers::poses_from(&f.poses);
     let stance = Stance::at(poses);
-    let k = restore_cause(f, tiles, offsets, list, n, &stance);
-    if k != 0 {
-        return refused(k);
-    }
+    restore_check(f, tiles, offsets, list, n, &stance)?;
     let mut scratch = [0u64; FULL_WORDS];
     let mut wheels = [0u64; WHEEL_WORDS];
     let columns = Columns {
@@ -144,26 +115,34 @@ pub fn restore(bytes: &[u8], tiles: &[f64], offsets: &[u32], list: &[u32], n: u3
         list,
     };
     contact::full_contact(&stance, columns, n as usize, &mut scratch, &mut wheels);
-    let credited = f.credited;
-    let run = run_of(f, credited, wheels);
-    Restoration {
-        answer: RestoreAnswer::Restored,
-        run,
+    Ok(run_of(f, f.credited, wheels))
+}
+
+// The run that was saved, on the lent course, or a cause with the state of zeros.
+pub fn restore(bytes: &[u8], tiles: &[f64], offsets: &[u32], list: &[u32], n: u32) -> Restoration
+    ensures { after_restore result.answer (view result.run)
+        ≡ restore_of full_words most_tiles bytes.now
+        (columns tiles.now offsets.now list.now) n }
+{
+    match restored(bytes, tiles, offsets, list, n) {
+        Ok(run) => Restoration {
+            answer: Ok(()),
+            run,
+        },
+        Err(cause) => Restoration {
+            answer: Err(cause),
+            run: start::zero_run(),
+        },
     }
 }
 
 // The course of the run that was saved.
-pub fn saved_course(bytes: &[u8]) -> SavedCourse
+pub fn saved_course(bytes: &[u8]) -> Result<SavedFor, Cause>
     ensures { result ≡ saved_course_of full_words most_tiles bytes.now }
 {
-    let l = load::load(bytes);
-    if !l.ok {
-        return SavedCourse::Refused(11);
-    }
-    let f = l.fields;
-    let course = SavedFor {
+    let f = load::load(bytes).ok_or(Cause::Form)?;
+    Ok(SavedFor {
         seed: f.seed,
         n: f.n,
-    };
-    SavedCourse::Course(course)
+    })
 }

@@ -14,7 +14,7 @@ use Rattle.run.specs.Grader.State.{State}
 use Rattle.run.specs.Grader.Start.{Begun, no_start}
 use Rattle.run.specs.Grader.Sheet.{no_figures}
 use Rattle.run.specs.Grader.Save.{AfterSave}
-use Rattle.run.specs.Grader.Restore.{AfterRestore, restore_cause_of, saved_cause_of, saved_for_of}
+use Rattle.run.specs.Grader.Restore.{AfterRestore, no_saved_for}
 use Rattle.certificate.specs.Grader.Replay.{Replay}
 use Rattle.run.specs.declared.state.Run.{Run}
 use Rattle.run.specs.declared.start.StartValues.{StartValues}
@@ -22,7 +22,7 @@ use Rattle.run.specs.declared.state.Progress.{Progress}
 use Rattle.run.specs.declared.dynamics.Force.{Force}
 use Rattle.run.specs.declared.sheet.RunSheet.{RunSheet}
 use Rattle.run.specs.declared.settle.SettleValues.{SettleValues}
-use Rattle.run.specs.declared.restore.SavedCourse.{SavedCourse}
+use Rattle.run.specs.declared.restore.SavedFor.{SavedFor}
 use Rattle.abi.specs.declared.flat.FlatLaid.{FlatLaid}
 use Rattle.abi.specs.declared.flat.FlatCurbs.{FlatCurbs}
 use Rattle.abi.specs.declared.flat.FlatStarted.{FlatStarted}
@@ -150,10 +150,10 @@ unfoldable pub flat_save : AfterSave → SavedOut
 flat_save d = saved_out (flat_saved d.answer) d.out
 
 unfoldable pub flat_restored : AfterRestore → FlatRestored
-flat_restored d = record { cause = restore_cause_of d.answer; run = run_of d.state }
+flat_restored d = record { cause = cause_number d.answer; run = run_of d.state }
 
-unfoldable pub flat_saved_for : SavedCourse → FlatSavedFor
-flat_saved_for a = record { cause = saved_cause_of a; n = (saved_for_of a).n; seed = (saved_for_of a).seed }
+unfoldable pub flat_saved_for : Result SavedFor Cause → FlatSavedFor
+flat_saved_for a = record { cause = cause_number a; n = (result_unwrap_or a no_saved_for).n; seed = (result_unwrap_or a no_saved_for).seed }
 
 -- ---- a whole replay: its three answers, and the columns that it is lent
 

@@ -8,7 +8,7 @@ use Rattle.run.specs.Grader.State.{State, Columns}
 use Rattle.run.specs.Grader.Drive.{drive_of}
 use Rattle.run.specs.Grader.Settle.{settle_of}
 use Rattle.run.specs.Grader.Save.{save_of}
-use Rattle.run.specs.Grader.Restore.{restore_of, restore_cause_of}
+use Rattle.run.specs.Grader.Restore.{restore_of}
 use Rattle.certificate.specs.Rules.Answers.{Answer, Reply}
 use Rattle.certificate.specs.Rules.Answers.Answer.{drove, settled, refused}
 use Rattle.certificate.specs.Rules.Answers.Reply.{answered, decided}
@@ -16,8 +16,6 @@ use Rattle.run.specs.declared.state.Pose.{Pose}
 use Rattle.run.specs.declared.dynamics.Motion.{Motion}
 use Rattle.run.specs.declared.dynamics.Force.{Force}
 use Rattle.course.specs.Grader.Cause.{number_of}
-use Rattle.run.specs.declared.restore.RestoreAnswer.{RestoreAnswer}
-use Rattle.run.specs.declared.restore.RestoreAnswer.TheVariants.{Restored, Refused as NotRestored}
 use Rattle.run.specs.declared.settle.SettleValues.{SettleValues}
 
 -- a call with all that it is handed but the state
@@ -87,9 +85,9 @@ saves_after (Ok length) out bs = take length out ∷ bs
 saves_after (Err k) out bs = bs
 
 -- a refused restore's zeros are not taken up: the list goes on with the state that it had
-abbrev pub state_next : RestoreAnswer → State → State → State
-state_next Restored new old = new
-state_next (NotRestored k) new old = old
+abbrev pub state_next : Result Unit Cause → State → State → State
+state_next (Ok none) new old = new
+state_next (Err k) new old = old
 
 -- a restore that names no save gets no bytes
 unfoldable pub request_of : ℕ → ℕ → Going → Request → Went
@@ -101,7 +99,7 @@ request_of m most g (save out) =
     went (decided (cause_number d.answer)) (going g.state (saves_after d.answer d.out g.saves))
 request_of m most g (restore l n i) =
     let d = restore_of m most (get_or g.saves i []) l n in
-    went (decided (restore_cause_of d.answer)) (going (state_next d.answer d.state g.state) g.saves)
+    went (decided (cause_number d.answer)) (going (state_next d.answer d.state g.state) g.saves)
 
 -- what is said to a list of them, in order
 unfoldable pub requests_said : ℕ → ℕ → Going → List Request → List Reply

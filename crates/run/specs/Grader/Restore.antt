@@ -1,56 +1,25 @@
 -- Document 02, order 1: a restore and its causes, 11, 12, 2, 10; and which course saved bytes are of. For states whose sets have m words and take n up
 -- to `most`. Assumes nothing.
-use Rattle.std.specs.Prelude.{false, cond, not, List, ◌∷◌, [], ◌++◌, ℕ, zero, suc, ◌*◌, eqb, length}
+use Rattle.std.specs.Prelude.{false, cond, not, List, ◌∷◌, [], ◌++◌, ℕ, ◌*◌, eqb, length, Option, Some, None, Result, Ok, Err}
+use Rattle.course.specs.declared.cause.Cause.{Cause}
 use Rattle.run.specs.Rules.Below.{how_many}
 use Rattle.run.specs.Grader.Words.{member}
 use Rattle.run.specs.Grader.State.{State, Columns, short_of}
 use Rattle.run.specs.Grader.Numbers.{poses_at, car_from}
 use Rattle.run.specs.Grader.Touch.{sound_poses}
 use Rattle.run.specs.Grader.Start.{zero_state, first_contact}
-use Rattle.run.specs.Grader.Saved.{Fields, Loaded, loaded}
-use Rattle.run.specs.Grader.Saved.Loaded.{kept, not_kept}
-use Rattle.run.specs.declared.restore.RestoreAnswer.{RestoreAnswer}
-use Rattle.run.specs.declared.restore.RestoreAnswer.TheVariants.{Restored, Refused as NotRestored}
+use Rattle.run.specs.Grader.Saved.{Fields, loaded}
 use Rattle.run.specs.declared.restore.SavedFor.{SavedFor}
-use Rattle.run.specs.declared.restore.SavedCourse.{SavedCourse}
-use Rattle.run.specs.declared.restore.SavedCourse.TheVariants.{Course, Refused as NoCourse}
-
--- ---- number and values of each case of the answers
-
-unfoldable pub restore_answer : ℕ → RestoreAnswer
-restore_answer zero = Restored
-restore_answer (suc k) = NotRestored (suc k)
-
-unfoldable pub saved_course : ℕ → SavedFor → SavedCourse
-saved_course zero v = Course v
-saved_course (suc k) v = NoCourse (suc k)
-
--- a refusal has none
-abbrev pub no_saved_for : SavedFor
-no_saved_for = record { seed = 0; n = 0 }
-
--- read back
-unfoldable pub restore_cause_of : RestoreAnswer → ℕ
-restore_cause_of Restored = 0
-restore_cause_of (NotRestored k) = k
-
-unfoldable pub saved_cause_of : SavedCourse → ℕ
-saved_cause_of (Course v) = 0
-saved_cause_of (NoCourse k) = k
-
-unfoldable pub saved_for_of : SavedCourse → SavedFor
-saved_for_of (Course v) = v
-saved_for_of (NoCourse k) = no_saved_for
 
 -- ---- the restore
 
--- the first cause that holds, 0 if none does
-unfoldable pub restore_cause : Columns → ℕ → Loaded → ℕ
-restore_cause l n not_kept = 11
-restore_cause l n (kept f) =
-    cond (not (eqb n f.n)) 12
-    (cond (short_of n l) 2
-    (cond (not (sound_poses l.offsets l.list n (poses_at f.poses 0))) 10 0))
+-- the first cause that holds, if one does
+unfoldable pub restore_check : Columns → ℕ → Option Fields → Result Unit Cause
+restore_check l n None = Err Cause.Form
+restore_check l n (Some f) =
+    cond (not (eqb n f.n)) (Err Cause.Course)
+    (cond (short_of n l) (Err Cause.Length)
+    (cond (not (sound_poses l.offsets l.list n (poses_at f.poses 0))) (Err Cause.Index) (Ok tt)))
 
 -- how many tiles a set has
 unfoldable pub bit_count : List ℕ → ℕ
@@ -76,26 +45,30 @@ restored_state m l f = run_from f f.credited (first_contact m l (poses_at f.pose
 
 -- an answer and the state beside it
 pub record AfterRestore : Type 0 where
-  pub answer : RestoreAnswer
+  pub answer : Result Unit Cause
   pub state : State
 
-abbrev pub after_restore : RestoreAnswer → State → AfterRestore
+abbrev pub after_restore : Result Unit Cause → State → AfterRestore
 after_restore r s = record { answer = r; state = s }
 
--- no cause: the run; a cause: its number and the state of zeros
-unfoldable pub restore_at : ℕ → ℕ → Columns → Loaded → AfterRestore
-restore_at m zero l (kept f) = after_restore (restore_answer zero) (restored_state m l f)
-restore_at m zero l not_kept = after_restore (restore_answer 11) (zero_state m)
-restore_at m (suc k) l r = after_restore (restore_answer (suc k)) (zero_state m)
+-- no cause: the run; a cause, and the state of zeros
+unfoldable pub restore_at : ℕ → Result Unit Cause → Columns → Option Fields → AfterRestore
+restore_at m (Ok none) l (Some f) = after_restore (Ok tt) (restored_state m l f)
+restore_at m (Ok none) l None = after_restore (Err Cause.Form) (zero_state m)
+restore_at m (Err k) l r = after_restore (Err k) (zero_state m)
 
 unfoldable pub restore_of : ℕ → ℕ → List ℕ → Columns → ℕ → AfterRestore
-restore_of m most bs l n = restore_at m (restore_cause l n (loaded m most bs)) l (loaded m most bs)
+restore_of m most bs l n = restore_at m (restore_check l n (loaded m most bs)) l (loaded m most bs)
 
 -- ---- the course of saved bytes: its seed and tile count, or 11 exactly where a restore gives it
 
-abbrev pub course_at : Loaded → SavedCourse
-course_at (kept f) = saved_course zero (record { seed = f.seed; n = f.n })
-course_at not_kept = saved_course 11 no_saved_for
+-- a refusal has none
+abbrev pub no_saved_for : SavedFor
+no_saved_for = record { seed = 0; n = 0 }
 
-unfoldable pub saved_course_of : ℕ → ℕ → List ℕ → SavedCourse
+abbrev pub course_at : Option Fields → Result SavedFor Cause
+course_at (Some f) = Ok (record { seed = f.seed; n = f.n })
+course_at None = Err Cause.Form
+
+unfoldable pub saved_course_of : ℕ → ℕ → List ℕ → Result SavedFor Cause
 saved_course_of m most bs = course_at (loaded m most bs)

@@ -1,6 +1,6 @@
 -- Document 02, orders 1 and 3: what a save keeps of a run, as fields of bytes, and which bytes a restore takes (cause 11). For sets of m words that hold
 -- `most` tiles. Assumes nothing.
-use Rattle.std.specs.Prelude.{Bool, not, cond, ◌&&◌, ◌||◌, List, [], ◌∷◌, ◌++◌, ℕ, ◌+◌, ◌*◌, ◌/◌, ◌^◌, eqb, ltb, leb, length, get_or, take, Float}
+use Rattle.std.specs.Prelude.{Bool, not, cond, ◌&&◌, ◌||◌, List, [], ◌∷◌, ◌++◌, ℕ, ◌+◌, ◌*◌, ◌/◌, ◌^◌, eqb, ltb, leb, length, get_or, take, Float, Option, Some, None}
 use Rattle.course.specs.Rules.Counting.{digit}
 use Rattle.course.specs.Rules.Tiles.{number_at}
 use Rattle.form.specs.Rules.Bytes.{low, number, word_bytes, float_bytes, words_from, floats_from}
@@ -148,18 +148,13 @@ sound_fields most f =
     && (all_below f.n f.credited
     && leb f.tick f.limit)))
 
--- what bytes say, or that they are refused
-pub data Loaded : Type 0 where
-  kept : Fields → Loaded
-  not_kept : Loaded
-
--- flags above 7 are unknown
-unfoldable pub loaded_from : ℕ → ℕ → Parsed → Loaded
-loaded_from m most broken = not_kept
+-- what bytes say, if they are not refused; flags above 7 are unknown
+unfoldable pub loaded_from : ℕ → ℕ → Parsed → Option Fields
+loaded_from m most broken = None
 loaded_from m most (fields fs) =
     cond (ltb (number (field_at fs 5)) 8
     && (seeds_ok (number (field_at fs 0)) (number (field_at fs 10)) && sound_fields most (fields_from m fs)))
-    (kept (fields_from m fs)) not_kept
+    (Some (fields_from m fs)) None
 
-unfoldable pub loaded : ℕ → ℕ → List ℕ → Loaded
+unfoldable pub loaded : ℕ → ℕ → List ℕ → Option Fields
 loaded m most bs = loaded_from m most (parsed (second_form m) bs)

@@ -1,12 +1,16 @@
 -- Document 02, orders 1 and 3: what was read of a save, as the private functions of `load` and `restore` keep it. Assumes nothing.
-use Rattle.std.specs.Prelude.{Bool, cond, List, ℕ, take}
+use Rattle.std.specs.Prelude.{List, ℕ, take, Result, Ok, Err}
+use Rattle.course.specs.declared.cause.Cause.{Cause}
 use Rattle.course.specs.Rules.Tiles.{number_at}
 use Rattle.form.specs.Rules.Bytes.{number}
 use Rattle.form.specs.Rules.Form.{cut}
 use Rattle.run.specs.Grader.Widths.{full_words}
 use Rattle.run.specs.Grader.Numbers.{control_count}
-use Rattle.run.specs.Grader.Saved.{Fields, field_bytes, field_at, Loaded}
-use Rattle.run.specs.Grader.Saved.Loaded.{kept, not_kept}
+use Rattle.run.specs.Grader.State.{view}
+use Rattle.run.specs.Grader.Start.{zero_state}
+use Rattle.run.specs.Grader.Saved.{Fields, field_bytes, field_at}
+use Rattle.run.specs.Grader.Restore.{AfterRestore, after_restore}
+use Rattle.run.specs.declared.state.Run.{Run}
 use Rattle.run.specs.declared.saved.SeedParts.{SeedParts}
 use Rattle.run.specs.declared.load.Fields.{Fields as CodeFields}
 
@@ -36,6 +40,7 @@ fields_as f =
       n = f.n;
     }
 
--- refused, or what was read
-abbrev pub loaded_as : Bool → CodeFields → Loaded
-loaded_as ok f = cond ok (kept (fields_as f)) not_kept
+-- a restored run, or a cause with the state of zeros
+abbrev pub restored_as : Result Run Cause → AfterRestore
+restored_as (Ok run) = after_restore (Ok tt) (view run)
+restored_as (Err k) = after_restore (Err k) (zero_state full_words)

@@ -1,9 +1,10 @@
--- `run::restore::restore_cause` meets its contract. Assumes nothing.
+-- `run::restore::restore_check` meets its contract. Assumes nothing.
 use Rattle.run.specs.Grader.Numbers.{poses_at}
 use Rattle.run.proofs.CellLaws.{cells-sound-is}
 use Rattle.run.specs.Steps.Load.{fields_as}
-use Rattle.run.specs.Grader.Restore.{restore_cause}
-use Rattle.run.specs.Grader.Saved.Loaded.{kept}
+use Rattle.run.specs.Grader.Restore.{restore_check}
+use Rattle.std.specs.Prelude.{Some, Ok, Err}
+use Rattle.course.specs.declared.cause.Cause.{Cause}
 use Rattle.run.specs.Grader.State.{columns, short_of}
 use borrow.Author.Tests.{eq-eqb, ne_eqb}
 use lib.Dec.{eqb}
@@ -11,17 +12,17 @@ use mathlib.Core.Bool.{cond, not, false}
 use native.Mathlib.Omega.{arith}
 use mathlib.Core.Path.{◌≡◌, sym, ap, ◌∙◌}
 use Rattle.run.specs.Steps.Touch.{sixteen_cells}
-use Rattle.run.proofs.restore.restore_cause.Goals as goal
+use Rattle.run.proofs.restore.restore_check.Goals as goal
 
 pub returns-then-n-f : goal.returns-then-n-f
-unfolding restore_cause
+unfolding restore_check
 returns-then-n-f c =
     let a = c.args in
     let other : eqb a.n a.f.n ≡ false = ne_eqb a.n a.f.n (λ e. omega (arith, e, c.if-n-f.true)) in
     simp other
 
 pub returns-then-is_short : goal.returns-then-is_short
-unfolding restore_cause short_of
+unfolding restore_check short_of
 returns-then-is_short c =
     let h = c.is_short in
     let a = c.args in
@@ -29,9 +30,9 @@ returns-then-is_short c =
     simp (eq-eqb a.n a.f.n same, ← h.ensures, c.if-is_short.true)
 
 pub returns-then-not-cells_sound : goal.returns-then-not-cells_sound
-unfolding restore_cause short_of
+unfolding restore_check short_of
 returns-then-not-cells_sound c =
-    let cells_left : (let a = c.args in restore_cause (columns a.tiles.now a.offsets.now a.list.now) a.n (kept (fields_as a.f))) ≡ cond (not c.cells_sound.result) 10 0 =
+    let cells_left : (let a = c.args in restore_check (columns a.tiles.now a.offsets.now a.list.now) a.n (Some (fields_as a.f))) ≡ cond (not c.cells_sound.result) (Err Cause.Index) (Ok tt) =
     let a = c.args in
     let same : a.n ≡ a.f.n = omega (arith, c.if-n-f.false) in
     simp (
@@ -44,9 +45,9 @@ returns-then-not-cells_sound c =
     sym (cells_left ∙ simp c.if-not-cells_sound.true)
 
 pub returns : goal.returns
-unfolding restore_cause short_of
+unfolding restore_check short_of
 returns c =
-    let cells_left : (let a = c.args in restore_cause (columns a.tiles.now a.offsets.now a.list.now) a.n (kept (fields_as a.f))) ≡ cond (not c.cells_sound.result) 10 0 =
+    let cells_left : (let a = c.args in restore_check (columns a.tiles.now a.offsets.now a.list.now) a.n (Some (fields_as a.f))) ≡ cond (not c.cells_sound.result) (Err Cause.Index) (Ok tt) =
     let a = c.args in
     let same : a.n ≡ a.f.n = omega (arith, c.if-n-f.false) in
     simp (

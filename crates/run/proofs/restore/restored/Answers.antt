@@ -1,0 +1,55 @@
+-- `run::restore::restored` meets its contract. Assumes nothing.
+use lib.Dec.{lit≤}
+use mathlib.Core.Path.{◌≡◌, refl, sym, ap, ◌∙◌}
+use Rattle.std.specs.Prelude.{Some}
+use Rattle.std.specs.Result.{result_ok}
+use Rattle.std.proofs.lemmas.Result.{err_from_is_err_and}
+use Rattle.run.specs.Grader.Widths.{most_tiles, full_words}
+use Rattle.run.specs.Grader.State.{view, columns}
+use Rattle.run.specs.Grader.Touch.{sound_poses}
+use Rattle.run.specs.Grader.Contact.{Contacted}
+use Rattle.run.specs.Grader.Start.{first_contact}
+use Rattle.run.specs.Grader.Saved.{loaded}
+use Rattle.run.specs.Steps.Load.{fields_as}
+use Rattle.run.proofs.CheckLaws.{not-there}
+use Rattle.run.proofs.LoadLaws.{not-loaded, is-loaded, kept-sound}
+use Rattle.run.proofs.RestoreLaws.{restore-facts, run-restored, restore-none, restore-refused, restore-accepted}
+use Rattle.run.proofs.restore.restored.Goals as goal
+
+pub returns-in_err-f : goal.returns-in_err-f
+returns-in_err-f c =
+    let a = c.args in
+    let p = err_from_is_err_and c.from_residual.result c.from_residual.ensures.1 in
+    let q = not-there c.load.result c.ok_or.ensures.value c.in_err-f.was in
+    rw (p.1, p.2, q.1) (restore-none full_words most_tiles a.bytes.now (columns a.tiles.now a.offsets.now a.list.now) a.n (not-loaded q.0 c.load.ensures))
+
+pub returns-in_err-restore_check : goal.returns-in_err-restore_check
+returns-in_err-restore_check c =
+    let loaded_at = is-loaded (c.ok_or.ensures.ok_part ∙ ap result_ok c.in_ok-f.was) c.load.ensures in
+    let a = c.args in
+    let p = err_from_is_err_and c.from_residual-in_err-restore_check.result c.from_residual-in_err-restore_check.ensures.1 in
+    rw (p.1, p.2)
+    (restore-refused full_words most_tiles a.bytes.now (columns a.tiles.now a.offsets.now a.list.now) a.n _ _ _ loaded_at c.restore_check.ensures c.in_err-restore_check.was)
+
+pub restore_check-requires : goal.restore_check-requires
+restore_check-requires c = c.at-stance.ensures ∙ c.poses_from-poses.ensures
+
+pub full_contact-requires : goal.full_contact-requires
+full_contact-requires c =
+    let loaded_at = is-loaded (c.ok_or.ensures.ok_part ∙ ap result_ok c.in_ok-f.was) c.load.ensures in
+    let f = fields_as c.in_ok-f.f in
+    let a = c.args in
+    let kept-is = kept-sound full_words most_tiles a.bytes.now f (sym loaded_at) in
+    let h = restore-facts most_tiles (columns a.tiles.now a.offsets.now a.list.now) a.n f (lit≤ tt) kept-is (sym c.restore_check.ensures ∙ c.in_ok-restore_check.was) in
+    let sound = ap (sound_poses a.offsets.now a.list.now a.n) (c.at-stance.ensures ∙ c.poses_from-poses.ensures) ∙ h.sound in
+    (h.some, h.few, h.tiles, sound)
+
+pub returns : goal.returns
+unfolding first_contact
+returns c =
+    let loaded_at = is-loaded (c.ok_or.ensures.ok_part ∙ ap result_ok c.in_ok-f.was) c.load.ensures in
+    let f = fields_as c.in_ok-f.f in
+    let a = c.args in
+    let touched = ap (λ (x : Contacted). x.wheels) (c.full_contact.ensures ∙ ap (first_contact full_words (columns a.tiles.now a.offsets.now a.list.now)) (c.at-stance.ensures ∙ c.poses_from-poses.ensures)) in
+    let made = run-restored full_words (columns a.tiles.now a.offsets.now a.list.now) f (view c.run_of.result) _ _ c.run_of.ensures refl touched in
+    restore-accepted full_words most_tiles a.bytes.now (columns a.tiles.now a.offsets.now a.list.now) a.n (view c.run_of.result) f _ loaded_at c.restore_check.ensures c.in_ok-restore_check.was made
