@@ -15,7 +15,8 @@ use Rattle.form.proofs.TableLaws.{widths-of, shown-length, shown-small, standing
 use Rattle.form.proofs.ReadLaws.{parsed-long}
 use Rattle.form.proofs.FormLaws.{Fits, none, shown, hidden, parse-back, fits-small, stands, parse-only}
 use Rattle.form.specs.Rules.Bytes.{low, number, all_zero}
-use Rattle.form.specs.Rules.Form.{Row, rows_of, sum, cut, joined, most_rows, odd, bit, map_of, standing, packed, Parsed, parse, map_in, parsed, read, read_fields, unpack_into}
+use Rattle.form.specs.declared.table.Row.{Row}
+use Rattle.form.specs.Rules.Form.{rows_of, sum, cut, joined, most_rows, odd, bit, map_of, standing, packed, Parsed, parse, map_in, parsed, read, read_fields, unpack_into}
 use Rattle.form.specs.Rules.Form.Parsed.{fields}
 
 -- ---- the map's bits

@@ -11,7 +11,8 @@ use borrow.Author.Tests.{le-leb, lt-leb, leb-true, lt-ltb, le-ltb}
 use Rattle.std.proofs.Common.{Option, Some, None}
 use Rattle.form.proofs.Filling.{Filling, part-on, part_length}
 use Rattle.form.specs.Rules.Bytes.{all_zero}
-use Rattle.form.specs.Rules.Form.{Row, widths, sum, joined, odd, may_stand, Parsed, before, parse, map_in, parsed, Read, read, read_fields, unpack_into}
+use Rattle.form.specs.declared.table.Row.{Row}
+use Rattle.form.specs.Rules.Form.{widths, sum, joined, odd, may_stand, Parsed, before, parse, map_in, parsed, Read, read, read_fields, unpack_into}
 use Rattle.form.specs.Rules.Form.Parsed.{fields, broken}
 use Rattle.form.specs.Steps.Form.{field_step, whole, standing_sum, fields_in}
 

@@ -15,7 +15,8 @@ use Rattle.form.proofs.ByteLaws.{low-length, store-room}
 use Rattle.form.proofs.Filling.{Filling, begins, goes_on, ends, part-on, take-least, drop-least}
 use Rattle.form.specs.Rules.Bytes.{low, all_zero, Leaves, leaves, store}
 use Rattle.std.proofs.Common.{Some, None, Ok, Err}
-use Rattle.form.specs.Rules.Form.{Row, widths, rows_of, sum, cut, joined, odd, bit, map_of, standing, packed, Wrote, wrote, pack_into}
+use Rattle.form.specs.declared.table.Row.{Row}
+use Rattle.form.specs.Rules.Form.{widths, rows_of, sum, cut, joined, odd, bit, map_of, standing, packed, Wrote, wrote, pack_into}
 
 -- ---- the fields of a table, cut off where the bytes end
 module _ (r : Row) (rows rest : List Row) (full f b : List ℕ) (n : ℕ) where

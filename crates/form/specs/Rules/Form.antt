@@ -2,9 +2,9 @@
 -- in bit order. Orders 3, 6 and 8 add rows; order 6 has one that stands at zero too. Assumes nothing.
 use Rattle.std.specs.Prelude.{Bool, true, false, not, cond, ◌&&◌, ◌||◌, List, [], ◌∷◌, ◌++◌, ℕ, ◌+◌, ◌*◌, ◌/◌, ◌%◌, eqb, ltb, leb, length, get_or, take, drop, replicate, map, Option, Some, None, Result, Ok, Err}
 use Rattle.form.specs.declared.pack.NoRoom.{NoRoom}
+use Rattle.form.specs.declared.table.Row.{Row}
 use Rattle.form.specs.Rules.Bytes.{low, number, all_zero}
--- a row of the table: the field's bytes, and whether it may stand with zeros
-pub use Rattle.form.specs.declared.table.Row.{Row}
+-- a row of the table has the field's bytes, and whether it may stand with zeros
 
 -- the table of widths and marks; a row without a mark may not stand with zeros
 unfoldable pub rows_of : List ℕ → List Bool → List Row

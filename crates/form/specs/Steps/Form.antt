@@ -1,6 +1,7 @@
 -- The steps of reading a saved form: for private functions alone, no public contract reaches these. Assumes nothing.
 use Rattle.std.specs.Prelude.{Bool, true, false, cond, Option, Some, None, List, [], ◌∷◌, ℕ, ◌+◌, ◌/◌, take, drop, replicate}
-use Rattle.form.specs.Rules.Form.{Row, Parsed, odd, may_stand}
+use Rattle.form.specs.declared.table.Row.{Row}
+use Rattle.form.specs.Rules.Form.{Parsed, odd, may_stand}
 use Rattle.form.specs.Rules.Form.Parsed.{fields, broken}
 
 -- one field: the bytes after it, where it is as it must be
