@@ -1,13 +1,17 @@
 -- Numbers, words and floats as bytes: how long they are, and that they are read back. Assumes nothing.
 use Prim.Native.Nat.{ℕ, zero, suc, ◌+◌, ◌*◌, ◌-◌, ◌/◌, ◌%◌, ◌^◌, ◌≤◌, ◌<◌}
-use mathlib.Core.Path.{◌≡◌, refl, sym, ap, ap₂, ◌∙◌, subst}
-use mathlib.Core.Bool.{Bool, true, false, cond, ◌&&◌}
+use mathlib.Core.Path.{◌≡◌, refl, sym, ap, ap₂, ◌∙◌}
+use mathlib.Core.Bool.{Bool, true, false, cond, true≢false}
+use Rattle.std.specs.Bool.{MatchBool}
+use Rattle.std.specs.List.{AllWithin, HoldsAt}
+use Rattle.std.proofs.lemmas.List.Recursion.{and_is}
 use mathlib.Core.List.{List, [], ◌∷◌, ◌++◌, append-nil}
 use native.Mathlib.Nat.{pow-suc, pow-le-pow_right}
 use native.Mathlib.Numerals.{add-one}
 use native.Mathlib.Omega.{arith}
-use lib.ListN.{length, get_or, take, drop, length-append, drop_of_length-le, replicate}
-use lib.Seq.{take_at, drop_at, drop-cons, drop-drop, drop-length, take-nil}
+use lib.ListN.{length, get_or, take, drop, length-append, length-drop, drop_of_length-le, replicate}
+use Rattle.std.specs.Int.{w64, from_le_bytes}
+use lib.Seq.{take_at, drop_at, drop-cons, drop-drop}
 use lib.Dec.{T, eqb}
 use lib.Ieee.{Float, binary64, fits, to_bits, of_bits}
 use lib.Ieee.Bits.{of_bits-to_bits, to_bits-lt}
@@ -39,27 +43,12 @@ number-back (suc k) v h =
     let g : v / 256 < 256 ^ k = omega (arith, h, pow-suc 256 k) in
     ap (λ (z : ℕ). v % 256 + 256 * z) (number-back k (v / 256) g) ∙ omega arith
 
--- ---- a test of all bytes, from one on
-pub zero-end : (s : List ℕ) (i : ℕ) → length s ≤ i → all_zero (drop i s) ≡ true
+-- ---- a test of all bytes, as `all` answers it
+pub zeros-found : (bs : List ℕ) (r : Bool) → MatchBool r (AllWithin (λ (b : ℕ). eqb b 0 ≡ true) bs 0 (length bs)) ((k : ℕ) × (k < length bs) × HoldsAt (λ (b : ℕ). eqb b 0 ≡ false) bs k)
+    → r ≡ all_zero bs
 unfolding all_zero
-zero-end [] zero h = refl
-zero-end [] (suc i) h = refl
-zero-end (b ∷ s) zero h = absurd (omega arith)
-zero-end (b ∷ s) (suc i) h = zero-end s i (omega arith)
-
-pub zero-step : (s : List ℕ) (i : ℕ) → i < length s → all_zero (drop i s) ≡ eqb (get_or s i 0) 0 && all_zero (drop (i + 1) s)
-unfolding all_zero
-zero-step s i h = ap all_zero (drop-cons s i 0 h ∙ ap (λ (z : ℕ). get_or s i 0 ∷ drop z s) (sym (add-one i)))
-
--- ---- zeros one after another
-pub zeros-all : (n : ℕ) → replicate {A = ℕ} (n - 0) 0 ≡ replicate {A = ℕ} n 0
-zeros-all n = let e : n - 0 ≡ n = omega arith in ap (λ (j : ℕ). replicate {A = ℕ} j 0) e
-
-pub zeros-more : (n i : ℕ) → i < n → replicate {A = ℕ} (n - i) 0 ≡ 0 ∷ replicate {A = ℕ} (n - (i + 1)) 0
-zeros-more n i h = let e : n - i ≡ suc (n - (i + 1)) = omega arith in ap (λ (j : ℕ). replicate {A = ℕ} j 0) e
-
-pub zeros-none : (n i : ℕ) → n ≤ i → replicate {A = ℕ} (n - i) 0 ≡ []
-zeros-none n i h = let e : n - i ≡ 0 = omega arith in ap (λ (j : ℕ). replicate {A = ℕ} j 0) e
+zeros-found bs true h = and_is all_zero (λ (b : ℕ). eqb b 0) refl (λ _ _. refl) bs 0 true (λ e i l. h i 0 (omega arith) l) (λ e. absurd (true≢false e))
+zeros-found bs false h = and_is all_zero (λ (b : ℕ). eqb b 0) refl (λ _ _. refl) bs 0 false (λ e. absurd (true≢false (sym e))) (λ e. (h.0, h.1, h.2 0))
 
 -- ---- what is stored where there is room, and where there is none
 pub store-room : (bs out : List ℕ) → length bs ≤ length out → store bs out ≡ leaves true (bs ++ drop (length bs) out)
@@ -80,48 +69,44 @@ pub store-short : (bs out : List ℕ) → length out < length bs → store bs ou
 unfolding store
 store-short bs out h = ap (λ (b : Bool). cond b (leaves true (bs ++ drop (length bs) out)) (leaves false out)) (lt-leb _ _ h)
 
--- ---- a number gathered from its high byte down
-pub number-none : (s : List ℕ) → 0 ≡ number (drop (length s) s)
+-- ---- the number of eight bytes, as the library's functions say it
+number-next : (l : List ℕ) (i : ℕ) → number (drop i l) ≡ get_or l i 0 + 256 * number (drop (suc i) l)
 unfolding number
-number-none s = sym (ap number (drop-length s))
+number-next [] zero = refl
+number-next [] (suc i) = refl
+number-next (b ∷ l) zero = refl
+number-next (b ∷ l) (suc i) = number-next l i
 
-pub power-none : (n : ℕ) → 0 < 256 ^ (n - n)
-power-none n = let e : n - n ≡ 0 = omega arith in subst (λ (j : ℕ). 0 < 256 ^ j) (sym e) (omega arith)
-
-pub number_step : (s : List ℕ) (i v b : ℕ) → 0 < i → i ≤ length s → v ≡ number (drop i s) → b ≡ get_or s (i - 1) 0 → v * 256 + b ≡ number (drop (i - 1) s)
+number-past : (l : List ℕ) (i : ℕ) → length l ≤ i → number (drop i l) ≡ 0
 unfolding number
-number_step s i v b p h e g =
-    let n : suc (i - 1) ≡ i = omega arith in
-    let a : i - 1 < length s = omega arith in
-    ap₂ (λ (x y : ℕ). x * 256 + y) e g
-    ∙ turned (number (drop i s)) (get_or s (i - 1) 0)
-    ∙ ap (λ (j : ℕ). get_or s (i - 1) 0 + 256 * number (drop j s)) (sym n)
-    ∙ sym (ap number (drop-cons s (i - 1) 0 a))
-  where
-    turned : (x y : ℕ) → x * 256 + y ≡ y + 256 * x
-    turned x y = omega arith
+number-past l i h = ap number (drop_of_length-le l h)
 
-pub eight-bytes : (n i v : ℕ) → n ≤ 8 → 0 < i → i ≤ n → v < 256 ^ (n - i) → v < 256 ^ 7
-eight-bytes n i v m p h b =
-    let k : n - i ≤ 7 = omega arith in
-    let g : 256 ^ (n - i) ≤ 256 ^ 7 = pow-le-pow_right {n = 256} (omega arith) k in
-    omega (arith, b, g)
+eight-said : (l : List ℕ) → length l ≤ 8 → number l ≡ from_le_bytes w64 l
+eight-said l h =
+    omega (arith, number-next l 0, number-next l 1, number-next l 2, number-next l 3, number-next l 4, number-next l 5, number-next l 6, number-next l 7, number-past l 8 h)
 
-pub byte_more : (n i v b : ℕ) → 0 < i → i ≤ n → v < 256 ^ (n - i) → b < 256 → v * 256 + b < 256 ^ (n - (i - 1))
-byte_more n i v b p h l k =
-    let e : n - (i - 1) ≡ suc (n - i) = omega arith in
-    subst (λ (j : ℕ). v * 256 + b < 256 ^ j) (sym e) (omega (arith, l, k, pow-suc 256 (n - i)))
-
-pub past-none : (n at : ℕ) (s : List ℕ) → length s ≤ at → 0 ≡ number (take n (drop at s))
+-- zeros behind the bytes of a number change nothing
+zeros-say : (k n : ℕ) → number (drop n (replicate k 0)) ≡ 0
 unfolding number
-past-none n at s h = sym (ap (λ (z : List ℕ). number (take n z)) (drop_of_length-le s h) ∙ ap number (take-nil n))
+zeros-say zero zero = refl
+zeros-say zero (suc n) = refl
+zeros-say (suc k) zero = omega (arith, zeros-say k 0)
+zeros-say (suc k) (suc n) = zeros-say k n
+
+padded : (bs zs : List ℕ) → number zs ≡ 0 → number (bs ++ zs) ≡ number bs
+unfolding number
+padded [] zs h = h
+padded (b ∷ bs) zs h = ap (λ (n : ℕ). b + 256 * n) (padded bs zs h)
+
+pub number_read : (bs p : List ℕ) → length bs ≤ 8 → p ≡ bs → from_le_bytes w64 (p ++ drop (length bs) (replicate 8 0)) ≡ number bs
+number_read bs p h e =
+    let zs = drop (length bs) (replicate 8 0) in
+    let n : length (p ++ zs) ≤ 8 = omega (arith, h, ap length e, length-append p zs, length-drop (length bs) (replicate {A = ℕ} 8 0)) in
+    sym (eight-said (p ++ zs) n) ∙ ap (λ (l : List ℕ). number (l ++ zs)) e ∙ padded bs zs (zeros-say 8 (length bs))
 
 -- ---- bytes say a number that they have room for
 pub power-grows : (k n : ℕ) → k ≤ n → 256 ^ k ≤ 256 ^ n
 power-grows k n h = pow-le-pow_right {n = 256} (omega arith) h
-
-pub power-some : (n : ℕ) → 0 < 256 ^ n
-power-some n = omega (arith, power-grows 0 n (omega arith))
 
 abbrev pub Bytes : List ℕ → Type 0
 Bytes bs = (i : ℕ) → get_or bs i 0 < 256
@@ -193,13 +178,9 @@ module _ {A : Type 0} (g : ℕ → A) where
   unfolding fill_each
   fill-short bs xs h = ap (λ (b : Bool). cond b (leaves true (each_from g (length xs) bs)) (leaves false xs)) (lt-leb _ _ h)
 
-  pub fill-room : (bs : List ℕ) (xs xs' : List A) → 8 * length xs ≤ length bs → xs' ≡ each_from g (length xs) bs ++ drop (length (each_from g (length xs) bs)) xs
-      → leaves true xs' ≡ fill_each g bs xs
+  pub fill-room : (bs : List ℕ) (xs xs' : List A) → 8 * length xs ≤ length bs → xs' ≡ each_from g (length xs) bs → leaves true xs' ≡ fill_each g bs xs
   unfolding fill_each
-  fill-room bs xs xs' h e =
-      let k : length xs ≤ length (each_from g (length xs) bs) = omega (arith, from-length (length xs) bs) in
-      ap (leaves true) (e ∙ ap (λ (l : List A). each_from g (length xs) bs ++ l) (drop_of_length-le xs k) ∙ append-nil _)
-      ∙ sym (ap (λ (b : Bool). cond b (leaves true (each_from g (length xs) bs)) (leaves false xs)) (le-leb _ _ h))
+  fill-room bs xs xs' h e = ap (leaves true) e ∙ sym (ap (λ (b : Bool). cond b (leaves true (each_from g (length xs) bs)) (leaves false xs)) (le-leb _ _ h))
 
 -- what is written is read back, where each element is that of its number and the number fits eight bytes
 abbrev pub All : {A : Type 0} → (A → Type 0) → List A → Type 0

@@ -5,7 +5,8 @@ use mathlib.Core.Path.{◌≡◌, refl}
 use Prim.Native.Nat.{ℕ}
 use lib.Ieee.{nan, to_bits, of_bits}
 use Rattle.form.specs.Rules.Bytes.{low, number, all_zero, each_bytes, each_from, float_bytes, floats_from}
-use Rattle.form.specs.Rules.Form.{Row, rows_of, map_of, standing, packed, may_stand, parse, map_in, parsed}
+use Rattle.form.specs.declared.table.Row.{Row}
+use Rattle.form.specs.Rules.Form.{rows_of, map_of, standing, packed, may_stand, parse, map_in, parsed}
 use Rattle.form.specs.Rules.Form.Parsed.{fields, broken}
 
 -- NaN has one pattern when it is written; read, the one above infinity is as good

@@ -1,11 +1,12 @@
 -- A list that is filled from the front, part after part. Assumes nothing.
-use Prim.Native.Nat.{ℕ, zero, suc, ◌+◌, ◌-◌, ◌≤◌, min}
-use mathlib.Core.Path.{◌≡◌, refl, sym, ap, ◌∙◌}
+use Prim.Native.Nat.{ℕ, zero, suc, ◌+◌, ◌-◌, ◌≤◌, ◌<◌, min}
+use mathlib.Core.Path.{◌≡◌, refl, sym, ap, ap₂, ◌∙◌}
 use mathlib.Core.List.{List, [], ◌∷◌, ◌++◌, append_assoc, append-nil}
 use native.Mathlib.Nat.{add-zero, zero-min, min-zero, suc-min-suc}
 use native.Mathlib.Omega.{arith}
 use lib.ListN.{length, take, drop, set, length-append, length-drop, drop_of_length-le}
-use lib.Seq.{sets, length-sets, sets-eq, drop-drop, length-take-le}
+use lib.Seq.{sets, length-sets, sets-eq, drop-drop, length-take-le, take_all}
+use Rattle.std.proofs.lemmas.List.{take_more_set}
 
 module _ {A : Type 0} where
   -- one run of stores after another
@@ -50,6 +51,13 @@ module _ {A : Type 0} where
       let k : length l ≤ length all = omega (arith, h) in
       ends f e (omega (arith, h)) ∙ ap (λ (r : List A). all ++ r) (drop_of_length-le l k) ∙ append-nil all
 
+  -- the same, said of the front alone: one more, and all
+  pub grown : (l : List A) (i : ℕ) (x : A) (rest all : List A) → i < length l → take i l ++ (x ∷ rest) ≡ all → take (i + 1) (set l i x) ++ rest ≡ all
+  grown l i x rest all h e = ap (λ (p : List A). p ++ rest) (take_more_set l i x h) ∙ append_assoc (take i l) (x ∷ []) rest ∙ e
+
+  pub grown_up : (l : List A) (i : ℕ) (rest all : List A) → length l ≤ i → rest ≡ [] → take i l ++ rest ≡ all → l ≡ all
+  grown_up l i rest all h e g = sym (take_all i l h) ∙ sym (append-nil (take i l)) ∙ ap (λ (r : List A). take i l ++ r) (sym e) ∙ g
+
   -- a part lent to a call, and what the call left in it
   pub part-stored : (l p : List A) (i e : ℕ) → i + length p ≡ e → e ≤ length l → take i l ++ (p ++ drop (e - i) (drop i l)) ≡ sets l i p
   part-stored l p i e n h =
@@ -79,10 +87,17 @@ module _ {A : Type 0} where
       let e : i + n - i ≡ n = omega arith in
       ap (λ (k : ℕ). length (take k (drop i l))) e ∙ length-take-le n (drop i l) (omega (arith, length-drop i l))
 
-  drop-least : (n : ℕ) (l : List A) → drop (min n (length l)) l ≡ drop n l
+  pub drop-least : (n : ℕ) (l : List A) → drop (min n (length l)) l ≡ drop n l
   drop-least zero l = ap (λ (k : ℕ). drop k l) (zero-min (length l))
   drop-least (suc n) [] = ap (λ (k : ℕ). drop k []) (min-zero (suc n))
   drop-least (suc n) (x ∷ l) = ap (λ (k : ℕ). drop k (x ∷ l)) (suc-min-suc n (length l)) ∙ drop-least n l
+
+  pub part-taken : (at k a b n : ℕ) (l : List A) → a ≡ min at (length l) → b ≡ k → n ≡ min b (length (take (length l - a) (drop a l)))
+      → take n (take (length l - a) (drop a l)) ≡ take k (drop at l)
+  part-taken at k a b n l d e h =
+      let r : take (length l - a) (drop a l) ≡ drop at l =
+      take_all (length l - a) (drop a l) (omega (arith, length-drop a l)) ∙ ap (λ (j : ℕ). drop j l) d ∙ drop-least at l in
+      ap₂ take (h ∙ ap₂ (λ (j : ℕ) (t : List A). min j (length t)) e r) r ∙ take-least k (drop at l)
 
   pub past-least : (at n e : ℕ) (l : List A) → e ≡ at + min n (length l - at) → drop n (drop at l) ≡ drop e l
   past-least at n e l h =

@@ -11,7 +11,8 @@ use lib.Seq.{take_at, drop_at, length-take-le}
 use borrow.Author.Tests.{le-leb, ne_eqb, eqb-true}
 use Rattle.form.proofs.ReadLaws.{stand-within}
 use Rattle.form.specs.Rules.Bytes.{all_zero}
-use Rattle.form.specs.Rules.Form.{Row, odd, standing, Parsed, before, may_stand, parse}
+use Rattle.form.specs.declared.table.Row.{Row}
+use Rattle.form.specs.Rules.Form.{odd, standing, Parsed, before, may_stand, parse}
 use Rattle.form.specs.Rules.Form.Parsed.{fields, broken}
 
 -- ---- a map fits the fields of a table: what stands may stand, what does not is zeros, and no bit is past the last field

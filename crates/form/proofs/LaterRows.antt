@@ -13,7 +13,8 @@ use Rattle.form.proofs.TableLaws.{map_below}
 use Rattle.form.proofs.FormLaws.{Fits, none, shown, hidden, parse-back, parse-only, unknown-bit, fits-small}
 use Rattle.form.proofs.MapLaws.{zeros-are}
 use Rattle.form.specs.Rules.Bytes.{low, number, all_zero}
-use Rattle.form.specs.Rules.Form.{Row, odd, bit, map_of, standing, packed, Parsed, parse, map_in, parsed}
+use Rattle.form.specs.declared.table.Row.{Row}
+use Rattle.form.specs.Rules.Form.{odd, bit, map_of, standing, packed, Parsed, parse, map_in, parsed}
 use Rattle.form.specs.Rules.Form.Parsed.{fields, broken}
 
 -- ---- writing

@@ -5,16 +5,18 @@ use mathlib.Core.Path.{◌≡◌, refl, sym, ap, ap₂, ◌∙◌, subst}
 use Prim.Native.Nat.{ℕ, zero, suc, ◌+◌, ◌*◌, ◌/◌, ◌%◌, ◌^◌, ◌≤◌, ◌<◌}
 use native.Mathlib.Nat.{pow-le-pow_right}
 use native.Mathlib.Omega.{arith}
-use lib.Dec.{eqb}
+use lib.Dec.{eqb, leb}
 use lib.ListN.{length, get_or, take, drop, replicate, length-append, length-drop, take-append-drop}
 use lib.Seq.{take_at, drop_at, take-add, length-take-le}
 use borrow.Author.Tests.{le-leb, eqb-true}
 use Rattle.form.proofs.ByteLaws.{Bytes, low-length, number-back, bytes_back}
-use Rattle.form.proofs.TableLaws.{shown-length, shown-small, standing-small}
+use Rattle.std.proofs.Common.{Some, None}
+use Rattle.form.proofs.TableLaws.{widths-of, shown-length, shown-small, standing-small}
 use Rattle.form.proofs.ReadLaws.{parsed-long}
 use Rattle.form.proofs.FormLaws.{Fits, none, shown, hidden, parse-back, fits-small, stands, parse-only}
 use Rattle.form.specs.Rules.Bytes.{low, number, all_zero}
-use Rattle.form.specs.Rules.Form.{Row, rows_of, sum, cut, joined, most_rows, odd, bit, map_of, standing, packed, Parsed, parse, map_in, parsed, read, read_fields, unpack_into}
+use Rattle.form.specs.declared.table.Row.{Row}
+use Rattle.form.specs.Rules.Form.{rows_of, sum, cut, joined, most_rows, odd, bit, map_of, standing, packed, Parsed, parse, map_in, parsed, read, read_fields, unpack_into}
 use Rattle.form.specs.Rules.Form.Parsed.{fields}
 
 -- ---- the map's bits
@@ -141,16 +143,16 @@ rows-many (w ∷ ws) zs = ap suc (rows-many ws (drop 1 zs))
 
 -- what is packed by a map that fits is unpacked: the map, and the fields as they lay
 pub saved-back : (ws : List ℕ) (zs : List Bool) (m : ℕ) (full to : List ℕ) → length ws ≤ most_rows → sum ws ≤ length full → sum ws ≤ length to
-    → Fits (rows_of ws zs) m (cut ws full) → unpack_into ws zs (packed m (cut ws full)) to ≡ read true m (take (sum ws) full ++ drop (sum ws) to)
+    → Fits (rows_of ws zs) m (cut ws full) → unpack_into (rows_of ws zs) (packed m (cut ws full)) to ≡ read (Some m) (take (sum ws) full ++ drop (sum ws) to)
 unfolding unpack_into
 saved-back ws zs m full to few h room k =
     let fs = cut ws full in
     let f : length (rows_of ws zs) ≤ most_rows = omega (arith, few, rows-many ws zs) in
     let n : length (take (sum ws) full) ≡ sum ws = length-take-le (sum ws) full h in
-    ap (λ (b : Bool). cond b (read_fields (parsed (rows_of ws zs) (packed m fs)) (map_in (packed m fs)) to) (read false 0 to)) (le-leb (sum ws) (length to) room)
+    ap (λ (b : Bool). cond b (read_fields (parsed (rows_of ws zs) (packed m fs)) (map_in (packed m fs)) to) (read None to)) (ap (λ (l : List ℕ). leb (sum l) (length to)) (widths-of ws zs) ∙ le-leb (sum ws) (length to) room)
     ∙ ap₂ (λ (p : Parsed) (j : ℕ). read_fields p j to) (form-back (rows_of ws zs) m fs f k) (map_back (rows_of ws zs) m fs f k)
-    ∙ ap (λ (l : List ℕ). read true m (l ++ drop (length l) to)) (joined-cut ws full)
-    ∙ ap (λ (j : ℕ). read true m (take (sum ws) full ++ drop j to)) n
+    ∙ ap (λ (l : List ℕ). read (Some m) (l ++ drop (length l) to)) (joined-cut ws full)
+    ∙ ap (λ (j : ℕ). read (Some m) (take (sum ws) full ++ drop j to)) n
 
 -- a saved form is the one that its map and fields have: no other bytes are read
 first-bytes : (n : ℕ) (bs : List ℕ) → Bytes bs → Bytes (take n bs)

@@ -1,34 +1,22 @@
 -- Reading a saved form row by row. Assumes nothing.
-use Prim.Native.Nat.{ℕ, zero, suc, ◌+◌, ◌-◌, ◌/◌, ◌≤◌, ◌<◌}
+use Prim.Native.Nat.{ℕ, ◌+◌, ◌-◌, ◌/◌, ◌≤◌, ◌<◌}
 use mathlib.Core.Path.{◌≡◌, refl, sym, ap, ap₂, ◌∙◌, subst}
 use mathlib.Core.Bool.{Bool, true, false, cond, not, ◌&&◌, ◌||◌, true≢false}
 use mathlib.Core.List.{List, [], ◌∷◌, ◌++◌}
 use native.Mathlib.Omega.{arith}
-use lib.ListN.{length, get_or, take, drop, replicate, length-append, length-drop, length-replicate, drop_of_length-le}
-use lib.Seq.{drop-drop, get_or-drop, length-take-le, take_all}
+use lib.ListN.{length, take, drop, replicate, length-append, length-drop, length-replicate}
+use lib.Seq.{length-take-le, take_all}
 use lib.Dec.{leb, eqb}
-use borrow.Author.Tests.{le-leb, lt-leb, leb-true, lt-ltb, le-ltb, eq-eqb, ne_eqb}
+use borrow.Author.Tests.{le-leb, lt-leb, leb-true, lt-ltb, le-ltb}
+use Rattle.std.proofs.Common.{Option, Some, None}
 use Rattle.form.proofs.Filling.{Filling, part-on, part_length}
-use Rattle.form.proofs.TableLaws.{row_at, sum-at}
 use Rattle.form.specs.Rules.Bytes.{all_zero}
-use Rattle.form.specs.Rules.Form.{Row, rows_of, sum, joined, odd, may_stand, Parsed, before, parse, map_in, parsed, read, read_fields, unpack_into}
+use Rattle.form.specs.declared.table.Row.{Row}
+use Rattle.form.specs.Rules.Form.{widths, sum, joined, odd, may_stand, Parsed, before, parse, map_in, parsed, Read, read, read_fields, unpack_into}
 use Rattle.form.specs.Rules.Form.Parsed.{fields, broken}
-use Rattle.form.specs.Steps.Form.{row_of, field_step, whole, standing_sum, fields_in}
-use Rattle.form.specs.declared.unpack.Step.{Step}
+use Rattle.form.specs.Steps.Form.{field_step, whole, standing_sum, fields_in}
 
--- ---- whether a field may stand
-pub stand-short : (w : ℕ) (z : Bool) (bs : List ℕ) → length bs < w → false ≡ may_stand (row_of w z) bs
-unfolding may_stand
-stand-short w z bs h = sym (ap (λ (b : Bool). b && (z || not (all_zero (take w bs)))) (lt-leb w (length bs) h))
-
-pub stand-zeros : (w : ℕ) (z : Bool) (bs : List ℕ) → w ≤ length bs → z ≡ true → true ≡ may_stand (row_of w z) bs
-unfolding may_stand
-stand-zeros w z bs h e = sym (ap₂ (λ (a b : Bool). a && (b || not (all_zero (take w bs)))) (le-leb w (length bs) h) e)
-
-pub stand-full : (w : ℕ) (z b : Bool) (bs : List ℕ) → w ≤ length bs → z ≡ false → b ≡ all_zero (take w bs) → not b ≡ may_stand (row_of w z) bs
-unfolding may_stand
-stand-full w z b bs h e q = ap not q ∙ sym (ap₂ (λ (a d : Bool). a && (d || not (all_zero (take w bs)))) (le-leb w (length bs) h) e)
-
+-- ---- the bytes after a field that stands or not
 and_left : (a b : Bool) → (a && b) ≡ true → a ≡ true
 and_left true b e = refl
 and_left false b e = e
@@ -37,140 +25,61 @@ pub stand-within : (r : Row) (bs : List ℕ) → may_stand r bs ≡ true → r.b
 unfolding may_stand
 stand-within r bs e = leb-true _ _ (and_left _ _ e)
 
--- ---- one row
-abbrev stepped : Bool → ℕ → Step
-stepped b n = record { ok = b; at = n }
+module _ (on : Bool) (r : Row) (bs : List ℕ) where
+  abbrev stepped : Bool → Bool → Option (List ℕ)
+  stepped a b = cond a (cond b (Some (drop r.bytes bs)) None) (Some bs)
 
-pub step-taken : (on : Bool) (r : Row) (at : ℕ) (bs : List ℕ) → on ≡ true → may_stand r bs ≡ true → stepped true (at + r.bytes) ≡ field_step on r at bs
-unfolding field_step
-step-taken on r at bs e h = sym (ap₂ (λ (a b : Bool). cond a (cond b (stepped true (at + r.bytes)) (stepped false at)) (stepped true at)) e h)
+  pub step_left : on ≡ false → field_step on r bs ≡ Some bs
+  unfolding field_step
+  step_left e = ap (λ (a : Bool). stepped a (may_stand r bs)) e
 
-pub step-bad : (on : Bool) (r : Row) (at : ℕ) (bs : List ℕ) → on ≡ true → may_stand r bs ≡ false → stepped false at ≡ field_step on r at bs
-unfolding field_step
-step-bad on r at bs e h = sym (ap₂ (λ (a b : Bool). cond a (cond b (stepped true (at + r.bytes)) (stepped false at)) (stepped true at)) e h)
+  pub step-short : on ≡ true → length bs < r.bytes → field_step on r bs ≡ None
+  unfolding field_step may_stand
+  step-short e h = ap₂ (λ (a b : Bool). stepped a (b && (r.zeros || not (all_zero (take r.bytes bs))))) e (lt-leb r.bytes (length bs) h)
 
-pub step_left : (on : Bool) (r : Row) (at : ℕ) (bs : List ℕ) → on ≡ false → stepped true at ≡ field_step on r at bs
-unfolding field_step
-step_left on r at bs e = sym (ap (λ (a : Bool). cond a (cond (may_stand r bs) (stepped true (at + r.bytes)) (stepped false at)) (stepped true at)) e)
+  pub step-tested : (v : Bool) → on ≡ true → r.bytes ≤ length bs → v ≡ (r.zeros || not (all_zero (take r.bytes bs))) → field_step on r bs ≡ cond v (Some (drop r.bytes bs)) None
+  unfolding field_step may_stand
+  step-tested v e h q = ap₂ (λ (a b : Bool). stepped a (b && (r.zeros || not (all_zero (take r.bytes bs))))) e (le-leb r.bytes (length bs) h) ∙ sym (ap (stepped true) q)
 
--- ---- the rows from one on
-rows_at : (ws : List ℕ) (zs : List Bool) (k : ℕ) → k < length ws
-    → rows_of (drop k ws) (drop k zs) ≡ row_of (get_or ws k 0) (get_or zs k false) ∷ rows_of (drop (k + 1) ws) (drop (k + 1) zs)
-unfolding rows_of
-rows_at ws zs k h =
-    let n : k + 0 ≡ k = omega arith in
-    ap (λ (l : List ℕ). rows_of l (drop k zs)) (row_at ws k h)
-    ∙ ap₂ (λ (z : Bool) (l : List Bool). row_of (get_or ws k 0) z ∷ rows_of (drop (k + 1) ws) l) (get_or-drop k zs 0 false ∙ ap (λ (j : ℕ). get_or zs j false) n) (drop-drop 1 k zs)
-
+-- ---- one row of a form
 whole_before : (f : List ℕ) (p : Parsed) → whole (before f p) ≡ whole p
 whole_before f (fields fs) = refl
 whole_before f broken = refl
 
 -- what the rest of the rows makes of it
-on-from : (on may : Bool) (f g : List ℕ) (p q : Parsed) → cond on (cond may true false) true ≡ true → whole (cond on (cond may (before f p) broken) (before g q)) ≡ whole (cond on p q)
-on-from true true f g p q e = whole_before f p
-on-from true false f g p q e = absurd (true≢false (sym e))
-on-from false may f g p q e = whole_before g q
+on-from : (on may : Bool) (f g x y cs : List ℕ) (rs : List Row) (m : ℕ) → cond on (cond may (Some x) None) (Some y) ≡ Some cs
+    → whole (cond on (cond may (before f (parse rs m x)) broken) (before g (parse rs m y))) ≡ whole (parse rs m cs)
+on-from true true f g x y cs rs m e = whole_before f (parse rs m x) ∙ ap (λ (z : List ℕ). whole (parse rs m z)) (cc)
+on-from true false f g x y cs rs m e = cc
+on-from false may f g x y cs rs m e = whole_before g (parse rs m y) ∙ ap (λ (z : List ℕ). whole (parse rs m z)) (cc)
 
-off-from : (on may : Bool) (f g : List ℕ) (p q : Parsed) → cond on (cond may true false) true ≡ false → whole (cond on (cond may (before f p) broken) (before g q)) ≡ false
-off-from true true f g p q e = absurd (true≢false e)
-off-from true false f g p q e = refl
-off-from false may f g p q e = absurd (true≢false e)
+off-from : (on may : Bool) (f g x y : List ℕ) (p q : Parsed) → cond on (cond may (Some x) None) (Some y) ≡ None → whole (cond on (cond may (before f p) broken) (before g q)) ≡ false
+off-from true true f g x y p q e = cc
+off-from true false f g x y p q e = refl
+off-from false may f g x y p q e = cc
 
-ok-is : (on may : Bool) (n at : ℕ) → (cond on (cond may (stepped true n) (stepped false at)) (stepped true at)).ok ≡ cond on (cond may true false) true
-ok-is true true n at = refl
-ok-is true false n at = refl
-ok-is false may n at = refl
-
-rest-is : (on may : Bool) (rs : List Row) (m w at : ℕ) (bytes : List ℕ) → cond on (cond may true false) true ≡ true
-    → cond on (parse rs m (drop w (drop at bytes))) (parse rs m (drop at bytes)) ≡ parse rs m (drop (cond on (cond may (stepped true (at + w)) (stepped false at)) (stepped true at)).at bytes)
-rest-is true true rs m w at bytes e = ap (parse rs m) (drop-drop w at bytes)
-rest-is true false rs m w at bytes e = absurd (true≢false (sym e))
-rest-is false may rs m w at bytes e = refl
-
-at_small : (on may : Bool) (w at n : ℕ) → at ≤ n → (may ≡ true → w ≤ n - at) → (cond on (cond may (stepped true (at + w)) (stepped false at)) (stepped true at)).at ≤ n
-at_small true true w at n h g = omega (arith, h, g refl)
-at_small true false w at n h g = h
-at_small false may w at n h g = h
-
-module _ (ws : List ℕ) (zs : List Bool) (bytes : List ℕ) (k rest at : ℕ) (z : Bool) (s : Step) (h : k < length ws) (b : at ≤ length bytes)
-    (e : s ≡ field_step (odd rest) (row_of (get_or ws k 0) z) at (drop at bytes)) (m : z ≡ get_or zs k false) where
-  abbrev row : Row
-  row = row_of (get_or ws k 0) (get_or zs k false)
-
-  own : s ≡ field_step (odd rest) row at (drop at bytes)
-  own = e ∙ ap (λ (y : Bool). field_step (odd rest) (row_of (get_or ws k 0) y) at (drop at bytes)) m
-
-  good : s.ok ≡ cond (odd rest) (cond (may_stand row (drop at bytes)) true false) true
-  unfolding field_step
-  good = ap (λ (t : Step). t.ok) own ∙ ok-is (odd rest) (may_stand row (drop at bytes)) _ at
-
-  pub on-within : s.at ≤ length bytes
-  unfolding field_step
-  on-within =
-      subst (λ (t : Step). t.at ≤ length bytes) (sym own)
-      (at_small (odd rest) (may_stand row (drop at bytes)) (get_or ws k 0) at (length bytes) b (λ t. omega (arith, stand-within row (drop at bytes) t, length-drop at bytes)))
-
-  pub form-on : s.ok ≡ true → whole (parse (rows_of (drop k ws) (drop k zs)) rest (drop at bytes))
-      ≡ whole (parse (rows_of (drop (k + 1) ws) (drop (k + 1) zs)) (rest / 2) (drop s.at bytes))
+module _ (rows rs : List Row) (r : Row) (m : ℕ) (bs : List ℕ) (e : rows ≡ r ∷ rs) where
+  pub form-on : (cs : List ℕ) → field_step (odd m) r bs ≡ Some cs → whole (parse rows m bs) ≡ whole (parse rs (m / 2) cs)
   unfolding parse field_step
-  form-on t =
-      let g = sym good ∙ t in
-      ap (λ (rs : List Row). whole (parse rs rest (drop at bytes))) (rows_at ws zs k h)
-      ∙ on-from (odd rest) (may_stand row (drop at bytes)) _ _ _ _ g
-      ∙ ap whole (rest-is (odd rest) (may_stand row (drop at bytes)) (rows_of (drop (k + 1) ws) (drop (k + 1) zs)) (rest / 2) (get_or ws k 0) at bytes g)
-      ∙ ap (λ (n : ℕ). whole (parse (rows_of (drop (k + 1) ws) (drop (k + 1) zs)) (rest / 2) (drop n bytes))) (sym (ap (λ (t : Step). t.at) own))
+  form-on cs h = ap (λ (l : List Row). whole (parse l m bs)) e ∙ on-from (odd m) (may_stand r bs) (take r.bytes bs) (replicate r.bytes 0) (drop r.bytes bs) bs cs rs (m / 2) h
 
-  pub form-off : s.ok ≡ false → whole (parse (rows_of (drop k ws) (drop k zs)) rest (drop at bytes)) ≡ false
-  unfolding parse
-  form-off t =
-      ap (λ (rs : List Row). whole (parse rs rest (drop at bytes))) (rows_at ws zs k h)
-      ∙ off-from (odd rest) (may_stand row (drop at bytes)) (take (get_or ws k 0) (drop at bytes)) (replicate (get_or ws k 0) 0)
-      (parse (rows_of (drop (k + 1) ws) (drop (k + 1) zs)) (rest / 2) (drop (get_or ws k 0) (drop at bytes))) (parse (rows_of (drop (k + 1) ws) (drop (k + 1) zs)) (rest / 2) (drop at bytes))
-      (sym good ∙ t)
+  pub form-off : field_step (odd m) r bs ≡ None → whole (parse rows m bs) ≡ false
+  unfolding parse field_step
+  form-off h = ap (λ (l : List Row). whole (parse l m bs)) e ∙ off-from (odd m) (may_stand r bs) (take r.bytes bs) (replicate r.bytes 0) (drop r.bytes bs) bs _ _ h
 
 -- ---- after the last row
 whole-cond : (b : Bool) → whole (cond b (fields []) broken) ≡ b
 whole-cond true = refl
 whole-cond false = refl
 
-end-met : (at n : ℕ) → at ≤ n → eqb (n - at) 0 ≡ eqb at n
-end-met at n h = go (n - at) refl
-  where
-    go : (d : ℕ) → n - at ≡ d → eqb (n - at) 0 ≡ eqb at n
-    go zero e = eq-eqb (n - at) 0 e ∙ sym (eq-eqb at n (omega (arith, h, e)))
-    go (suc d) e = ne_eqb (n - at) 0 (λ q. omega (arith, q, e)) ∙ sym (ne_eqb at n (λ q. omega (arith, q, e)))
-
-pub form-end : (ws : List ℕ) (zs : List Bool) (bytes : List ℕ) (k rest at : ℕ) → length ws ≤ k → at ≤ length bytes
-    → whole (parse (rows_of (drop k ws) (drop k zs)) rest (drop at bytes)) ≡ (eqb rest 0 && eqb at (length bytes))
-unfolding parse rows_of
-form-end ws zs bytes k rest at h b =
-    ap (λ (l : List ℕ). whole (parse (rows_of l (drop k zs)) rest (drop at bytes))) (drop_of_length-le ws h)
-    ∙ whole-cond _
-    ∙ ap (λ (z : Bool). eqb rest 0 && z) (ap (λ (n : ℕ). eqb n 0) (length-drop at bytes) ∙ end-met at (length bytes) b)
+pub form-end : (rows : List Row) (m : ℕ) (bs : List ℕ) → rows ≡ [] → whole (parse rows m bs) ≡ (eqb m 0 && eqb (length bs) 0)
+unfolding parse
+form-end rows m bs e = ap (λ (l : List Row). whole (parse l m bs)) e ∙ whole-cond _
 
 -- ---- the fields one after another
-sum_more : (b : Bool) (w : ℕ) (bs : List ℕ) (at : ℕ) → cond b (drop w (drop at bs)) (drop at bs) ≡ drop (at + cond b w 0) bs
-sum_more true w bs at = drop-drop w at bs
-sum_more false w bs at = let e : at ≡ at + 0 = omega arith in ap (λ (n : ℕ). drop n bs) e
-
-module _ (ws bytes : List ℕ) (k rest at : ℕ) (h : k < length ws) where
-  pub fields-more : joined (fields_in (drop k ws) rest (drop at bytes))
-      ≡ cond (odd rest) (take (get_or ws k 0) (drop at bytes)) (replicate (get_or ws k 0) 0)
-      ++ joined (fields_in (drop (k + 1) ws) (rest / 2) (drop (at + cond (odd rest) (get_or ws k 0) 0) bytes))
-  unfolding joined fields_in
-  fields-more =
-      let w = get_or ws k 0 in
-      ap (λ (l : List ℕ). joined (fields_in l rest (drop at bytes))) (row_at ws k h)
-      ∙ ap (λ (l : List ℕ). cond (odd rest) (take w (drop at bytes)) (replicate w 0) ++ joined (fields_in (drop (k + 1) ws) (rest / 2) l)) (sum_more (odd rest) w bytes at)
-
-  pub needs-more : standing_sum (drop k ws) rest ≡ cond (odd rest) (get_or ws k 0) 0 + standing_sum (drop (k + 1) ws) (rest / 2)
-  unfolding standing_sum
-  needs-more = ap (λ (l : List ℕ). standing_sum l rest) (row_at ws k h)
-
-pub fields-none : (ws bs : List ℕ) (k rest : ℕ) → length ws ≤ k → joined (fields_in (drop k ws) rest bs) ≡ []
+pub fields-none : (rows : List Row) (m : ℕ) (bs : List ℕ) → rows ≡ [] → joined (fields_in (widths rows) m bs) ≡ []
 unfolding joined fields_in
-fields-none ws bs k rest h = ap (λ (l : List ℕ). joined (fields_in l rest bs)) (drop_of_length-le ws h)
+fields-none rows m bs e = ap (λ (l : List Row). joined (fields_in (widths l) m bs)) e
 
 pub field-length : (b : Bool) (w : ℕ) (bs : List ℕ) → cond b w 0 ≤ length bs → length (cond b (take w bs) (replicate w 0)) ≡ w
 field-length true w bs h = length-take-le w bs h
@@ -205,16 +114,15 @@ enough-first : (on may : Bool) (w n : ℕ) (bs : List ℕ) → (on ≡ true → 
 enough-first true may w n bs m h g k = omega (arith, h (m refl), g refl, length-drop w bs)
 enough-first false may w n bs m h g k = omega (arith, k refl)
 
-pub form-enough : (ws : List ℕ) (zs : List Bool) (m : ℕ) (bs : List ℕ) → whole (parse (rows_of ws zs) m bs) ≡ true → standing_sum ws m ≤ length bs
-unfolding parse rows_of standing_sum
-form-enough [] zs m bs e = omega arith
-form-enough (w ∷ ws) zs m bs e =
-    let r = row_of w (get_or zs 0 false) in
-    let rs = rows_of ws (drop 1 zs) in
+pub form-enough : (rows : List Row) (m : ℕ) (bs : List ℕ) → whole (parse rows m bs) ≡ true → standing_sum (widths rows) m ≤ length bs
+unfolding parse standing_sum
+form-enough [] m bs e = omega arith
+form-enough (r ∷ rs) m bs e =
+    let w = r.bytes in
     let t = whole-taken (odd m) (may_stand r bs) (take w bs) (replicate w 0) (parse rs (m / 2) (drop w bs)) (parse rs (m / 2) bs) e in
-    enough-first (odd m) (may_stand r bs) w (standing_sum ws (m / 2)) bs t.0 (stand-within r bs)
-    (λ o. form-enough ws (drop 1 zs) (m / 2) (drop w bs) (sym (ap (λ (b : Bool). whole (cond b (parse rs (m / 2) (drop w bs)) (parse rs (m / 2) bs))) o) ∙ t.1))
-    (λ o. form-enough ws (drop 1 zs) (m / 2) bs (sym (ap (λ (b : Bool). whole (cond b (parse rs (m / 2) (drop w bs)) (parse rs (m / 2) bs))) o) ∙ t.1))
+    enough-first (odd m) (may_stand r bs) w (standing_sum (widths rs) (m / 2)) bs t.0 (stand-within r bs)
+    (λ o. form-enough rs (m / 2) (drop w bs) (sym (ap (λ (b : Bool). whole (cond b (parse rs (m / 2) (drop w bs)) (parse rs (m / 2) bs))) o) ∙ t.1))
+    (λ o. form-enough rs (m / 2) bs (sym (ap (λ (b : Bool). whole (cond b (parse rs (m / 2) (drop w bs)) (parse rs (m / 2) bs))) o) ∙ t.1))
 
 fields-first : (on may : Bool) (f g : List ℕ) (p q : Parsed) (fs gs : List (List ℕ)) → (on ≡ true → may ≡ true) → (on ≡ true → p ≡ fields fs) → (on ≡ false → q ≡ fields gs)
     → cond on (cond may (before f p) broken) (before g q) ≡ fields (cond on f g ∷ cond on fs gs)
@@ -226,54 +134,64 @@ cond-fields : (b : Bool) (ws : List ℕ) (m : ℕ) (p q : List ℕ) → cond b (
 cond-fields true ws m p q = refl
 cond-fields false ws m p q = refl
 
-pub form-fields : (ws : List ℕ) (zs : List Bool) (m : ℕ) (bs : List ℕ) → whole (parse (rows_of ws zs) m bs) ≡ true → parse (rows_of ws zs) m bs ≡ fields (fields_in ws m bs)
-unfolding parse rows_of fields_in
-form-fields [] zs m bs e = none (eqb m 0 && eqb (length bs) 0) e
+pub form-fields : (rows : List Row) (m : ℕ) (bs : List ℕ) → whole (parse rows m bs) ≡ true → parse rows m bs ≡ fields (fields_in (widths rows) m bs)
+unfolding parse fields_in
+form-fields [] m bs e = none (eqb m 0 && eqb (length bs) 0) e
   where
     none : (b : Bool) → whole (cond b (fields []) broken) ≡ true → cond b (fields []) broken ≡ fields []
     none true e = refl
     none false e = absurd (true≢false (sym e))
-form-fields (w ∷ ws) zs m bs e =
-    let r = row_of w (get_or zs 0 false) in
-    let rs = rows_of ws (drop 1 zs) in
+form-fields (r ∷ rs) m bs e =
+    let w = r.bytes in
+    let ws = widths rs in
     let t = whole-taken (odd m) (may_stand r bs) (take w bs) (replicate w 0) (parse rs (m / 2) (drop w bs)) (parse rs (m / 2) bs) e in
     fields-first (odd m) (may_stand r bs) (take w bs) (replicate w 0) (parse rs (m / 2) (drop w bs)) (parse rs (m / 2) bs) (fields_in ws (m / 2) (drop w bs)) (fields_in ws (m / 2) bs) t.0
-    (λ o. form-fields ws (drop 1 zs) (m / 2) (drop w bs) (sym (ap (λ (b : Bool). whole (cond b (parse rs (m / 2) (drop w bs)) (parse rs (m / 2) bs))) o) ∙ t.1))
-    (λ o. form-fields ws (drop 1 zs) (m / 2) bs (sym (ap (λ (b : Bool). whole (cond b (parse rs (m / 2) (drop w bs)) (parse rs (m / 2) bs))) o) ∙ t.1))
+    (λ o. form-fields rs (m / 2) (drop w bs) (sym (ap (λ (b : Bool). whole (cond b (parse rs (m / 2) (drop w bs)) (parse rs (m / 2) bs))) o) ∙ t.1))
+    (λ o. form-fields rs (m / 2) bs (sym (ap (λ (b : Bool). whole (cond b (parse rs (m / 2) (drop w bs)) (parse rs (m / 2) bs))) o) ∙ t.1))
     ∙ ap (λ (fs : List (List ℕ)). fields (cond (odd m) (take w bs) (replicate w 0) ∷ fs)) (cond-fields (odd m) ws (m / 2) (drop w bs) bs)
 
 -- one field more goes to its place
-module _ (ws bytes full full₀ all p : List ℕ) (k rest at from r : ℕ) (t : k < length ws) (enough : at + standing_sum (drop k ws) rest ≤ length bytes)
-    (room : from + sum (drop k ws) ≤ length full₀) (f : Filling full full₀ all from (joined (fields_in (drop k ws) rest (drop at bytes)))) where
+module _ (rows rs : List Row) (r : Row) (full full₀ all left : List ℕ) (m from : ℕ) (e : rows ≡ r ∷ rs) (enough : standing_sum (widths rows) m ≤ length left)
+    (room : from + sum (widths rows) ≤ length full₀) (f : Filling full full₀ all from (joined (fields_in (widths rows) m left))) where
+  abbrev w : ℕ
+  w = r.bytes
+
   abbrev part : List ℕ
-  part = take (from + get_or ws k 0 - from) (drop from full)
+  part = take (from + w - from) (drop from full)
 
-  pub spread-room : from + get_or ws k 0 ≤ length full
-  spread-room = omega (arith, room, sum-at ws k t, f.same)
+  all-room : from + (w + sum (widths rs)) ≤ length full₀
+  unfolding sum
+  all-room = subst (λ (l : List Row). from + sum (widths l) ≤ length full₀) e room
 
-  own-length : length part ≡ get_or ws k 0
-  own-length = part_length full from (get_or ws k 0) spread-room
+  pub spread-room : from + w ≤ length full
+  spread-room = omega (arith, all-room, f.same)
 
-  pub spread-enough : at + cond (odd rest) (length part) 0 ≤ length bytes
-  spread-enough = omega (arith, enough, needs-more ws bytes k rest at t, ap (λ (n : ℕ). cond (odd rest) n 0) own-length)
+  own-length : length part ≡ w
+  own-length = part_length full from w spread-room
 
-  module _ (q : r ≡ at + cond (odd rest) (length part) 0) (e : p ≡ cond (odd rest) (take (length part) (drop at bytes)) (replicate (length part) 0)) where
-    next-at : r ≡ at + cond (odd rest) (get_or ws k 0) 0
-    next-at = q ∙ ap (λ (n : ℕ). at + cond (odd rest) n 0) own-length
+  needs : cond (odd m) w 0 + standing_sum (widths rs) (m / 2) ≤ length left
+  unfolding standing_sum
+  needs = subst (λ (l : List Row). standing_sum (widths l) m ≤ length left) e enough
 
-    pub spread-more : (r + standing_sum (drop (k + 1) ws) (rest / 2) ≤ length bytes) × (from + get_or ws k 0 + sum (drop (k + 1) ws) ≤ length full₀)
-        × Filling (take from full ++ (p ++ drop (from + get_or ws k 0 - from) (drop from full))) full₀ all (from + get_or ws k 0)
-        (joined (fields_in (drop (k + 1) ws) (rest / 2) (drop r bytes)))
+  pub spread-enough : cond (odd m) (length part) 0 ≤ length left
+  spread-enough = omega (arith, needs, ap (λ (n : ℕ). cond (odd m) n 0) own-length)
+
+  module _ (after p : List ℕ) (q : after ≡ cond (odd m) (drop (length part) left) left) (h : p ≡ cond (odd m) (take (length part) left) (replicate (length part) 0)) where
+    after-is : after ≡ cond (odd m) (drop w left) left
+    after-is = q ∙ ap (λ (n : ℕ). cond (odd m) (drop n left) left) own-length
+
+    pub spread-more : (standing_sum (widths rs) (m / 2) ≤ length after) × (from + w + sum (widths rs) ≤ length full₀)
+        × Filling (take from full ++ (p ++ drop (from + w - from) (drop from full))) full₀ all (from + w) (joined (fields_in (widths rs) (m / 2) after))
+    unfolding joined fields_in
     spread-more =
-        let w = get_or ws k 0 in
-        let a = cond (odd rest) (take w (drop at bytes)) (replicate w 0) in
-        let g : cond (odd rest) w 0 ≤ length (drop at bytes) = omega (arith, enough, needs-more ws bytes k rest at t, length-drop at bytes) in
-        let n : from + length a ≡ from + w = ap (λ (j : ℕ). from + j) (field-length (odd rest) w (drop at bytes) g) in (
-          omega (arith, enough, needs-more ws bytes k rest at t, next-at),
-          omega (arith, room, sum-at ws k t),
-          part-on p a (joined (fields_in (drop (k + 1) ws) (rest / 2) (drop r bytes))) (from + w) (from + w) f
-              (fields-more ws bytes k rest at t ∙ ap (λ (j : ℕ). a ++ joined (fields_in (drop (k + 1) ws) (rest / 2) (drop j bytes))) (sym next-at))
-              (e ∙ ap (λ (j : ℕ). cond (odd rest) (take j (drop at bytes)) (replicate j 0)) own-length) n spread-room refl,
+        let a = cond (odd m) (take w left) (replicate w 0) in
+        let g : cond (odd m) w 0 ≤ length left = omega (arith, needs) in
+        let n : from + length a ≡ from + w = ap (λ (j : ℕ). from + j) (field-length (odd m) w left g) in (
+          subst (λ (l : List ℕ). standing_sum (widths rs) (m / 2) ≤ length l) (sym after-is) (rest-long (odd m) w _ left needs),
+          omega (arith, all-room),
+          part-on p a (joined (fields_in (widths rs) (m / 2) after)) (from + w) (from + w) f
+              (ap (λ (l : List Row). joined (fields_in (widths l) m left)) e ∙ ap (λ (l : List ℕ). a ++ joined (fields_in (widths rs) (m / 2) l)) (sym after-is))
+              (h ∙ ap (λ (j : ℕ). cond (odd m) (take j left) (replicate j 0)) own-length) n spread-room refl,
         )
 
 -- ---- the whole form
@@ -293,37 +211,36 @@ either : {A : Type 0} (b : Bool) (x : A) → x ≡ cond b x x
 either true x = refl
 either false x = refl
 
-module _ (ws : List ℕ) (zs : List Bool) (bs full : List ℕ) where
-  pub unpack-broken : (ok : Bool) (m : ℕ) → ok ≡ false → m ≡ 0 → parsed (rows_of ws zs) bs ≡ broken → read ok m full ≡ unpack_into ws zs bs full
-  unfolding unpack_into
-  unpack-broken ok m e n h =
-      ap₂ (λ (b : Bool) (k : ℕ). read b k full) e n
-      ∙ either (leb (sum ws) (length full)) (read false 0 full)
-      ∙ ap (λ (p : Parsed). cond (leb (sum ws) (length full)) (read_fields p (map_in bs) full) (read false 0 full)) (sym h)
+module _ (rows : List Row) (bs full : List ℕ) where
+  abbrev into : Bool → Parsed → Read
+  into b p = cond b (read_fields p (map_in bs) full) (read None full)
 
-  pub unpack-short : (ok : Bool) (m : ℕ) → ok ≡ false → m ≡ 0 → leb (sum ws) (length full) ≡ false → read ok m full ≡ unpack_into ws zs bs full
+  pub unpack-broken : parsed rows bs ≡ broken → read None full ≡ unpack_into rows bs full
   unfolding unpack_into
-  unpack-short ok m e n h =
-      ap₂ (λ (b : Bool) (k : ℕ). read b k full) e n
-      ∙ sym (ap (λ (b : Bool). cond b (read_fields (parsed (rows_of ws zs) bs) (map_in bs) full) (read false 0 full)) h)
+  unpack-broken h = either (leb (sum (widths rows)) (length full)) (read None full) ∙ ap (into (leb (sum (widths rows)) (length full))) (sym h)
 
-  pub unpack-whole : (m : ℕ) (full' : List ℕ) → m ≡ map_in bs → leb (sum ws) (length full) ≡ true → 2 ≤ length bs → whole (parse (rows_of ws zs) m (drop 2 bs)) ≡ true
-      → full' ≡ joined (fields_in ws m (drop 2 bs)) ++ drop (length (joined (fields_in ws m (drop 2 bs)))) full → read true m full' ≡ unpack_into ws zs bs full
+  pub unpack-short : leb (sum (widths rows)) (length full) ≡ false → read None full ≡ unpack_into rows bs full
+  unfolding unpack_into
+  unpack-short h = sym (ap (λ (b : Bool). into b (parsed rows bs)) h)
+
+  pub unpack-whole : (m : ℕ) (full' : List ℕ) → m ≡ map_in bs → leb (sum (widths rows)) (length full) ≡ true → 2 ≤ length bs → whole (parse rows m (drop 2 bs)) ≡ true
+      → full' ≡ joined (fields_in (widths rows) m (drop 2 bs)) ++ drop (length (joined (fields_in (widths rows) m (drop 2 bs)))) full → read (Some m) full' ≡ unpack_into rows bs full
   unfolding unpack_into
   unpack-whole m full' e r h w q =
-      ap (read true m) q
-      ∙ ap (λ (k : ℕ). read_fields (fields (fields_in ws m (drop 2 bs))) k full) e
-      ∙ ap (λ (p : Parsed). read_fields p (map_in bs) full) (sym (parsed-long (rows_of ws zs) bs h ∙ ap (λ (k : ℕ). parse (rows_of ws zs) k (drop 2 bs)) (sym e) ∙ form-fields ws zs m (drop 2 bs) w))
-      ∙ sym (ap (λ (b : Bool). cond b (read_fields (parsed (rows_of ws zs) bs) (map_in bs) full) (read false 0 full)) r)
+      ap (read (Some m)) q
+      ∙ ap (λ (k : ℕ). read_fields (fields (fields_in (widths rows) m (drop 2 bs))) k full) e
+      ∙ ap (λ (p : Parsed). read_fields p (map_in bs) full) (sym (parsed-long rows bs h ∙ ap (λ (k : ℕ). parse rows k (drop 2 bs)) (sym e) ∙ form-fields rows m (drop 2 bs) w))
+      ∙ sym (ap (λ (b : Bool). into b (parsed rows bs)) r)
+
+-- whether there is room, by what is left of it
+pub none-left : (b : Bool) (n : ℕ) → None ≡ cond b (Some n) None → b ≡ false
+none-left true n e = cc
+none-left false n e = refl
+
+pub some-left : (b : Bool) (n k : ℕ) → Some k ≡ cond b (Some n) None → b ≡ true
+some-left true n k e = refl
+some-left false n k e = cc
 
 -- the bytes after the map, as the code lends them
 pub rest-whole : (bs : List ℕ) → take (length bs - 2) (drop 2 bs) ≡ drop 2 bs
 rest-whole bs = take_all (length bs - 2) (drop 2 bs) (omega (arith, length-drop 2 bs))
-
-pub not-true : (b : Bool) → not b ≡ true → b ≡ false
-not-true true e = sym e
-not-true false e = refl
-
-pub not-false : (b : Bool) → not b ≡ false → b ≡ true
-not-false true e = refl
-not-false false e = sym e

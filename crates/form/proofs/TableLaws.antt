@@ -1,88 +1,108 @@
 -- The rows of a table one after another, over fields that lie end to end. Assumes nothing.
-use Prim.Native.Nat.{ℕ, suc, ◌+◌, ◌*◌, ◌-◌, ◌/◌, ◌^◌, ◌≤◌, ◌<◌, min}
+use Prim.Native.Nat.{ℕ, zero, suc, ◌+◌, ◌*◌, ◌-◌, ◌/◌, ◌^◌, ◌≤◌, ◌<◌, min}
 use mathlib.Core.Path.{◌≡◌, refl, sym, ap, ap₂, ◌∙◌, subst}
 use mathlib.Core.Bool.{Bool, true, false, cond, not}
 use mathlib.Core.List.{List, [], ◌∷◌, ◌++◌, append-nil}
-use native.Mathlib.Nat.{pow-suc, pow-le-pow_right, mul-add, mul_assoc}
+use native.Mathlib.Nat.{pow-suc, pow-le-pow_right, mul-le-mul_left, mul-add, mul_assoc}
 use native.Mathlib.Numerals.{add-one}
 use native.Mathlib.Omega.{arith}
-use lib.ListN.{length, get_or, take, drop, length-append, drop_of_length-le}
+use mir.Val.{bool_byte}
+use lib.ListN.{length, get_or, take, drop, length-append, take-append-drop, drop_of_length-le}
 use lib.Seq.{drop-cons, sets-eq}
 use lib.Dec.{leb}
 use borrow.Author.Tests.{le-leb, lt-leb}
 use Rattle.form.proofs.ByteLaws.{low-length, store-room}
-use Rattle.form.proofs.Filling.{Filling, begins, goes_on, ends, part-on, part-least, past-least}
+use Rattle.form.proofs.Filling.{Filling, begins, goes_on, ends, part-on, take-least, drop-least}
 use Rattle.form.specs.Rules.Bytes.{low, all_zero, Leaves, leaves, store}
-use Rattle.form.specs.Rules.Form.{sum, cut, joined, odd, bit, map_of, standing, packed, wrote, pack_into}
+use Rattle.std.proofs.Common.{Some, None, Ok, Err}
+use Rattle.form.specs.declared.table.Row.{Row}
+use Rattle.form.specs.Rules.Form.{widths, rows_of, sum, cut, joined, odd, bit, map_of, standing, packed, Wrote, wrote, pack_into}
 
-pub row_at : (ws : List ℕ) (k : ℕ) → k < length ws → drop k ws ≡ get_or ws k 0 ∷ drop (k + 1) ws
-row_at ws k h = drop-cons ws k 0 h ∙ ap (λ (j : ℕ). get_or ws k 0 ∷ drop j ws) (sym (add-one k))
-
--- ---- the bytes of all fields
-pub sum-at : (ws : List ℕ) (k : ℕ) → k < length ws → sum (drop k ws) ≡ get_or ws k 0 + sum (drop (k + 1) ws)
-unfolding sum
-sum-at ws k h = ap sum (row_at ws k h)
-
-sum-none : (ws : List ℕ) (k : ℕ) → length ws ≤ k → sum (drop k ws) ≡ 0
-unfolding sum
-sum-none ws k h = ap sum (drop_of_length-le ws h)
-
-pub no_room : (ws : List ℕ) (k left room : ℕ) → k < length ws → left + sum ws ≡ room + sum (drop k ws) → left < get_or ws k 0 → false ≡ leb (sum ws) room
-no_room ws k left room h e s = sym (lt-leb (sum ws) room (omega (arith, e, s, sum-at ws k h)))
-
-pub some-room : (ws : List ℕ) (k left room : ℕ) → length ws ≤ k → left + sum ws ≡ room + sum (drop k ws) → true ≡ leb (sum ws) room
-some-room ws k left room h e = sym (le-leb (sum ws) room (omega (arith, e, sum-none ws k h)))
-
-pub less-room : (ws : List ℕ) (k left room : ℕ) → k < length ws → left + sum ws ≡ room + sum (drop k ws) → get_or ws k 0 ≤ left
-    → (left - get_or ws k 0) + sum ws ≡ room + sum (drop (k + 1) ws)
-less-room ws k left room h e s = omega (arith, e, s, sum-at ws k h)
-
--- ---- a field, cut off where the bytes end
-module _ (ws full : List ℕ) (k from e : ℕ) (h : k < length ws) (q : e ≡ from + min (get_or ws k 0) (length full - from)) where
-  pub cut-more : cut (drop k ws) (drop from full) ≡ take (e - from) (drop from full) ∷ cut (drop (k + 1) ws) (drop e full)
+-- ---- the fields of a table, cut off where the bytes end
+module _ (r : Row) (rows rest : List Row) (full f b : List ℕ) (n : ℕ) where
+  pub cut-next : rows ≡ r ∷ rest → n ≡ min r.bytes (length full) → f ≡ take n full → b ≡ drop n full → cut (widths rows) full ≡ f ∷ cut (widths rest) b
   unfolding cut
-  cut-more =
-      ap (λ (z : List ℕ). cut z (drop from full)) (row_at ws k h)
-      ∙ ap₂ (λ (f r : List ℕ). f ∷ cut (drop (k + 1) ws) r) (sym (part-least from (get_or ws k 0) e full q)) (past-least from (get_or ws k 0) e full q)
+  cut-next e h p q =
+      ap (λ (rs : List Row). cut (widths rs) full) e
+      ∙ ap₂ (λ (g l : List ℕ). g ∷ cut (widths rest) l) (sym (p ∙ ap (λ (k : ℕ). take k full) h ∙ take-least r.bytes full)) (sym (q ∙ ap (λ (k : ℕ). drop k full) h ∙ drop-least r.bytes full))
 
-  pub map_more : map_of (cut (drop k ws) (drop from full)) ≡ bit (not (all_zero (take (e - from) (drop from full)))) + 2 * map_of (cut (drop (k + 1) ws) (drop e full))
-  unfolding map_of
-  map_more = ap map_of cut-more
-
-  pub standing-more : (m : ℕ) → standing m (cut (drop k ws) (drop from full))
-      ≡ cond (odd m) (take (e - from) (drop from full)) [] ++ standing (m / 2) (cut (drop (k + 1) ws) (drop e full))
-  unfolding standing
-  standing-more m = ap (standing m) cut-more
-
-cut-none : (ws f : List ℕ) (k : ℕ) → length ws ≤ k → cut (drop k ws) f ≡ []
+pub cut-none : (rows : List Row) (full : List ℕ) → length rows ≡ 0 → cut (widths rows) full ≡ []
 unfolding cut
-cut-none ws f k h = ap (λ (z : List ℕ). cut z f) (drop_of_length-le ws h)
+cut-none [] full e = refl
+cut-none (r ∷ rows) full e = absurd (omega (arith, e))
 
-pub map-none : (ws f : List ℕ) (k : ℕ) → length ws ≤ k → map_of (cut (drop k ws) f) ≡ 0
-unfolding map_of
-map-none ws f k h = ap map_of (cut-none ws f k h)
+-- ---- the rows from one on, and the bytes of all fields
+abbrev pub no_row : Row
+no_row = record { bytes = 0; zeros = false }
 
-pub standing-none : (ws f : List ℕ) (k m : ℕ) → length ws ≤ k → standing m (cut (drop k ws) f) ≡ []
-unfolding standing
-standing-none ws f k m h = ap (standing m) (cut-none ws f k h)
+pub row_at : (rows : List Row) (k : ℕ) → k < length rows → drop k rows ≡ get_or rows k no_row ∷ drop (k + 1) rows
+row_at rows k h = drop-cons rows k no_row h ∙ ap (λ (j : ℕ). get_or rows k no_row ∷ drop j rows) (sym (add-one k))
+
+pub sum-at : (rows : List Row) (k : ℕ) → k < length rows → sum (widths (drop k rows)) ≡ (get_or rows k no_row).bytes + sum (widths (drop (k + 1) rows))
+unfolding sum
+sum-at rows k h = ap (λ (l : List Row). sum (widths l)) (row_at rows k h)
+
+pub sum-none : (rows : List Row) (k : ℕ) → length rows ≤ k → sum (widths (drop k rows)) ≡ 0
+unfolding sum
+sum-none rows k h = ap (λ (l : List Row). sum (widths l)) (drop_of_length-le rows h)
+
+pub some-room : (n left room : ℕ) → left + n ≡ room → Some left ≡ cond (leb n room) (Some (room - n)) None
+some-room n left room e =
+    let d : left ≡ room - n = omega (arith, e) in
+    ap (λ (k : ℕ). Some k) d ∙ sym (ap (λ (b : Bool). cond b (Some (room - n)) None) (le-leb n room (omega (arith, e))))
+
+pub no_room : (n room : ℕ) → room < n → None ≡ cond (leb n room) (Some (room - n)) None
+no_room n room h = sym (ap (λ (b : Bool). cond b (Some (room - n)) None) (lt-leb n room h))
+
+-- the widths of the first rows
+widths-take : (n : ℕ) (rows : List Row) → widths (take n rows) ≡ take n (widths rows)
+widths-take zero rows = refl
+widths-take (suc n) [] = refl
+widths-take (suc n) (r ∷ rows) = ap (λ (l : List ℕ). r.bytes ∷ l) (widths-take n rows)
+
+pub first-rows : (rows : List Row) (k n : ℕ) → n ≡ min (length rows) k → widths (take n rows) ≡ take k (widths rows)
+first-rows rows k n e =
+    let m : n ≡ min k (length rows) = omega (arith, e) in
+    ap (λ (j : ℕ). widths (take j rows)) m ∙ ap widths (take-least k rows) ∙ widths-take k rows
+
+-- the widths of a table of widths and marks
+pub widths-of : (ws : List ℕ) (zs : List Bool) → widths (rows_of ws zs) ≡ ws
+unfolding rows_of
+widths-of [] zs = refl
+widths-of (w ∷ ws) zs = ap (λ (l : List ℕ). w ∷ l) (widths-of ws (drop 1 zs))
 
 -- ---- the map
 bit-small : (b : Bool) → bit b ≤ 1
 bit-small true = omega arith
 bit-small false = omega arith
 
+bit-is : (b : Bool) → bool_byte b ≡ bit b
+bit-is true = refl
+bit-is false = refl
+
+pub bit_most : (b : Bool) (x : ℕ) → x ≡ bool_byte b → x ≤ 1
+bit_most b x e = omega (arith, e, bit-is b, bit-small b)
+
+pub map-next : (fs : List (List ℕ)) (f : List ℕ) (gs : List (List ℕ)) (z : Bool) (x : ℕ) → fs ≡ f ∷ gs → z ≡ all_zero f → x ≡ bool_byte (not z) → map_of fs ≡ x + 2 * map_of gs
+unfolding map_of
+map-next fs f gs z x e h q = ap map_of e ∙ ap (λ (b : Bool). bit (not b) + 2 * map_of gs) (sym h) ∙ ap (λ (k : ℕ). k + 2 * map_of gs) (sym (q ∙ bit-is (not z)))
+
+pub map-none : (fs : List (List ℕ)) → fs ≡ [] → map_of fs ≡ 0
+unfolding map_of
+map-none fs e = ap map_of e
+
 pub map_below : (fs : List (List ℕ)) → map_of fs < 2 ^ length fs
 unfolding map_of
 map_below [] = omega arith
 map_below (f ∷ fs) = omega (arith, bit-small (not (all_zero f)), map_below fs, pow-suc 2 (length fs))
 
-cut-many : (ws full : List ℕ) → length (cut ws full) ≡ length ws
+pub cut-many : (rows : List Row) (full : List ℕ) → length (cut (widths rows) full) ≡ length rows
 unfolding cut
 cut-many [] full = refl
-cut-many (w ∷ ws) full = ap suc (cut-many ws (drop w full))
+cut-many (r ∷ rows) full = ap suc (cut-many rows (drop r.bytes full))
 
-pub map-small : (ws full : List ℕ) → map_of (cut ws full) < 2 ^ length ws
-map-small ws full = subst (λ (k : ℕ). map_of (cut ws full) < 2 ^ k) (cut-many ws full) (map_below (cut ws full))
+pub map-small : (rows : List Row) (full : List ℕ) → map_of (cut (widths rows) full) < 2 ^ length rows
+map-small rows full = subst (λ (k : ℕ). map_of (cut (widths rows) full) < 2 ^ k) (cut-many rows full) (map_below (cut (widths rows) full))
 
 -- what was gathered, with one field more
 pub gathered : (all m v s r r' : ℕ) → all ≡ m + v * r → r ≡ s + 2 * r' → all ≡ m + v * s + v * 2 * r'
@@ -101,9 +121,8 @@ gathered-all all m v r e g = sym (e ∙ ap (λ (z : ℕ). m + v * z) g ∙ none 
     none : (m v : ℕ) → m + v * 0 ≡ m
     none m v = omega arith
 
-pub value-small : (v : ℕ) (b : Bool) → v * bit b ≤ v
-value-small v true = omega arith
-value-small v false = omega arith
+pub value-small : (v x : ℕ) → x ≤ 1 → v * x ≤ v
+value-small v x h = omega (arith, mul-le-mul_left {m = x} {n = 1} v h)
 
 pub power_small : (k : ℕ) → k ≤ 16 → 2 ^ k ≤ 2 ^ 16
 power_small k h = pow-le-pow_right {n = 2} (omega arith) h
@@ -111,24 +130,10 @@ power_small k h = pow-le-pow_right {n = 2} (omega arith) h
 pub power-more : (v k : ℕ) → v ≡ 2 ^ k → v * 2 ≡ 2 ^ (k + 1)
 power-more v k e = ap (λ (z : ℕ). z * 2) e ∙ sym (ap (λ (z : ℕ). 2 ^ z) (add-one k) ∙ pow-suc 2 k)
 
-pub bit-off : (v : ℕ) {z : Bool} → z ≡ true → 0 ≡ v * bit (not z)
-bit-off v {z} e = let n : 0 ≡ v * 0 = omega arith in n ∙ ap (λ (b : Bool). v * bit (not b)) (sym e)
-
-pub bit-on : (v : ℕ) {z : Bool} → z ≡ false → v ≡ v * bit (not z)
-bit-on v {z} e = let n : v ≡ v * 1 = omega arith in n ∙ ap (λ (b : Bool). v * bit (not b)) (sym e)
-
 -- ---- the length of what stands
 pub shown-length : (b : Bool) (f : List ℕ) → length (cond b f []) ≡ cond b (length f) 0
 shown-length true f = refl
 shown-length false f = refl
-
-pub end-within : (from w n e : ℕ) → from ≤ n → e ≡ from + min w (n - from) → (from ≤ e) × (e ≤ n)
-end-within from w n e h q = (omega (arith, q), omega (arith, h, q))
-
--- one field more is counted
-pub counted : (b : Bool) (f r : List ℕ) (n m all d : ℕ) → n + length (cond b f [] ++ r) ≡ all → length f ≡ d → m ≡ cond b d 0 → n + m + length r ≡ all
-counted b f r n m all d e l q =
-    omega (arith, e, length-append (cond b f []) r, shown-length b f, ap (λ (z : ℕ). cond b z 0) l, q)
 
 pub shown-small : (b : Bool) (n : ℕ) → cond b n 0 ≤ n
 shown-small true n = omega arith
@@ -141,22 +146,44 @@ standing-small m [] = omega arith
 standing-small m (f ∷ fs) =
     omega (arith, length-append f (joined fs), length-append (cond (odd m) f []) (standing (m / 2) fs), shown-length (odd m) f, shown-small (odd m) (length f), standing-small (m / 2) fs)
 
+-- nor than the bytes that the fields lie in
+joined-within : (ws full : List ℕ) → length (joined (cut ws full)) ≤ length full
+unfolding joined cut
+joined-within [] full = omega arith
+joined-within (w ∷ ws) full =
+    omega (arith, length-append (take w full) (joined (cut ws (drop w full))), joined-within ws (drop w full), ap length (take-append-drop w full), length-append (take w full) (drop w full))
+
+pub standing-within : (m : ℕ) (ws full : List ℕ) → length (standing m (cut ws full)) ≤ length full
+standing-within m ws full = omega (arith, standing-small m (cut ws full), joined-within ws full)
+
+pub standing-next : (m : ℕ) (fs : List (List ℕ)) (f p : List ℕ) (gs : List (List ℕ)) → fs ≡ f ∷ gs → p ≡ cond (odd m) f [] → standing m fs ≡ p ++ standing (m / 2) gs
+unfolding standing
+standing-next m fs f p gs e h = ap (standing m) e ∙ ap (λ (q : List ℕ). q ++ standing (m / 2) gs) (sym h)
+
+pub standing-none : (m : ℕ) (fs : List (List ℕ)) → fs ≡ [] → standing m fs ≡ []
+unfolding standing
+standing-none m fs e = ap (standing m) e
+
 -- ---- the whole form
 pub packed-length : (m : ℕ) (fs : List (List ℕ)) → length (packed m fs) ≡ 2 + length (standing m fs)
 unfolding packed
 packed-length m fs = omega (arith, length-append (low 2 m) (standing m fs), low-length 2 m)
 
-pub pack-short : (bs out : List ℕ) (n : ℕ) → n ≡ length bs → length out < n → wrote n out ≡ pack_into bs out
-unfolding pack_into
-pack-short bs out n e h =
-    let g : length out < length bs = omega (arith, e, h) in
-    ap₂ wrote e (sym (ap (λ (b : Bool). cond b (bs ++ drop (length bs) out) out) (lt-leb _ _ g)))
+module _ (bs out : List ℕ) where
+  abbrev into : Bool → Wrote
+  into b = cond b (wrote (Ok (length bs)) (bs ++ drop (length bs) out)) (wrote (Err (record { needed = length bs })) out)
 
-pub pack-room : (bs out out' : List ℕ) (n : ℕ) → n ≡ length bs → n ≤ length out → out' ≡ bs ++ drop (length bs) out → wrote n out' ≡ pack_into bs out
-unfolding pack_into
-pack-room bs out out' n e h q =
-    let g : length bs ≤ length out = omega (arith, e, h) in
-    ap₂ wrote e (q ∙ sym (ap (λ (b : Bool). cond b (bs ++ drop (length bs) out) out) (le-leb _ _ g)))
+  pub pack-short : (n : ℕ) → n ≡ length bs → length out < n → wrote (Err (record { needed = n })) out ≡ pack_into bs out
+  unfolding pack_into
+  pack-short n e h =
+      let g : length out < length bs = omega (arith, e, h) in
+      ap (λ (k : ℕ). wrote (Err (record { needed = k })) out) e ∙ sym (ap into (lt-leb _ _ g))
+
+  pub pack-room : (out' : List ℕ) (n : ℕ) → n ≡ length bs → n ≤ length out → out' ≡ bs ++ drop (length bs) out → wrote (Ok n) out' ≡ pack_into bs out
+  unfolding pack_into
+  pack-room out' n e h q =
+      let g : length bs ≤ length out = omega (arith, e, h) in
+      ap₂ (λ (k : ℕ) (l : List ℕ). wrote (Ok k) l) e q ∙ sym (ap into (le-leb _ _ g))
 
 -- the map's two bytes, then what stands
 module _ (m n : ℕ) (fs : List (List ℕ)) (out out' p : List ℕ) (r : Bool) (q : n ≡ length (packed m fs)) (h : n ≤ length out) (e : leaves r out' ≡ store (low 2 m) out) where
@@ -169,7 +196,7 @@ module _ (m n : ℕ) (fs : List (List ℕ)) (out out' p : List ℕ) (r : Bool) (
       goes_on out' 2 (low 2 m) (standing m fs) (begins out (packed m fs) (packed m fs) refl) refl
       (ap (λ (l : Leaves ℕ). l.list) (e ∙ store-room (low 2 m) out k) ∙ sym (sets-eq (low 2 m) out 0 i ∙ ap (λ (z : ℕ). low 2 m ++ drop z out) j)) (sym (ap (λ (z : ℕ). 0 + z) (low-length 2 m)))
 
-  pub pack-done : p ≡ standing m fs → wrote n (take 2 out' ++ (p ++ drop (n - 2) (drop 2 out'))) ≡ pack_into (packed m fs) out
+  pub pack-done : p ≡ standing m fs → wrote (Ok n) (take 2 out' ++ (p ++ drop (n - 2) (drop 2 out'))) ≡ pack_into (packed m fs) out
   pack-done d =
       pack-room (packed m fs) out _ n q h
       (ends (part-on p (standing m fs) [] n n map-put (sym (append-nil (standing m fs))) d (omega (arith, q, packed-length m fs)) (omega (arith, h, map-put.same)) refl) refl (omega (arith, q, h)))

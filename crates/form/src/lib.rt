@@ -6,7 +6,8 @@
 // definitions that the contracts cite stand in specs/.
 #![tactic(auto)]
 
-pub mod float;
+pub mod eight;
+mod float;
 pub mod number;
 pub mod pack;
 pub mod table;

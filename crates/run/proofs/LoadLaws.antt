@@ -6,7 +6,8 @@ use Prim.Native.Nat.{ℕ, zero, suc, ◌+◌, ◌*◌, ◌/◌, ◌%◌, ◌≤�
 use native.Mathlib.Omega.{arith}
 use Rattle.std.specs.Prelude.{Option, Some, None, option_map}
 use Rattle.std.specs.Bool.{then_some}
-use lib.Dec.{ltb, eqb}
+use lib.Dec.{ltb, eqb, leb}
+use Rattle.std.specs.Option.{is_some}
 use lib.ListN.{length, get_or, take, drop, length-drop, length-replicate}
 use lib.Seq.{drop-drop, drop-cons, take_at, get_or_at, length-take-le}
 use lib.Ieee.{Float, nan, binary64, of_bits}
@@ -14,9 +15,11 @@ use borrow.Author.Tests.{le-leb}
 use Rattle.course.specs.Rules.Tiles.{number_at}
 use Rattle.course.proofs.BoolLaws.{and_right}
 use Rattle.form.specs.Rules.Bytes.{number, Leaves, leaves, each_from, floats_from, fill_each}
-use Rattle.form.specs.Rules.Form.{Row, sum, cut, joined, Parsed, parse, map_in, parsed, Read, read, read_fields, unpack_into}
+use Rattle.form.specs.declared.table.Row.{Row}
+use Rattle.form.specs.Rules.Form.{sum, cut, joined, Parsed, parse, map_in, parsed, Read, read, read_fields, unpack_into}
 use Rattle.form.specs.Rules.Form.Parsed.{fields, broken}
 use Rattle.form.proofs.ByteLaws.{from-length}
+use Rattle.form.proofs.TableLaws.{widths-of}
 use Rattle.form.proofs.FormLaws.{Fits, none, shown, hidden, parse-only}
 use Rattle.form.proofs.MapLaws.{Sized, cut-joined}
 use Rattle.run.specs.Grader.Widths.{full_words}
@@ -172,18 +175,18 @@ module _ (m most : ℕ) (bs : List ℕ) where
   abbrev Tested : Bool → List (List ℕ) → Option Fields
   Tested ok fs = cond (ok && passed fs) (Some (fields_from m fs)) None
 
-  read-loaded : (full to : List ℕ) (ok : Bool) (map : ℕ) → sum (field_bytes m) ≤ length to → read ok map full ≡ unpack_into (field_bytes m) [] bs to
-      → Tested ok (cut (field_bytes m) full) ≡ loaded m most bs
+  read-loaded : (full to : List ℕ) (map : Option ℕ) → sum (field_bytes m) ≤ length to → read map full ≡ unpack_into (second_form m) bs to
+      → Tested (is_some map) (cut (field_bytes m) full) ≡ loaded m most bs
   unfolding unpack_into loaded loaded_from
-  read-loaded full to ok map room e =
+  read-loaded full to map room e =
       go (parsed (second_form m) bs) refl
-      (e ∙ ap (λ (b : Bool). cond b (read_fields (parsed (second_form m) bs) (map_in bs) to) (read false 0 to)) (le-leb (sum (field_bytes m)) (length to) room))
+      (e ∙ ap (λ (b : Bool). cond b (read_fields (parsed (second_form m) bs) (map_in bs) to) (read None to)) (ap (λ (l : List ℕ). leb (sum l) (length to)) (widths-of (field_bytes m) []) ∙ le-leb (sum (field_bytes m)) (length to) room))
     where
-      go : (p : Parsed) → parsed (second_form m) bs ≡ p → read ok map full ≡ read_fields p (map_in bs) to → Tested ok (cut (field_bytes m) full) ≡ loaded_from m most p
+      go : (p : Parsed) → parsed (second_form m) bs ≡ p → read map full ≡ read_fields p (map_in bs) to → Tested (is_some map) (cut (field_bytes m) full) ≡ loaded_from m most p
       go (fields fs) q r =
-          ap₂ Tested (ap (λ (x : Read). x.ok) r)
+          ap₂ Tested (ap (λ (x : Read). is_some x.map) r)
           (ap (λ (x : Read). cut (field_bytes m) x.full) r ∙ cut-joined (field_bytes m) [] fs (drop (length (joined fs)) to) (parsed-sized (second_form m) bs fs q))
-      go broken q r = ap (λ (x : Read). Tested x.ok (cut (field_bytes m) full)) r
+      go broken q r = ap (λ (x : Read). Tested (is_some x.map) (cut (field_bytes m) full)) r
 
   abbrev IsKept : Option Fields → Type 0
   IsKept (Some f) = Unit
@@ -213,20 +216,20 @@ mapped : (b : Bool) (f : CodeFields) → option_map fields_as (then_some b f) �
 mapped true f = refl
 mapped false f = refl
 
-pub load_is : (most : ℕ) (bs full to ws : List ℕ) (ok one sound : Bool) (map seed : ℕ) (p : SeedParts) (f : CodeFields) → length full ≡ sum (field_bytes full_words) → sum (field_bytes full_words) ≤ length to → ws ≡ field_bytes full_words
-    → read ok map full ≡ unpack_into ws [] bs to → p ≡ seeds_read (saved_field full 0) (saved_field full 10) → seed ≡ seed_from p.narrow p.wide
+pub load_is : (most : ℕ) (bs full to : List ℕ) (rows : List Row) (ok one sound : Bool) (map : Option ℕ) (seed : ℕ) (p : SeedParts) (f : CodeFields) → length full ≡ sum (field_bytes full_words) → sum (field_bytes full_words) ≤ length to → rows ≡ second_form full_words
+    → ok ≡ is_some map → read map full ≡ unpack_into rows bs to → p ≡ seeds_read (saved_field full 0) (saved_field full 10) → seed ≡ seed_from p.narrow p.wide
     → fields_as f ≡ fields_with seed full_words (cut (field_bytes full_words) full) → one ≡ seeds_ok p.narrow p.wide → sound ≡ sound_fields most (fields_as f)
     → option_map fields_as (then_some (ok && (ltb (get_or full 340 0) 8 && (one && sound))) f) ≡ loaded full_words most bs
 unfolding fields_from
-load_is most bs full to ws ok one sound map seed p f long room table e parts s fs o q =
+load_is most bs full to rows ok one sound map seed p f long room table some e parts s fs o q =
     let cuts = cut (field_bytes full_words) full in
     let flags = sym (flags-byte full long) in
     let all = fs ∙ ap (λ (k : ℕ). fields_with k full_words cuts) (s ∙ ap (λ (x : SeedParts). seed_from x.narrow x.wide) parts) in
     let single = o ∙ ap (λ (x : SeedParts). seeds_ok x.narrow x.wide) parts in
     let tested = q ∙ ap (sound_fields most) all in
     mapped (ok && (ltb (get_or full 340 0) 8 && (one && sound))) f
-    ∙ (λ i. cond (ok && (ltb (flags i) 8 && (single i && tested i))) (Some (all i)) None)
-    ∙ read-loaded full_words most bs full to ok map room (e ∙ ap (λ (l : List ℕ). unpack_into l [] bs to) table)
+    ∙ (λ i. cond (some i && (ltb (flags i) 8 && (single i && tested i))) (Some (all i)) None)
+    ∙ read-loaded full_words most bs full to map room (e ∙ ap (λ (l : List Row). unpack_into l bs to) table)
 
 -- what was not read is not loaded, and what was read is
 pub not-loaded : {o : Option CodeFields} {r : Option Fields} → o ≡ None → option_map fields_as o ≡ r → None ≡ r

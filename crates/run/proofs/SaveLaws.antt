@@ -11,6 +11,7 @@ use borrow.Author.Tests.{ltb-false}
 use Rattle.std.specs.Prelude.{Result, Ok, Err}
 use Rattle.course.specs.declared.cause.Cause.{Cause}
 use Rattle.form.specs.Rules.Bytes.{low, all_zero, word_bytes, leaves, store}
+use Rattle.form.specs.declared.pack.NoRoom.{NoRoom}
 use Rattle.form.specs.Rules.Form.{cut, joined, most_rows, map_of, standing, packed, Wrote, wrote, pack_into}
 use Rattle.form.proofs.ByteLaws.{low-length, stored-whole}
 use Rattle.form.proofs.Filling.{Filling, begins, part-on, part-long, ends-whole}
@@ -123,24 +124,35 @@ save-fits most s room e =
     ltb-false room save_room (passed (ltb room save_room) _ _ b.1).0
 
 -- what is packed by the table and the map is the saved form
-pub form-packed : (f : Fields) (ws full out out' : List ℕ) (m n : ℕ) → Whole full_words f → ws ≡ field_bytes full_words → full ≡ joined (bytes_of f)
-    → m ≡ map_of (cut (take most_rows ws) full) → wrote n out' ≡ pack_into (packed m (cut ws full)) out → wrote n out' ≡ pack_into (saved_form f) out
+pub form-packed : (f : Fields) (ws full out out' : List ℕ) (m : ℕ) (r : Result ℕ NoRoom) → Whole full_words f → ws ≡ field_bytes full_words → full ≡ joined (bytes_of f)
+    → m ≡ map_of (cut (take most_rows ws) full) → wrote r out' ≡ pack_into (packed m (cut ws full)) out → wrote r out' ≡ pack_into (saved_form f) out
 unfolding saved_form field_bytes
-form-packed f ws full out out' m n h w b e p =
+form-packed f ws full out out' m r h w b e p =
     let all = ap₂ cut w (b ∙ sym (append-nil (joined (bytes_of f)))) ∙ cut-joined (field_bytes full_words) [] (bytes_of f) [] (bytes-sized full_words f h) in
     let t : take most_rows ws ≡ ws = ap (take most_rows) w ∙ sym w in
     let map = e ∙ ap (λ (l : List ℕ). map_of (cut l full)) t ∙ ap map_of all in
     p ∙ ap₂ (λ (j : ℕ) (fs : List (List ℕ)). pack_into (packed j fs) out) map all
 
-pub save-accepted : (most : ℕ) (s : State) (out out' : List ℕ) (r : Result Unit Cause) (n : ℕ) → Whole full_words (fields_of s) → r ≡ save_check most s.setup s.progress (length out) → r ≡ Ok tt
-    → wrote n out' ≡ pack_into (saved_form (fields_of s)) out → after_save (Ok n) out' ≡ save_of most s out
-unfolding save_of save_at
-save-accepted most s out out' r n h e z w =
+-- the length that a call wrote or would need
+abbrev the_length : Result ℕ NoRoom → ℕ
+the_length (Ok n) = n
+the_length (Err e) = e.needed
+
+-- a save that is not refused has room for its form
+pub save-packed : (most : ℕ) (s : State) (out out' : List ℕ) (a : Result Unit Cause) (r : Result ℕ NoRoom) → Whole full_words (fields_of s) → a ≡ save_check most s.setup s.progress (length out) → a ≡ Ok tt
+    → wrote r out' ≡ pack_into (saved_form (fields_of s)) out → r ≡ Ok (length (saved_form (fields_of s)))
+save-packed most s out out' a r h e z w =
     let room = save-fits most s (length out) (sym e ∙ z) in
-    ap (λ (x : Wrote). after_save (Ok x.length) x.out) (w ∙ sym (pack-room (saved_form (fields_of s)) out _ _ refl (omega (arith, room, form_small (fields_of s) h)) refl))
+    ap (λ (x : Wrote). x.length) (w ∙ sym (pack-room (saved_form (fields_of s)) out _ _ refl (omega (arith, room, form_small (fields_of s) h)) refl))
+
+pub save-accepted : (most : ℕ) (s : State) (out out' : List ℕ) (a : Result Unit Cause) (n : ℕ) (r : Result ℕ NoRoom) → Whole full_words (fields_of s) → a ≡ save_check most s.setup s.progress (length out) → a ≡ Ok tt
+    → wrote r out' ≡ pack_into (saved_form (fields_of s)) out → r ≡ Ok n → after_save (Ok n) out' ≡ save_of most s out
+unfolding save_of save_at
+save-accepted most s out out' a n r h e z w q =
+    let room = save-fits most s (length out) (sym e ∙ z) in
+    ap (λ (x : Wrote). after_save (Ok (the_length x.length)) x.out) (ap (λ (t : Result ℕ NoRoom). wrote t out') (sym q) ∙ w ∙ sym (pack-room (saved_form (fields_of s)) out _ _ refl (omega (arith, room, form_small (fields_of s) h)) refl))
     ∙ ap (λ (j : Result Unit Cause). save_at j s out) (sym z ∙ e)
 
 -- the length is small
-pub save-length : (f : Fields) (out out' : List ℕ) (n : ℕ) → Whole full_words f → wrote n out' ≡ pack_into (saved_form f) out → n ≤ save_room
-unfolding pack_into
-save-length f out out' n h w = omega (arith, ap (λ (x : Wrote). x.length) w, form_small f h)
+pub save-length : (f : Fields) (r : Result ℕ NoRoom) (n : ℕ) → Whole full_words f → r ≡ Ok (length (saved_form f)) → r ≡ Ok n → n ≤ save_room
+save-length f r n h e w = omega (arith, ap the_length (sym w ∙ e), form_small f h)

@@ -11,7 +11,7 @@ use crate::numbers::{CAR_NUMBERS, POSE_NUMBERS};
 use crate::saved::{ALL_BYTES, SeedParts};
 use crate::widths::{FULL_WORDS, MOST_TILES};
 use crate::{numbers, saved, start, state, words};
-use form::{float, number, unpack};
+use form::{eight, number, unpack};
 
 // The car's numbers but for the fuel.
 const CONTROL_NUMBERS: usize = CAR_NUMBERS - 1;
@@ -68,7 +68,7 @@ fn float_at(full: &[u8], at: usize) -> f64
     ensures { result ≡ float_in (take 8 (drop at full.now)) }
 {
     let mut x = [0.0; 1];
-    float::read_floats(&full[at..at + 8], &mut x);
+    eight::read(&full[at..at + 8], &mut x);
     x[0]
 }
 
@@ -78,7 +78,7 @@ fn credited_in(full: &[u8]) -> [u64; FULL_WORDS]
     ensures { result ≡ words_from full_words (saved_field full.now 4) }
 {
     let mut set = [0u64; FULL_WORDS];
-    number::read_words(&full[CREDITED_AT..FLAGS_AT], &mut set);
+    eight::read(&full[CREDITED_AT..FLAGS_AT], &mut set);
     set
 }
 
@@ -90,7 +90,7 @@ fn car_in(full: &[u8]) -> [f64; CAR_NUMBERS]
         ++ (float_in (saved_field full.now 6) ∷ []) }
 {
     let mut car = [0.0; CAR_NUMBERS];
-    float::read_floats(&full[CONTROLS_AT..POSES_AT], &mut car[..CONTROL_NUMBERS]);
+    eight::read(&full[CONTROLS_AT..POSES_AT], &mut car[..CONTROL_NUMBERS]);
     car[CONTROL_NUMBERS] = float_at(full, FUEL_AT);
     car
 }
@@ -101,7 +101,7 @@ fn poses_in(full: &[u8]) -> [f64; POSE_NUMBERS]
     ensures { result ≡ floats_from pose_count (saved_field full.now 8) }
 {
     let mut poses = [0.0; POSE_NUMBERS];
-    float::read_floats(&full[POSES_AT..COUNT_AT], &mut poses);
+    eight::read(&full[POSES_AT..COUNT_AT], &mut poses);
     poses
 }
 
@@ -159,15 +159,14 @@ fn is_sound(f: Fields) -> bool
 pub(crate) fn load(bytes: &[u8]) -> Option<Fields>
     ensures { option_map fields_as result ≡ loaded full_words most_tiles bytes.now }
 {
-    let widths = saved::field_bytes();
-    let zeros = [false; 0];
+    let rows = saved::rows();
     let mut full = [0u8; ALL_BYTES];
-    let u = unpack::unpack(&widths, &zeros, bytes, &mut full);
+    let map = unpack::unpack(&rows, bytes, &mut full);
     let seeds = seeds_in(&full);
     let fields = fields_in(saved::seed_from(seeds), &full);
     let known = full[FLAGS_AT] < 8;
     let one = saved::seeds_ok(seeds);
     let sound = is_sound(fields);
-    let taken = u.ok & (known & (one & sound));
+    let taken = map.is_some() & (known & (one & sound));
     taken.then_some(fields)
 }

@@ -14,7 +14,7 @@ use crate::state::{Progress, Run, Setup};
 use crate::widths::{FULL_WORDS, MOST_TILES};
 use crate::{numbers, saved, state};
 use course::cause::Cause;
-use form::{float, number, pack, table};
+use form::{number, pack, table, eight};
 
 // The room of the longest form: the map, and every field but the narrow seed's four bytes, where the wide one stands (cause 2).
 pub const SAVE_ROOM: usize = 2 + ALL_BYTES - 4;
@@ -59,7 +59,7 @@ fn put_first(narrow: u64, share: f64, limit: u32, tick: u32, out: &mut [u8])
 {
     let shares = [share];
     number::put_number(narrow, 4, &mut out[0..4]);
-    float::put_floats(&shares, &mut out[4..12]);
+    eight::put(&shares, &mut out[4..12]);
     number::put_number(limit as u64, 4, &mut out[12..16]);
     number::put_number(tick as u64, 4, &mut out[16..20]);
 }
@@ -81,9 +81,9 @@ fn put_last(
 {
     let fuels = [fuel];
     number::put_number(flags, 1, &mut out[0..1]);
-    float::put_floats(&fuels, &mut out[1..9]);
-    float::put_floats(controls, &mut out[9..169]);
-    float::put_floats(poses, &mut out[169..297]);
+    eight::put(&fuels, &mut out[1..9]);
+    eight::put(controls, &mut out[9..169]);
+    eight::put(poses, &mut out[169..297]);
     number::put_number(n as u64, 2, &mut out[297..299]);
     number::put_number(wide, 8, &mut out[299..307]);
 }
@@ -109,7 +109,7 @@ fn put_fields(run: Run, full: &mut [u8])
         progress.tick,
         &mut full[0..SET_FROM],
     );
-    number::put_words(&credited, &mut full[SET_FROM..SET_END]);
+    eight::put(&credited, &mut full[SET_FROM..SET_END]);
     put_last(
         u64::from(flags),
         car.fuel_spent,
@@ -130,8 +130,8 @@ pub fn save(run: Run, out: &mut [u8]) -> Result<u32, Cause>
     save_check(MOST_TILES, setup, progress, out.len())?;
     let mut full = [0u8; ALL_BYTES];
     put_fields(run, &mut full);
-    let widths = saved::field_bytes();
-    let map = table::map_of(&widths, &full);
-    let length = pack::pack(&widths, &full, map, out);
+    let rows = saved::rows();
+    let map = table::map_of(&rows, &full);
+    let length = pack::pack(&rows, &full, map, out).unwrap();
     Ok(length as u32)
 }

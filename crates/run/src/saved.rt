@@ -1,8 +1,10 @@
 // The table of a save's fields (document 02, order 1), and the two of them that a seed may stand in (order 3).
-ghost use Rattle.std.specs.Prelude.{◌≡◌};
+ghost use Rattle.std.specs.Prelude.{◌≡◌, false};
 ghost use Rattle.run.specs.Grader.Widths.{full_words};
-ghost use Rattle.run.specs.Grader.Saved.{field_bytes, seed_from, seeds_ok};
+ghost use Rattle.run.specs.Grader.Saved.{second_form, seed_from, seeds_ok};
 ghost use Rattle.run.specs.Steps.Save.{seed_parts};
+
+use form::table::Row;
 
 // How many fields there are, and how many bytes all of them have.
 pub(crate) const FIELDS: usize = 11;
@@ -16,11 +18,33 @@ pub(crate) struct SeedParts {
     pub wide: u64,
 }
 
-// How many bytes each field has, in bit order.
-pub(crate) fn field_bytes() -> [usize; FIELDS]
-    ensures { result ≡ field_bytes full_words }
+// A row whose field may not stand with zeros.
+fn row(bytes: usize) -> Row
+    ensures { result ≡ record { bytes = bytes; zeros = false } }
 {
-    [4, 8, 4, 4, 320, 1, 8, 160, 128, 2, 8]
+    Row {
+        bytes,
+        zeros: false,
+    }
+}
+
+// How many bytes each field has, in bit order.
+pub(crate) fn rows() -> [Row; FIELDS]
+    ensures { result ≡ second_form full_words }
+{
+    [
+        row(4),
+        row(8),
+        row(4),
+        row(4),
+        row(320),
+        row(1),
+        row(8),
+        row(160),
+        row(128),
+        row(2),
+        row(8),
+    ]
 }
 
 // A seed in its field, and 0 in the other.

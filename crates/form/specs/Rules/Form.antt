@@ -1,17 +1,19 @@
 -- Document 02, order 1: the saved form, for any table of fields: a map of two bytes, then the fields whose bit stands,
 -- in bit order. Orders 3, 6 and 8 add rows; order 6 has one that stands at zero too. Assumes nothing.
-use Rattle.std.specs.Prelude.{Bool, true, false, not, cond, ◌&&◌, ◌||◌, List, [], ◌∷◌, ◌++◌, ℕ, ◌+◌, ◌*◌, ◌/◌, ◌%◌, eqb, ltb, leb, length, get_or, take, drop, replicate}
+use Rattle.std.specs.Prelude.{Bool, true, false, not, cond, ◌&&◌, ◌||◌, List, [], ◌∷◌, ◌++◌, ℕ, ◌+◌, ◌*◌, ◌/◌, ◌%◌, eqb, ltb, leb, length, get_or, take, drop, replicate, map, Option, Some, None, Result, Ok, Err}
+use Rattle.form.specs.declared.pack.NoRoom.{NoRoom}
+use Rattle.form.specs.declared.table.Row.{Row}
 use Rattle.form.specs.Rules.Bytes.{low, number, all_zero}
-
--- a row of the table: the field's bytes, and whether it may stand with zeros
-pub record Row : Type 0 where
-  pub bytes : ℕ
-  pub zeros : Bool
+-- a row of the table has the field's bytes, and whether it may stand with zeros
 
 -- the table of widths and marks; a row without a mark may not stand with zeros
 unfoldable pub rows_of : List ℕ → List Bool → List Row
 rows_of [] zs = []
 rows_of (w ∷ ws) zs = record { bytes = w; zeros = get_or zs 0 false } ∷ rows_of ws (drop 1 zs)
+
+-- a table's widths
+abbrev pub widths : List Row → List ℕ
+widths = map (λ (r : Row). r.bytes)
 
 -- the fields lie end to end: how many bytes all of them have, the fields cut apart, and joined again
 unfoldable pub sum : List ℕ → ℕ
@@ -52,16 +54,19 @@ standing m (f ∷ fs) = cond (odd m) f [] ++ standing (m / 2) fs
 unfoldable pub packed : ℕ → List (List ℕ) → List ℕ
 packed m fs = low 2 m ++ standing m fs
 
--- what is written: the form's length, and the output with the form at its front; one that is too short stays as it is
+-- what is written: the form at the front of the output, and its length; an output that is too short stays as it is
 pub record Wrote : Type 0 where
-  pub length : ℕ
+  pub length : Result ℕ NoRoom
   pub out : List ℕ
 
-abbrev pub wrote : ℕ → List ℕ → Wrote
-wrote n l = record { length = n; out = l }
+abbrev pub wrote : Result ℕ NoRoom → List ℕ → Wrote
+wrote r l = record { length = r; out = l }
 
 unfoldable pub pack_into : List ℕ → List ℕ → Wrote
-pack_into bs out = wrote (length bs) (cond (leb (length bs) (length out)) (bs ++ drop (length bs) out) out)
+pack_into bs out =
+    cond (leb (length bs) (length out))
+    (wrote (Ok (length bs)) (bs ++ drop (length bs) out))
+    (wrote (Err (record { needed = length bs })) out)
 
 -- ---- reading
 
@@ -96,17 +101,16 @@ parsed rs bs = cond (ltb (length bs) 2) broken (parse rs (map_in bs) (drop 2 bs)
 -- what is read: the map, and the fields end to end at the front of the lent bytes; where there is no saved form, or no
 -- room for its fields, the lent bytes stay
 pub record Read : Type 0 where
-  pub ok : Bool
-  pub map : ℕ
+  pub map : Option ℕ
   pub full : List ℕ
 
-abbrev pub read : Bool → ℕ → List ℕ → Read
-read b m l = record { ok = b; map = m; full = l }
+abbrev pub read : Option ℕ → List ℕ → Read
+read m l = record { map = m; full = l }
 
 abbrev pub read_fields : Parsed → ℕ → List ℕ → Read
-read_fields (fields fs) m full = read true m (joined fs ++ drop (length (joined fs)) full)
-read_fields broken m full = read false 0 full
+read_fields (fields fs) m full = read (Some m) (joined fs ++ drop (length (joined fs)) full)
+read_fields broken m full = read None full
 
-unfoldable pub unpack_into : List ℕ → List Bool → List ℕ → List ℕ → Read
-unpack_into ws zs bs full =
-    cond (leb (sum ws) (length full)) (read_fields (parsed (rows_of ws zs) bs) (map_in bs) full) (read false 0 full)
+unfoldable pub unpack_into : List Row → List ℕ → List ℕ → Read
+unpack_into rs bs full =
+    cond (leb (sum (widths rs)) (length full)) (read_fields (parsed rs bs) (map_in bs) full) (read None full)

@@ -1,18 +1,12 @@
 -- The steps of reading a saved form: for private functions alone, no public contract reaches these. Assumes nothing.
-use Rattle.std.specs.Prelude.{Bool, true, false, cond, List, [], ◌∷◌, ℕ, ◌+◌, ◌/◌, take, drop, replicate}
-use Rattle.form.specs.Rules.Form.{Row, Parsed, odd, may_stand}
+use Rattle.std.specs.Prelude.{Bool, true, false, cond, Option, Some, None, List, [], ◌∷◌, ℕ, ◌+◌, ◌/◌, take, drop, replicate}
+use Rattle.form.specs.declared.table.Row.{Row}
+use Rattle.form.specs.Rules.Form.{Parsed, odd, may_stand}
 use Rattle.form.specs.Rules.Form.Parsed.{fields, broken}
-use Rattle.form.specs.declared.unpack.Step.{Step}
 
-abbrev pub row_of : ℕ → Bool → Row
-row_of w z = record { bytes = w; zeros = z }
-
--- one field: whether it is as it must be, and the place after it
-unfoldable pub field_step : Bool → Row → ℕ → List ℕ → Step
-field_step on r at bs =
-    cond on
-    (cond (may_stand r bs) (record { ok = true; at = at + r.bytes }) (record { ok = false; at = at }))
-    (record { ok = true; at = at })
+-- one field: the bytes after it, where it is as it must be
+unfoldable pub field_step : Bool → Row → List ℕ → Option (List ℕ)
+field_step on r bs = cond on (cond (may_stand r bs) (Some (drop r.bytes bs)) None) (Some bs)
 
 -- whether there is a saved form
 abbrev pub whole : Parsed → Bool

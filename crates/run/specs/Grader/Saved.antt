@@ -4,7 +4,8 @@ use Rattle.std.specs.Prelude.{Bool, not, cond, ◌&&◌, ◌||◌, List, [], ◌
 use Rattle.course.specs.Rules.Counting.{digit}
 use Rattle.course.specs.Rules.Tiles.{number_at}
 use Rattle.form.specs.Rules.Bytes.{low, number, word_bytes, float_bytes, words_from, floats_from}
-use Rattle.form.specs.Rules.Form.{Row, rows_of, odd, map_of, packed, Parsed, parsed}
+use Rattle.form.specs.declared.table.Row.{Row}
+use Rattle.form.specs.Rules.Form.{rows_of, odd, map_of, packed, Parsed, parsed}
 use Rattle.form.specs.Rules.Form.Parsed.{fields, broken}
 use Rattle.run.specs.Rules.Arguments.{settings_ok, poses_ok}
 use Rattle.run.specs.Rules.Below.{every_below}

@@ -3,7 +3,8 @@
 use Rattle.std.specs.Prelude.{cond, ◌&&◌, List, [], ◌≡◌, ℕ, ◌^◌, ◌≤◌, ◌<◌, ltb, Option, Some, None, Err}
 use Rattle.course.specs.declared.cause.Cause.{Cause}
 use Rattle.form.specs.Rules.Bytes.{number}
-use Rattle.form.specs.Rules.Form.{Row, rows_of, map_of, packed, Parsed, map_in, parsed}
+use Rattle.form.specs.declared.table.Row.{Row}
+use Rattle.form.specs.Rules.Form.{rows_of, map_of, packed, Parsed, map_in, parsed}
 use Rattle.form.specs.Rules.Form.Parsed.{fields, broken}
 use Rattle.run.specs.Grader.State.{Columns}
 use Rattle.run.specs.Grader.Saved.{Fields, wide_seed, ten_fields, ten_bytes, saved_form, field_at, fields_with, sound_fields, loaded}

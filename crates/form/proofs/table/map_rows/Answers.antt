@@ -1,38 +1,37 @@
 -- `form::table::map_rows` meets its contract. Assumes nothing.
-use Rattle.form.proofs.TableLaws.{end-within, map_more, map-none, gathered, gathered-all, power_small, power-more, value-small}
-use Rattle.form.specs.Rules.Form.{cut, map_of, bit}
-use lib.ListN.{drop}
-use Prim.Native.Nat.{ℕ, ◌+◌, ◌*◌}
+use Rattle.form.proofs.TableLaws.{bit_most, cut-many, map-next, map-none, gathered, gathered-all, power-more, value-small}
+use Rattle.form.specs.Rules.Form.{widths, cut, map_of}
+use Rattle.std.proofs.lemmas.List.{length_push}
+use lib.ListN.{length}
+use Prim.Native.Nat.{◌^◌}
 use mathlib.Core.Path.{refl, sym, ap, ◌∙◌}
-use mathlib.Core.Bool.{Bool, not}
+use mathlib.Core.Bool.{not}
 use native.Mathlib.Omega.{arith}
 use Rattle.form.proofs.table.map_rows.Goals as goal
 
-pub loop-k-init : goal.loop-k-init
-loop-k-init c = (omega arith, omega arith, omega arith, refl, omega arith)
+pub loop-field-init : goal.loop-field-init
+loop-field-init c =
+    let s = c.args in
+    let g = c.into_iter-field-iterator.ensures.into_iter_gives in
+    let k = ap (λ it. length (cut (widths it.rows.now) it.full.now)) g in
+    let m = ap (λ it. map_of (cut (widths it.rows.now) it.full.now)) g in
+    record { small = omega arith; power = refl; count = omega (arith, k, cut-many s.rows.now s.full.now); rest = omega (arith, m) }
 
-pub field_end-end-requires : goal.field_end-end-requires
-field_end-end-requires c = c.loop-k.invariant.1
-
-pub overflow_add-map : goal.overflow_add-map
-overflow_add-map c = omega (arith, power_small c.loop-k.k (omega (arith, c.loop-k.invariant.0, c.requires)), c.loop-k.invariant.2, c.loop-k.invariant.3, c.bit_value-map.ensures, value-small c.loop-k.value (not c.all_zero.result))
-
-pub overflow_mul-value : goal.overflow_mul-value
-overflow_mul-value c = omega (arith, power_small c.loop-k.k (omega (arith, c.loop-k.invariant.0, c.requires)), c.loop-k.invariant.3)
-
-pub loop-k-preserved : goal.loop-k-preserved
-loop-k-preserved c =
-    let i = c.loop-k.invariant in
-    let f = c.field_end-end.ensures in
-    let taken = c.loop-k-test.true in
-    let z = c.all_zero in (
-      omega arith,
-      (end-within _ _ _ _ i.1 f).1,
-      omega (arith, i.2, c.bit_value-map.ensures, value-small c.loop-k.value (not z.result)),
-      power-more _ _ i.3,
-      gathered _ _ _ _ _ _ i.4 (map_more _ _ _ _ _ taken f)
-          ∙ ap (λ (x : ℕ). c.loop-k.map + x + c.loop-k.value * 2 * map_of (cut (drop (c.loop-k.k + 1) c.args.widths.now) (drop c.field_end-end.result c.args.full.now))) (sym (c.bit_value-map.ensures ∙ ap (λ (b : Bool). c.loop-k.value * bit (not b)) z.ensures)),
-    )
+pub loop-field-preserved : goal.loop-field-preserved
+loop-field-preserved c =
+    let l = c.loop-field in
+    let e = length_push l.yielded c.in-Some.field in
+    let x = c.from.result in
+    let v = l.value in
+    let fs = cut (widths l.field-iterator.rows.now) l.field-iterator.full.now in
+    let gs = cut (widths c.next.new.self.rows.now) c.next.new.self.full.now in
+    let small = value-small v x (bit_most (not c.all_zero.result) x c.from.ensures) in
+    record {
+      small = omega (arith, l.invariant.small, small);
+      power = power-more v _ l.invariant.power ∙ ap (λ k. 2 ^ k) (sym e);
+      count = omega (arith, e, l.invariant.count, ap length c.in-Some.ensures.steps);
+      rest = gathered _ l.map v x _ (map_of gs) l.invariant.rest (map-next fs _ gs _ x c.in-Some.ensures.steps c.all_zero.ensures c.from.ensures);
+    }
 
 pub returns : goal.returns
-returns c = gathered-all _ _ _ _ c.loop-k.invariant.4 (map-none _ _ _ c.loop-k-test.false)
+returns c = gathered-all _ _ _ _ c.loop-field.invariant.rest (map-none _ c.in-None.ensures.steps.0)

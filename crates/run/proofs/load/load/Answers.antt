@@ -15,17 +15,16 @@ use Rattle.run.proofs.load.load.Goals as goal
 
 pub fields_in-fields-requires : goal.fields_in-fields-requires
 fields_in-fields-requires c =
-    let full-long : length c.unpack-u.new.full ≡ sum (field_bytes full_words) =
-    let e : length c.unpack-u.new.full ≡ all_bytes = search rules in e ∙ sym all-bytes
+    let full-long : length c.unpack-map.new.full ≡ sum (field_bytes full_words) =
+    let e : length c.unpack-map.new.full ≡ all_bytes = search rules in e ∙ sym all-bytes
     in
     full-long
 
 pub returns : goal.returns
 returns c =
-    let full-long : length c.unpack-u.new.full ≡ sum (field_bytes full_words) =
-    let e : length c.unpack-u.new.full ≡ all_bytes = search rules in e ∙ sym all-bytes
+    let full-long : length c.unpack-map.new.full ≡ sum (field_bytes full_words) =
+    let e : length c.unpack-map.new.full ≡ all_bytes = search rules in e ∙ sym all-bytes
     in
-    let unpacked = c.unpack-u.result in
     ap (option_map fields_as) c.then_some.ensures
-    ∙ load_is most_tiles c.args.bytes.now _ _ _ unpacked.ok c.seeds_ok-one.result c.is_sound-sound.result unpacked.map c.seed_from.result c.seeds_in-seeds.result c.fields_in-fields.result
-    full-long (omega (arith, all-bytes)) c.field_bytes-widths.ensures c.unpack-u.ensures c.seeds_in-seeds.ensures c.seed_from.ensures c.fields_in-fields.ensures c.seeds_ok-one.ensures c.is_sound-sound.ensures
+    ∙ load_is most_tiles c.args.bytes.now _ _ _ _ c.seeds_ok-one.result c.is_sound-sound.result c.unpack-map.result c.seed_from.result c.seeds_in-seeds.result c.fields_in-fields.result
+    full-long (omega (arith, all-bytes)) c.rows-rows.ensures c.is_some.ensures c.unpack-map.ensures c.seeds_in-seeds.ensures c.seed_from.ensures c.fields_in-fields.ensures c.seeds_ok-one.ensures c.is_sound-sound.ensures

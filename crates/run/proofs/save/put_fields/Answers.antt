@@ -12,8 +12,8 @@ use Rattle.run.proofs.FieldSizes.{state-whole}
 use Rattle.run.proofs.SaveLaws.{fields-put}
 use Rattle.run.proofs.save.put_fields.Goals as goal
 
-pub slice_bounds-put_words-end : goal.slice_bounds-put_words-end
-slice_bounds-put_words-end c =
+pub slice_bounds-put-end : goal.slice_bounds-put-end
+slice_bounds-put-end c =
     let credited-length : length c.args.run.credited ≡ full_words =
     search rules
     in
@@ -49,5 +49,5 @@ returns c =
     search rules
     in
     let s = view c.args.run in
-    fields-put (fields_of s) c.args.full.now _ _ _ c.put_words.result c.seed_parts-seed.result c.from.result _ (state-whole full_words s credited-length poses-length) c.requires
-    c.seed_parts-seed.ensures c.put_first.ensures c.put_words.ensures (c.from.ensures ∙ c.flags_of-flags.ensures) (ap (take control_count) c.put_car.ensures) c.put_last.ensures
+    fields-put (fields_of s) c.args.full.now _ _ _ c.put.result c.seed_parts-seed.result c.from.result _ (state-whole full_words s credited-length poses-length) c.requires
+    c.seed_parts-seed.ensures c.put_first.ensures c.put.ensures (c.from.ensures ∙ c.flags_of-flags.ensures) (ap (take control_count) c.put_car.ensures) c.put_last.ensures

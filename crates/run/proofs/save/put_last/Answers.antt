@@ -24,9 +24,9 @@ returns c =
     let g1 = float_bytes (s.fuel ∷ []) ∷ g2 in
     let k0 = begins s.out.now (joined (low 1 s.flags ∷ g1)) _ refl in
     let k1 = field-on (low 1 s.flags) g1 _ 1 _ k0 c.put_number.ensures (low-length 1 s.flags) (omega arith) (omega (arith, h)) in
-    let k2 = field-on (float_bytes (s.fuel ∷ [])) g2 _ 9 _ k1 c.put_floats.ensures (floats-long (s.fuel ∷ []) 1 refl) (omega arith) (omega (arith, h)) in
-    let k3 = field-on (float_bytes s.controls.now) g3 _ 169 _ k2 c.put_floats-2.ensures (floats-long s.controls.now control_count c.requires.controls_len) (omega arith) (omega (arith, h)) in
-    let k4 = field-on (float_bytes s.poses.now) g4 _ 297 _ k3 c.put_floats-3.ensures (floats-long s.poses.now pose_count c.requires.poses_len) (omega arith) (omega (arith, h)) in
+    let k2 = field-on (float_bytes (s.fuel ∷ [])) g2 _ 9 _ k1 c.put.ensures (floats-long (s.fuel ∷ []) 1 refl) (omega arith) (omega (arith, h)) in
+    let k3 = field-on (float_bytes s.controls.now) g3 _ 169 _ k2 c.put-2.ensures (floats-long s.controls.now control_count c.requires.controls_len) (omega arith) (omega (arith, h)) in
+    let k4 = field-on (float_bytes s.poses.now) g4 _ 297 _ k3 c.put-3.ensures (floats-long s.poses.now pose_count c.requires.poses_len) (omega arith) (omega (arith, h)) in
     let k5 = field-on (low 2 s.n) g5 _ 299 _ k4 c.put_number-2.ensures (low-length 2 s.n) (omega arith) (omega (arith, h)) in
     let k6 = field-on (low 8 s.wide) [] _ 307 _ k5 c.put_number-3.ensures (low-length 8 s.wide) (omega arith) (omega (arith, h)) in
     fields-end k6 h

@@ -1,14 +1,17 @@
 -- `run::save::save` meets its contract. Assumes nothing.
-use mathlib.Core.Path.{◌≡◌}
+use mathlib.Core.List.{[]}
+use mathlib.Core.Path.{◌≡◌, ap, ◌∙◌}
 use native.Mathlib.Omega.{arith}
 use lib.ListN.{length}
 use borrow.Author.Rules.{rules}
+use Rattle.form.specs.Rules.Form.{widths}
+use Rattle.form.proofs.TableLaws.{widths-of}
 use Rattle.run.specs.Grader.Widths.{full_words, most_tiles}
 use Rattle.run.specs.Grader.State.{view}
 use Rattle.run.specs.Grader.Numbers.{pose_count}
-use Rattle.run.specs.Grader.Saved.{fields_of}
+use Rattle.run.specs.Grader.Saved.{fields_of, field_bytes}
 use Rattle.run.proofs.FieldSizes.{state-whole}
-use Rattle.run.proofs.SaveLaws.{save-refused, form-packed, save-length, save-accepted}
+use Rattle.run.proofs.SaveLaws.{save-refused, form-packed, save-length, save-accepted, save-packed}
 use Rattle.std.proofs.lemmas.Result.{err_from_is_err_and}
 use Rattle.run.proofs.save.save.Goals as goal
 
@@ -17,6 +20,21 @@ unfolding view
 returns-in_err-save_check c =
     let p = err_from_is_err_and c.from_residual.result c.from_residual.ensures.1 in
     rw (p.1, p.2) (save-refused most_tiles (view c.args.run) _ _ _ c.save_check.ensures c.in_err-save_check.was)
+
+pub unwrap-length-requires : goal.unwrap-length-requires
+unfolding view
+unwrap-length-requires c =
+    let credited-length : length c.args.run.credited ≡ full_words =
+    search rules
+    in
+    let poses-length : length c.args.run.poses ≡ pose_count =
+    search rules
+    in
+    let s = view c.args.run in
+    let h = state-whole full_words s credited-length poses-length in
+    let w = form-packed (fields_of s) _ _ c.args.out.now _ _ _ h (ap widths c.rows-rows.ensures ∙ widths-of (field_bytes full_words) []) c.put_fields.ensures c.map_of-map.ensures c.pack.ensures in
+    let e = save-packed most_tiles s c.args.out.now _ _ _ h c.save_check.ensures c.in_ok-save_check.was w in
+    rw e
 
 pub overflow_cast-result : goal.overflow_cast-result
 unfolding view
@@ -29,8 +47,9 @@ overflow_cast-result c =
     in
     let s = view c.args.run in
     let h = state-whole full_words s credited-length poses-length in
-    let w = form-packed (fields_of s) _ _ c.args.out.now _ _ _ h c.field_bytes-widths.ensures c.put_fields.ensures c.map_of-map.ensures c.pack-length.ensures in
-    omega (arith, save-length (fields_of s) c.args.out.now _ _ h w)
+    let w = form-packed (fields_of s) _ _ c.args.out.now _ _ _ h (ap widths c.rows-rows.ensures ∙ widths-of (field_bytes full_words) []) c.put_fields.ensures c.map_of-map.ensures c.pack.ensures in
+    let e = save-packed most_tiles s c.args.out.now _ _ _ h c.save_check.ensures c.in_ok-save_check.was w in
+    omega (arith, save-length (fields_of s) _ _ h e c.unwrap-length.ensures)
 
 pub returns : goal.returns
 unfolding view
@@ -43,5 +62,5 @@ returns c =
     in
     let s = view c.args.run in
     let h = state-whole full_words s credited-length poses-length in
-    let w = form-packed (fields_of s) _ _ c.args.out.now _ _ _ h c.field_bytes-widths.ensures c.put_fields.ensures c.map_of-map.ensures c.pack-length.ensures in
-    save-accepted most_tiles s c.args.out.now _ _ _ h c.save_check.ensures c.in_ok-save_check.was w
+    let w = form-packed (fields_of s) _ _ c.args.out.now _ _ _ h (ap widths c.rows-rows.ensures ∙ widths-of (field_bytes full_words) []) c.put_fields.ensures c.map_of-map.ensures c.pack.ensures in
+    save-accepted most_tiles s c.args.out.now _ _ _ _ h c.save_check.ensures c.in_ok-save_check.was w c.unwrap-length.ensures

@@ -1,0 +1,29 @@
+-- `form::eight::put` meets its contract. Assumes nothing.
+use Rattle.form.proofs.ByteLaws.{eight-on, each-length, each_none, stored, store-short}
+use Rattle.form.specs.Rules.Bytes.{each_bytes}
+use Rattle.form.proofs.Filling.{begins, ends}
+use lib.ListN.{length}
+use Prim.Native.Nat.{◌≤◌}
+use mathlib.Core.Path.{refl, sym, ap, ◌∙◌}
+use native.Mathlib.Omega.{arith}
+use Rattle.form.proofs.eight.put.Goals as goal
+
+pub returns-then-out-values : goal.returns-then-out-values
+returns-then-out-values g c = sym (store-short _ _ (omega (arith, c.if-out-values.true, each-length g.E.Eight.number_of c.args.values.now)))
+
+pub loop-i-init : goal.loop-i-init
+loop-i-init g c = (omega (arith, c.if-out-values.false), begins _ _ _ refl)
+
+pub loop-i-preserved : goal.loop-i-preserved
+loop-i-preserved g c =
+    let f = g.E.Eight.number_of in
+    let x = c.index-values-i in
+    (c.loop-i.invariant.0, eight-on f _ _ _ _ _ _ x.result _ c.loop-i.invariant.1 c.loop-i-test.true c.loop-i.invariant.0 (c.number_of.ensures ∙ ap f x.is) c.put_number.ensures)
+
+pub returns : goal.returns
+returns g c =
+    let s = c.args in
+    let f = g.E.Eight.number_of in
+    let i = c.loop-i.invariant in
+    let h : length (each_bytes f s.values.now) ≤ length s.out.now = omega (arith, each-length f s.values.now, i.0) in
+    stored _ _ _ h (ends i.1 (each_none f _ _ c.loop-i-test.false) h)
