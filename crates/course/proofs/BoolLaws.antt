@@ -73,11 +73,6 @@ right-false false b e = e
 pub or_no : (a b : Bool) → (a || b) ≡ false → (a ≡ false) × (b ≡ false)
 or_no a b e = (left_false a b e, right-false a b e)
 
--- the other of two tests, where one does not hold
-pub or-other : (a b : Bool) → (a || b) ≡ true → (a ≡ true → ⊥) → b ≡ true
-or-other true b h n = absurd (n refl)
-or-other false b h n = h
-
 pub or_else : (c x y : Bool) → (c ≡ false → x ≡ y) → (c || x) ≡ (c || y)
 or_else true x y h = refl
 or_else false x y h = h refl

@@ -10,8 +10,8 @@ use lib.Ieee.Exact.{HasValue, units_val}
 use lib.Ieee.Positive.{positive, value_pos, values_of_le}
 use Rattle.course.specs.Rules.Root.{in_units, whole_root, nearest_root, sqrt_of}
 use Rattle.course.specs.Laws.Nearest.{plain, operand, halfway, Nearest}
-use Rattle.course.specs.Steps.Root.{units_of, near_whole}
-use Rattle.course.proofs.WholeRoot.{IsRoot, root-law, square-next, square-twice, square-digit, Cmp, cmp}
+use Rattle.course.specs.Steps.Root.{units_of, IsRoot, near_whole}
+use Rattle.course.proofs.WholeRoot.{root-law, square-next, square-twice, square-digit, Cmp, cmp}
 use Rattle.course.proofs.RootScale.{near_whole-is, scaled-root, near-high, near-low, in-range, units-fits, to_bits_val, root-high, joined}
 use Rattle.course.proofs.RootFields.{fields_value, from_fields, at_ones, sqrt-value}
 

@@ -9,8 +9,8 @@ use lib.Ieee.Nearest.{nearest-ge}
 use lib.Ieee.Bits.{of_bits-to_bits}
 use lib.Ieee.Exact.{HasValue, units_val}
 use Rattle.course.specs.Rules.Root.{whole_root, nearest_root}
-use Rattle.course.specs.Steps.Root.{Leaves, near_whole}
-use Rattle.course.proofs.WholeRoot.{root-law, root_below, root-from, leaves-root, near-half, Cmp, cmp, compare-is}
+use Rattle.course.specs.Steps.Root.{IsRoot, near_whole}
+use Rattle.course.proofs.WholeRoot.{root-law, root_below, root-from, near-half, Cmp, cmp, compare-is}
 
 -- ---- how many digits
 pow_lt_back : (i p : ℕ) → 2 ^ i < 2 ^ p → i < p
@@ -241,12 +241,12 @@ abbrev spare : ℕ → ℕ → ℕ
 spare m o = m * 2 ^ o % 18446744073709551616 * 18014398509481984
 
 -- it has 54 digits
-pub root-small : (m o w l : ℕ) → m < 9007199254740992 → o < 2 → Leaves (spare m o) w l → w < 18014398509481984
-root-small m o w l h k r = root_below (spare m o) w 18014398509481984 (leaves-root (spare m o) w l r).not-above (omega (arith, shifted m o h k))
+pub root-small : (m o w : ℕ) → m < 9007199254740992 → o < 2 → IsRoot (spare m o) w → w < 18014398509481984
+root-small m o w h k r = root_below (spare m o) w 18014398509481984 r.not-above (omega (arith, shifted m o h k))
 
 -- its last digit rounds the others
-pub rounded : (m o w l e : ℕ) → 4503599627370496 ≤ m → m < 9007199254740992 → o < 2 → Leaves (spare m o) w l → w ≤ 2 * e → 2 * e ≤ w + 1 → e ≡ near_whole (m * 2 ^ o * 4503599627370496)
-rounded m o w l e lo h k r u v =
+pub rounded : (m o w e : ℕ) → 4503599627370496 ≤ m → m < 9007199254740992 → o < 2 → IsRoot (spare m o) w → w ≤ 2 * e → 2 * e ≤ w + 1 → e ≡ near_whole (m * 2 ^ o * 4503599627370496)
+rounded m o w e lo h k r u v =
     let n = m * 2 ^ o * 4503599627370496 in
-    let s : Leaves (4 * n) w l = subst (λ (x : ℕ). Leaves x w l) (omega (arith, kept m o h k)) r in
-    near-half n w l e s (root-from (4 * n) w 1 (leaves-root (4 * n) w l s).next-above (omega (arith, above m o lo))) u v
+    let s : IsRoot (4 * n) w = subst (λ (x : ℕ). IsRoot x w) (omega (arith, kept m o h k)) r in
+    near-half n w e s (root-from (4 * n) w 1 s.next-above (omega (arith, above m o lo))) u v

@@ -1,18 +1,13 @@
 -- The law of `whole_root`: it is the one whole number w with w * w ≤ n < (w + 1) * (w + 1). Assumes nothing.
-use Rattle.std.proofs.Common.{◌≡◌, ℕ, zero, suc, ◌+◌, ◌-◌, ◌*◌, ◌/◌, ◌^◌, ◌<◌, ◌≤◌, Bool, true, false, cond, not, T, eqb, leb, sym, refl, ap, ◌∙◌, subst, le_trans, le_of_eq, lt_of_lt_of_le, le_of_suc-le-suc, lt_irrefl, mul_assoc, mul_comm, add-mul, mul-le-mul, le_antisymm, one-mul, lt_of_not-le, mul-one, mul-add, mul_right_comm, mul_left_comm, arith, eqb→eq, leb→le}
+use Rattle.std.proofs.Common.{◌≡◌, ℕ, zero, suc, ◌+◌, ◌-◌, ◌*◌, ◌/◌, ◌^◌, ◌<◌, ◌≤◌, Bool, true, false, cond, not, T, eqb, leb, sym, refl, ap, ◌∙◌, subst, le_trans, le_of_eq, lt_of_lt_of_le, le_of_suc-le-suc, lt_irrefl, mul_assoc, add-mul, mul-le-mul, le_antisymm, one-mul, lt_of_not-le, mul-one, mul-add, mul_left_comm, arith, eqb→eq, leb→le}
 use Prim.Native.Nat.{compare, Ordering}
-use native.Mathlib.Nat.{mul-mul-mul_comm, pow-succ'}
+use native.Mathlib.Nat.{pow-succ'}
 use lib.Dec.{nleb→lt, is_le, compare_is_eq, eqb_refl}
 use lib.Arith.{lt_of_le-ne}
 use lib.Ieee.{size, nearest}
 use lib.Ieee.Digits.{size-lt}
-use Rattle.course.specs.Steps.Root.{Leaves, near_whole}
+use Rattle.course.specs.Steps.Root.{IsRoot, near_whole}
 use Rattle.course.specs.Rules.Root.{further, root_in, whole_root}
-
--- w is the whole part of the root of n
-pub record IsRoot (n w : ℕ) : Type 0 where
-  pub not-above : w * w ≤ n
-  pub next-above : n < (w + 1) * (w + 1)
 
 -- ---- squares
 pub square-next : (w : ℕ) → (w + 1) * (w + 1) ≡ w * w + 2 * w + 1
@@ -73,23 +68,6 @@ root-law n = root_in-law (size n) n (lt_of_lt_of_le (size-lt n) (grow (size n)))
 pub root_is : (n w : ℕ) → IsRoot n w → whole_root n ≡ w
 root_is n w r = one-root n (whole_root n) w (root-law n) r
 
--- ---- a root with what it leaves
-pub leaves-root : (n w l : ℕ) → Leaves n w l → IsRoot n w
-leaves-root n w l h = record { not-above = omega arith; next-above = omega (arith, square-next w) }
-
--- the two ways of a digit
-pub digit-less : (w l d : ℕ) → l ≤ 2 * w → l * 4 + d < w * 4 + 1 → Leaves (4 * (w * w + l) + d) (w * 2) (l * 4 + d)
-digit-less w l d h k = record { sum = omega (arith, square-twice w, ap (λ (x : ℕ). x * x) (two w)); less = omega arith }
-  where
-    two : (x : ℕ) → x * 2 ≡ 2 * x
-    two x = omega arith
-
-pub digit-more : (w l d : ℕ) → l ≤ 2 * w → d < 4 → w * 4 + 1 ≤ l * 4 + d → Leaves (4 * (w * w + l) + d) (w * 2 + 1) (l * 4 + d - (w * 4 + 1))
-digit-more w l d h e k = record { sum = omega (arith, square-digit w, ap (λ (x : ℕ). x * x) (two w)); less = omega arith }
-  where
-    two : (x : ℕ) → x * 2 + 1 ≡ 2 * x + 1
-    two x = omega arith
-
 -- ---- how large a root is
 pub root_below : (n w p : ℕ) → w * w ≤ n → n < p * p → w < p
 root_below n w p h k = lt_of_not-le (λ (g : p ≤ w). lt_irrefl n (lt_of_lt_of_le k (le_trans (mul-le-mul g g) h)))
@@ -143,21 +121,21 @@ compare-is Ordering.gt Ordering.eq a b h k = absurd (clash a b h k)
     clash x y u v = omega arith
 compare-is Ordering.gt Ordering.gt a b h k = refl
 
--- ---- the nearest whole number, by what the root leaves
+-- ---- the nearest whole number, by how far the root's square is below
 near-at : (n w : ℕ) (o : Ordering) → IsRoot n w → Cmp o (4 * n) ((2 * w + 1) * (2 * w + 1)) → near_whole n ≡ nearest w o
 unfolding near_whole
 near-at n w o r h =
     ap (λ (x : ℕ). nearest x (compare (4 * n) ((2 * x + 1) * (2 * x + 1)))) (root_is n w r)
     ∙ ap (λ (p : Ordering). nearest w p) (compare-is (compare (4 * n) ((2 * w + 1) * (2 * w + 1))) o (4 * n) ((2 * w + 1) * (2 * w + 1)) (cmp (4 * n) ((2 * w + 1) * (2 * w + 1))) h)
 
-near_up : (n w l : ℕ) → Leaves n w l → w < l → w + 1 ≡ near_whole n
-near_up n w l h k = one w ∙ sym (near-at n w Ordering.gt (leaves-root n w l h) (omega (arith, square-digit w, h.sum)))
+near_up : (n w : ℕ) → IsRoot n w → w * w + w < n → w + 1 ≡ near_whole n
+near_up n w r k = one w ∙ sym (near-at n w Ordering.gt r (omega (arith, square-digit w, k)))
   where
     one : (x : ℕ) → x + 1 ≡ suc x
     one x = omega arith
 
-near_down : (n w l : ℕ) → Leaves n w l → l ≤ w → w ≡ near_whole n
-near_down n w l h k = sym (near-at n w Ordering.lt (leaves-root n w l h) (omega (arith, square-digit w, h.sum)))
+near_down : (n w : ℕ) → IsRoot n w → n ≤ w * w + w → w ≡ near_whole n
+near_down n w r k = sym (near-at n w Ordering.lt r (omega (arith, square-digit w, k)))
 
 -- ---- the nearest whole number, by how far its square is from n
 near_by : (n e : ℕ) → 0 < e → n ≤ e * e + e → e * e < n + e → e ≡ near_whole n
@@ -167,48 +145,27 @@ near_by n e z h k = go (leb (e * e) n) (leb→le (e * e) n) (nleb→lt (e * e) n
     back x p = omega arith
 
     go : (b : Bool) → (T b → e * e ≤ n) → (T (not b) → n < e * e) → e ≡ near_whole n
-    go true p q = let f : e * e ≤ n = p tt in near_down n e (n - e * e) (record { sum = omega arith; less = omega arith }) (omega arith)
+    go true p q = let f : e * e ≤ n = p tt in near_down n e (record { not-above = f; next-above = omega (arith, square-next e) }) (omega arith)
     go false p q =
         let f : n < e * e = q tt in
         let s : e * e ≡ (e - 1) * (e - 1) + 2 * (e - 1) + 1 = ap (λ (x : ℕ). x * x) (sym (back e z)) ∙ square-next (e - 1) in
-        sym (back e z) ∙ near_up n (e - 1) (n - (e - 1) * (e - 1)) (record { sum = omega (arith, s); less = omega (arith, s) }) (omega (arith, s))
+        sym (back e z) ∙ near_up n (e - 1) (record { not-above = omega (arith, s); next-above = omega (arith, square-next (e - 1), s) }) (omega (arith, s))
 
 -- ---- the whole root of 4 m has one digit more than that of m: it rounds to the nearest
-half-even : (m w e l : ℕ) → w ≡ 2 * e → Leaves (4 * m) w l → 0 < e → e ≡ near_whole m
-half-even m w e l q h z =
+half-even : (m w e : ℕ) → w ≡ 2 * e → IsRoot (4 * m) w → 0 < e → e ≡ near_whole m
+half-even m w e q r z =
     let s : w * w ≡ 4 * (e * e) = ap (λ (x : ℕ). x * x) q ∙ square-twice e in
-    near_by m e z (omega (arith, s, h.sum, h.less)) (omega (arith, s, h.sum, h.less))
+    near_by m e z (omega (arith, s, square-next w, r.not-above, r.next-above)) (omega (arith, s, square-next w, r.not-above, r.next-above))
 
-half-odd : (m w e l : ℕ) → w + 1 ≡ 2 * e → Leaves (4 * m) w l → 0 < e → e ≡ near_whole m
-half-odd m w e l q h z =
+half-odd : (m w e : ℕ) → w + 1 ≡ 2 * e → IsRoot (4 * m) w → 0 < e → e ≡ near_whole m
+half-odd m w e q r z =
     let s : (w + 1) * (w + 1) ≡ 4 * (e * e) = ap (λ (x : ℕ). x * x) q ∙ square-twice e in
-    near_by m e z (omega (arith, s, square-next w, h.sum, h.less)) (omega (arith, s, square-next w, h.sum, h.less))
+    near_by m e z (omega (arith, s, square-next w, r.not-above, r.next-above)) (omega (arith, s, square-next w, r.not-above, r.next-above))
 
 -- e is half of w, rounded up
-pub near-half : (m w l e : ℕ) → Leaves (4 * m) w l → 0 < w → w ≤ 2 * e → 2 * e ≤ w + 1 → e ≡ near_whole m
-near-half m w l e h z u v = go (leb (2 * e) w) (leb→le (2 * e) w) (nleb→lt (2 * e) w)
+pub near-half : (m w e : ℕ) → IsRoot (4 * m) w → 0 < w → w ≤ 2 * e → 2 * e ≤ w + 1 → e ≡ near_whole m
+near-half m w e r z u v = go (leb (2 * e) w) (leb→le (2 * e) w) (nleb→lt (2 * e) w)
   where
     go : (b : Bool) → (T b → 2 * e ≤ w) → (T (not b) → w < 2 * e) → e ≡ near_whole m
-    go true p q = let f : 2 * e ≤ w = p tt in half-even m w e l (omega arith) h (omega arith)
-    go false p q = let f : w < 2 * e = q tt in half-odd m w e l (omega arith) h (omega arith)
-
--- ---- a square by the upper digits of its root and those that follow
-square-parts : (s d : ℕ) → (s * 4194304 + d) * (s * 4194304 + d) ≡ s * s * 17592186044416 + s * d * 8388608 + d * d
-square-parts s d =
-    omega (
-      arith,
-      add-mul (s * 4194304) d (s * 4194304 + d),
-      mul-add (s * 4194304) (s * 4194304) d,
-      mul-add d (s * 4194304) d,
-      mul-mul-mul_comm s 4194304 s 4194304,
-      mul_right_comm s 4194304 d,
-      mul_comm d (s * 4194304),
-    )
-
--- the upper digits s leave e, and d follows
-pub leaves-parts : (s e d t l : ℕ) → t + s * d ≡ e * 2097152 → l + d * d ≡ t * 8388608 → l ≤ s * 8388608 + d * 2 → Leaves ((s * s + e) * 17592186044416) (s * 4194304 + d) l
-leaves-parts s e d t l p q h = record { sum = omega (arith, square-parts s d); less = omega arith }
-
--- 2 ^ 10 of the 2 ^ 54
-pub leaves_of : (n x w l : ℕ) → x ≡ n * 1024 → Leaves (x * 17592186044416) w l → Leaves (n * 18014398509481984) w l
-leaves_of n x w l e h = subst (λ (y : ℕ). Leaves y w l) (omega arith) h
+    go true p q = let f : 2 * e ≤ w = p tt in half-even m w e (omega arith) r (omega arith)
+    go false p q = let f : w < 2 * e = q tt in half-odd m w e (omega arith) r (omega arith)

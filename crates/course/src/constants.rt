@@ -2,6 +2,9 @@
 ghost use Rattle.std.specs.Prelude.{◌≡◌, ◌≤◌};
 ghost use Rattle.course.specs.Rules.Lengths.{most_points, column_length};
 
+// H of document 01, and the Rust's `tau`.
+pub use std::f64::consts::{FRAC_PI_2 as HALF_PI, PI, TAU};
+
 pub const SCALE: f64 = 6.0;
 
 pub const TRACK_RAD: f64 = 900.0 / SCALE;
@@ -24,19 +27,6 @@ pub const GRID_CELL: f64 = 10.0;
 pub const FAR_RAD: f64 = 1.5 * TRACK_RAD;
 
 pub const MAX_ATTEMPTS: u32 = 64;
-
-// `f64::MAX` and `f64::MIN`.
-pub const MAX: f64 = 1.7976931348623157e308;
-
-pub const MIN: f64 = -1.7976931348623157e308;
-
-// H of document 01.
-pub const HALF_PI: f64 = 1.5707963267948966;
-
-// `std::f64::consts::PI`, and the Rust's `tau`.
-pub const PI: f64 = 3.14159265358979323846264338327950288;
-
-pub const TAU: f64 = 2.0 * PI;
 
 // The grid's cells in a row, its rows, and all its cells.
 pub const GRID_DIM: usize = 67;

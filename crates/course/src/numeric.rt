@@ -2,42 +2,34 @@
 ghost use Rattle.std.specs.Prelude.{◌≡◌, false, is_nan};
 ghost use Rattle.course.specs.Rules.Numeric.{abs_of, min_of, max_of, least_of, greatest_of, clamp_of, signum_of, within};
 
-use crate::constants::{MAX, MIN};
-
-// x with its sign cleared; 0 - x is 0 for both zeros. One choice compiles to no branch.
+// x with its sign cleared.
 pub fn abs(x: f64) -> f64
     ensures { result ≡ abs_of x }
 {
-    if x <= 0.0 { 0.0 - x } else { x }
+    x.abs()
 }
 
 // The lesser of two; the other where one is NaN.
+// Kept beside `f64::min`, whose contract leaves it open which of two equal ones it gives, as 0 and -0.
+#[tactic(auto, unfolding(crate::specs::Rules::Numeric::min_of))]
 pub fn min(a: f64, b: f64) -> f64
     ensures { result ≡ min_of a b }
 {
-    if b < a {
-        return b;
-    }
-    if a != a {
-        return b;
-    }
-    a
+    if a.is_nan() { b } else { lesser(a, b) }
 }
 
 // The greater of two; the other where one is NaN.
+// Kept beside `f64::max`, which leaves the same open.
+#[tactic(auto, unfolding(crate::specs::Rules::Numeric::max_of))]
 pub fn max(a: f64, b: f64) -> f64
     ensures { result ≡ max_of a b }
 {
-    if a < b {
-        return b;
-    }
-    if a != a {
-        return b;
-    }
-    a
+    if a.is_nan() { b } else { greater(a, b) }
 }
 
 // The least so far, and a number: the lesser, a NaN passed over.
+// Kept as a pair with `greater`, as the library has `min` and `max`: they compare in opposite order, and one function for both
+// would branch on which of them it is.
 fn lesser(least: f64, x: f64) -> f64
     requires { is_nan least ≡ false }
     ensures value { result ≡ min_of least x }
@@ -56,54 +48,41 @@ fn greater(greatest: f64, x: f64) -> f64
 }
 
 // The least of four numbers, a NaN passed over.
+// Kept as a pair with `greatest`: they start from opposite ends, and differ by `lesser` and `greater`.
 pub fn least(a: f64, b: f64, c: f64, d: f64) -> f64
     ensures { result ≡ least_of a b c d }
 {
-    lesser(lesser(lesser(lesser(MAX, a), b), c), d)
+    lesser(lesser(lesser(lesser(f64::MAX, a), b), c), d)
 }
 
 // The greatest of four numbers, a NaN passed over.
 pub fn greatest(a: f64, b: f64, c: f64, d: f64) -> f64
     ensures { result ≡ greatest_of a b c d }
 {
-    greater(greater(greater(greater(MIN, a), b), c), d)
+    greater(greater(greater(greater(f64::MIN, a), b), c), d)
 }
 
 // x, raised to lo, then lowered to hi.
+// Kept beside `f64::clamp`, which asks that lo is at most hi.
+#[tactic(auto, unfolding(crate::specs::Rules::Numeric::clamp_of))]
 pub fn clamp(x: f64, lo: f64, hi: f64) -> f64
     ensures { result ≡ clamp_of x lo hi }
 {
-    if x < lo {
-        if hi < lo {
-            return hi;
-        }
-        return lo;
-    }
-    if hi < x {
-        return hi;
-    }
-    x
+    let raised = if x < lo { lo } else { x };
+    if hi < raised { hi } else { raised }
 }
 
 // 1 with the sign of x, also of 0 and -0; NaN gives NaN.
 pub fn signum(x: f64) -> f64
     ensures { result ≡ signum_of x }
 {
-    if x != x {
-        return x;
-    }
-    if x < 0.0 {
-        return -1.0;
-    }
-    if 1.0 / x < 0.0 {
-        return -1.0;
-    }
-    1.0
+    x.signum()
 }
 
 // Whether x is finite and from -bound to bound.
+#[tactic(auto, unfolding(crate::specs::Rules::Numeric::within))]
 pub fn inside(x: f64, bound: f64) -> bool
     ensures { result ≡ within bound x }
 {
-    if -bound <= x { x <= bound } else { false }
+    -bound <= x && x <= bound
 }

@@ -1,77 +1,33 @@
 // The square root of every f64, correctly rounded (document 01, "Stand-ins"), in whole numbers alone: from the bits to a whole
 // significand and a power of two, from those to the significand's whole root with a digit to spare, and that digit rounds it.
-ghost use Rattle.std.specs.Prelude.{◌≡◌, ◌+◌, ◌*◌, ◌/◌, ◌%◌, ◌^◌, ◌<◌, ◌≤◌, true, from_bits};
+// Kept beside the library's `f64::sqrt`: document 01 names this form, a root from the bits by an integer root.
+ghost use Rattle.std.specs.Prelude.{◌≡◌, ◌+◌, ◌*◌, ◌/◌, ◌%◌, ◌^◌, ◌<◌, ◌≤◌, IfSome, from_bits};
 ghost use Rattle.course.specs.Rules.Root.{nearest_root, sqrt_of};
 ghost use Rattle.std.specs.Float.{binary64};
-ghost use Rattle.course.specs.Steps.Root.{units_of, significand, power, Scaled, Leaves};
+ghost use Rattle.course.specs.Steps.Root.{units_of, significand, power, Scaled, IsRoot};
 
 // The weight of a significand's leading digit, and so of the exponent's field; and that of the sign.
-const LEAD: u64 = 0x10_0000_0000_0000;
+const LEAD: u64 = 1 << 52;
 
-const SIGN: u64 = 0x8000_0000_0000_0000;
+const SIGN: u64 = 1 << 63;
 
 // The bits of the infinity: those of a finite number are below it, and those of a negative one above.
-const INFINITY: u64 = 0x7ff0_0000_0000_0000;
+const INFINITY: u64 = f64::to_bits(f64::INFINITY);
 
 // 2^32, which both factors of a product are below.
-const WORD: u64 = 0x1_0000_0000;
+const WORD: u64 = 1 << 32;
 
 // What the start of a guess is taken from: a little less than 2^54.
 const START: u64 = 4 * LEAD - 0x400_0000_0000;
 
-// `whole` is the whole part of the root of a number n, and `left` is n less its square.
-#[derive(Clone, Copy)]
-struct Root {
-    whole: u64,
-    left: u64,
-}
-
-// From n's root to that of 4n + d: one binary digit more.
-fn digit(r: Root, d: u64) -> Root
-    requires { (r.left ≤ 2 * r.whole) × (r.whole < 9007199254740992) × (d < 4) }
-    ensures { Leaves (4 * (r.whole * r.whole + r.left) + d) result.whole result.left }
-{
-    let v = r.left * 4 + d;
-    let t = r.whole * 4 + 1;
-    if v < t {
-        Root {
-            whole: r.whole * 2,
-            left: v,
-        }
-    } else {
-        Root {
-            whole: r.whole * 2 + 1,
-            left: v - t,
-        }
-    }
-}
-
-// The root of an n below 2^54, two of n's binary digits at a time.
-fn root_of(n: u64) -> Root
+// The root of n * 4^27, by bisection. Hardly a root takes it, and it is kept out of the way of those that don't.
+#[cold]
+#[inline(never)]
+fn bisected(n: u64) -> u64
     requires { n < 18014398509481984 }
-    ensures { Leaves n result.whole result.left }
+    ensures { IsRoot (n * 18014398509481984) result }
 {
-    let mut r = Root { whole: 0, left: 0 };
-    let mut s: u64 = 54;
-    while s > 0 {
-        s -= 2;
-        r = digit(r, (n >> s) % 4);
-    }
-    r
-}
-
-// The root of n * 4^27: the 27 pairs of n's digits, then 27 pairs of zeros.
-fn by_digits(n: u64) -> Root
-    requires { n < 18014398509481984 }
-    ensures { Leaves (n * 18014398509481984) result.whole result.left }
-{
-    let mut r = root_of(n);
-    let mut i: u64 = 0;
-    while i < 27 {
-        r = digit(r, 0);
-        i += 1;
-    }
-    r
+    (u128::from(n) * 0x40_0000_0000_0000).isqrt() as u64
 }
 
 // The product of two numbers of 32 digits.
@@ -82,27 +38,19 @@ fn product(a: u64, b: u64) -> u64
     a * b
 }
 
-// 32 digits of a product, from digit 31 on.
-fn from_31(a: u64, b: u64) -> u64
-    requires { (a < 4294967296) × (b < 4294967296) }
+// 32 digits of a product, from digit CUT on.
+fn from_digit<const CUT: u32>(a: u64, b: u64) -> u64
+    requires { (a < 4294967296) × (b < 4294967296) × (CUT < 64) }
     ensures { result < 4294967296 }
 {
-    product(a, b) / 0x8000_0000 % WORD
-}
-
-// The upper 32 digits of a product.
-fn from_32(a: u64, b: u64) -> u64
-    requires { (a < 4294967296) × (b < 4294967296) }
-    ensures { result < 4294967296 }
-{
-    product(a, b) / WORD % WORD
+    (product(a, b) >> CUT) % WORD
 }
 
 // a less b, modulo 2^32.
 fn less(a: u64, b: u64) -> u64
     ensures { result < 4294967296 }
 {
-    std::num::wrapping_sub_u64(a, b) % WORD
+    a.wrapping_sub(b) % WORD
 }
 
 // A root and its inverse, in units of 2^-31.
@@ -120,88 +68,71 @@ fn guess(a: u64, y: u64) -> Estimate
     requires { (a < 4294967296) × (y < 4294967288) }
     ensures { (result.root < 4294967296) × (result.inverse < 4294967296) }
 {
-    let w = from_31(a, y);
-    let q = from_32(w, y);
-    let f = less(0x1_87b9_d99d, from_31(less(0x1_319b_78ab, q / 2), q));
-    let g = (0x7d7b_7ebe + from_31(less(q, 0x29c7_620b), q)) % WORD;
-    let h = less(0xef5e_28d9, from_32(less(0x1_56c8_48b2, q), q));
-    let t = from_32(g, from_31(f, h));
+    let w = from_digit::<31>(a, y);
+    let q = from_digit::<32>(w, y);
+    let f = less(
+        0x1_87b9_d99d,
+        from_digit::<31>(less(0x1_319b_78ab, q / 2), q),
+    );
+    let g = (0x7d7b_7ebe + from_digit::<31>(less(q, 0x29c7_620b), q)) % WORD;
+    let h = less(0xef5e_28d9, from_digit::<32>(less(0x1_56c8_48b2, q), q));
+    let t = from_digit::<32>(g, from_digit::<31>(f, h));
     Estimate {
-        root: from_31(w, t),
-        inverse: from_32(y + 8, t),
+        root: from_digit::<31>(w, t),
+        inverse: from_digit::<32>(y + 8, t),
     }
 }
 
-// Whether a number is the whole root, and what it leaves where it is.
-#[derive(Clone, Copy)]
-struct Verdict {
-    ok: bool,
-    left: u64,
-}
-
-// Whether s * 2^22 + d is the whole root of a * 2^44, for an a that is the square of s and e more. What it leaves is
+// s * 2^22 + d where it is the whole root of a * 2^44, for an a that is the square of s and e more. What it leaves is
 // (e * 2^21 - s * d) * 2^23 - d^2. A difference below zero wraps to one that is far too large.
-fn tested(s: u64, e: u64, d: u64) -> Verdict
+fn tested(s: u64, e: u64, d: u64) -> Option<u64>
     requires { (s < 4294967296) × (e < 137438953472) × (d ≤ 268435456) }
-    ensures { result.ok ≡ true → Leaves ((s * s + e) * 17592186044416) (s * 4194304 + d) result.left }
+    ensures { IfSome result (λ w. IsRoot ((s * s + e) * 17592186044416) w) }
 {
-    let t = std::num::wrapping_sub_u64(e * 0x20_0000, product(s, d));
+    let t = (e * 0x20_0000).wrapping_sub(product(s, d));
     if 0x100_0000_0000 <= t {
-        return Verdict { ok: false, left: 0 };
+        return None;
     }
-    let left = std::num::wrapping_sub_u64(t * 0x80_0000, product(d, d));
-    Verdict {
-        ok: left <= s * 0x80_0000 + d * 2,
-        left: left,
+    let left = (t * 0x80_0000).wrapping_sub(product(d, d));
+    if left <= s * 0x80_0000 + d * 2 {
+        Some(s * 0x40_0000 + d)
+    } else {
+        None
     }
 }
 
-// The root of n * 4^27 where s * 2^22 + d is not it: one of the neighbours, or else by digits.
-fn mended(n: u64, s: u64, e: u64, d: u64) -> Root
+// The root of n * 4^27 where s * 2^22 + d is not it: one of the neighbours, or else by bisection.
+fn mended(n: u64, s: u64, e: u64, d: u64) -> u64
     requires { (n < 18014398509481984) × (s * s + e ≡ n * 1024) × (s < 4294967296)
         × (e < 137438953472) × (d < 268435456) }
-    ensures { Leaves (n * 18014398509481984) result.whole result.left }
+    ensures { IsRoot (n * 18014398509481984) result }
 {
-    let below = std::num::wrapping_sub_u64(d, 1) % 0x1000_0000;
-    let t = tested(s, e, below);
-    if t.ok {
-        return Root {
-            whole: s * 0x40_0000 + below,
-            left: t.left,
-        };
+    if let Some(w) = tested(s, e, d.wrapping_sub(1) % 0x1000_0000) {
+        return w;
     }
-    let above = d + 1;
-    let u = tested(s, e, above);
-    if u.ok {
-        return Root {
-            whole: s * 0x40_0000 + above,
-            left: u.left,
-        };
+    if let Some(w) = tested(s, e, d + 1) {
+        return w;
     }
-    by_digits(n)
+    bisected(n)
 }
 
 // The root of n * 4^27. s is a guess at its upper digits, e is what s leaves, and d are the digits that follow from that. They are
-// taken if they or a neighbour are tested, and else all digits are worked out.
+// taken if they or a neighbour are tested, and else the root is looked for without the guess.
 // l is to be such that 1 - l / 2^54 is near the inverse root of n / 2^52; any other costs only time.
-fn whole_root(n: u64, l: u64) -> Root
+fn whole_root(n: u64, l: u64) -> u64
     requires { (4503599627370496 ≤ n) × (n < 18014398509481984) × (l < 9007199254740992) }
-    ensures { Leaves (n * 18014398509481984) result.whole result.left }
+    ensures { IsRoot (n * 18014398509481984) result }
 {
     let a = n * 1024;
     let g = guess(a / WORD, (START - l) / 0x40_0000);
     let s = g.root;
-    let e = std::num::wrapping_sub_u64(a, product(s, s));
+    let e = a.wrapping_sub(product(s, s));
     if 0x20_0000_0000 <= e {
-        return by_digits(n);
+        return bisected(n);
     }
     let d = product(e / 32, g.inverse) / 0x10_0000_0000;
-    let t = tested(s, e, d);
-    if t.ok {
-        return Root {
-            whole: s * 0x40_0000 + d,
-            left: t.left,
-        };
+    if let Some(w) = tested(s, e, d) {
+        return w;
     }
     mended(n, s, e, d)
 }
@@ -221,14 +152,9 @@ fn scaled(b: u64) -> Normal
     if LEAD <= b {
         return Normal { bits: b, fours: 0 };
     }
-    let mut m = b;
-    let mut h: u64 = 1074;
-    while m < LEAD {
-        m = m * 2;
-        h -= 1;
-    }
+    let up = b.leading_zeros() - 11;
     Normal {
-        bits: (h - 1020) * LEAD + m,
+        bits: (54 - up as u64) * LEAD + (b << up),
         fours: 27,
     }
 }
@@ -243,8 +169,8 @@ fn root_bits(b: u64, k: u64) -> u64
 {
     let l = (b + LEAD) % (2 * LEAD);
     let n = (LEAD + b % LEAD) << (l / LEAD);
-    let r = whole_root(n, l);
-    ((b / LEAD + 1021) / 2 - k) * LEAD + (r.whole + 1) / 2
+    let w = whole_root(n, l);
+    ((b / LEAD + 1021) / 2 - k) * LEAD + (w + 1) / 2
 }
 
 // The square root, as IEEE 754 has it. The infinity and the zeros are their own roots, and there is none below zero.
@@ -254,7 +180,7 @@ pub fn sqrt(x: f64) -> f64
     if x != x {
         return x;
     }
-    let b = f64::to_bits(x);
+    let b = x.to_bits();
     if INFINITY <= b {
         if b <= SIGN {
             return x;

@@ -8,8 +8,9 @@ ghost use Rattle.course.specs.Grader.Angle.{angle_cause, sine_call, cosine_call,
 ghost use Rattle.course.specs.Steps.Numbers.{Bounded, whole_at, turns_at, OfAngle, sin_cos_as};
 
 use crate::cause::Cause;
-use crate::constants::HALF_PI;
+use crate::constants::{HALF_PI, PI};
 use crate::numeric;
+use std::f64::consts::FRAC_PI_4;
 
 const S3: f64 = -1.0 / 6.0;
 
@@ -130,20 +131,16 @@ fn near_whole(v: f64) -> Turns
             quarter: w.n % 4,
         };
     }
-    let x = -v;
-    let w = whole_part(x);
-    let n = w.n;
-    let f = w.f;
-    if f < x {
-        let g = std::num::nearest_u64_to_f64(n + 1);
+    let w = whole_part(-v);
+    if w.f < -v {
         return Turns {
-            k: -g,
-            quarter: 3 - n % 4,
+            k: -std::num::nearest_u64_to_f64(w.n + 1),
+            quarter: 3 - w.n % 4,
         };
     }
     Turns {
-        k: -f,
-        quarter: (4 - n % 4) % 4,
+        k: -w.f,
+        quarter: (4 - w.n % 4) % 4,
     }
 }
 
@@ -171,11 +168,8 @@ pub(crate) fn quarter_turns_from(a: f64, t: Turns) -> Turns
     ensures { result ≡ turns_at (turns_of a) }
 {
     let v = a / HALF_PI + 0.5;
-    let k = t.k;
-    if k <= v {
-        if v < k + 1.0 {
-            return t;
-        }
+    if t.k <= v && v < t.k + 1.0 {
+        return t;
     }
     whole_below(v)
 }
@@ -189,17 +183,12 @@ pub(crate) fn turned(a: f64, t: Turns) -> SinCos
     let r = a - t.k * HALF_PI;
     let s = sine_poly(r);
     let c = cosine_poly(r);
-    let q = t.quarter;
-    if q == 0 {
-        return SinCos { cos: c, sin: s };
+    match t.quarter {
+        0 => SinCos { cos: c, sin: s },
+        1 => SinCos { cos: -s, sin: c },
+        2 => SinCos { cos: -c, sin: -s },
+        _ => SinCos { cos: s, sin: -c },
     }
-    if q == 1 {
-        return SinCos { cos: -s, sin: c };
-    }
-    if q == 2 {
-        return SinCos { cos: -c, sin: -s };
-    }
-    SinCos { cos: s, sin: -c }
 }
 
 // Cosine and sine of a.
@@ -247,47 +236,36 @@ fn arc_tangent(t: f64) -> f64
     ensures { result ≡ arc_of t }
 {
     if t > 0.41421356237309503 {
-        return arc_from(0.7853981633974483, (t - 1.0) / (t + 1.0));
+        arc_from(FRAC_PI_4, (t - 1.0) / (t + 1.0))
+    } else {
+        arc_from(0.0, t)
     }
-    arc_from(0.0, t)
 }
 
 // The smaller over the larger of two magnitudes.
 fn ratio(ay: f64, ax: f64) -> f64
     ensures { result ≡ ratio_of ay ax }
 {
-    if ay > ax {
-        return ax / ay;
-    }
-    ay / ax
+    if ay > ax { ax / ay } else { ay / ax }
 }
 
 // The angle A in the half where |y| > |x|.
 fn steepened(ay: f64, ax: f64, a: f64) -> f64
     ensures { result ≡ steep_of ay ax a }
 {
-    if ay > ax {
-        return HALF_PI - a;
-    }
-    a
+    if ay > ax { HALF_PI - a } else { a }
 }
 
 fn reflected(x: f64, a: f64) -> f64
     ensures { result ≡ leftward x a }
 {
-    if x < 0.0 {
-        return 3.141592653589793 - a;
-    }
-    a
+    if x < 0.0 { PI - a } else { a }
 }
 
 fn signed(y: f64, a: f64) -> f64
     ensures { result ≡ downward y a }
 {
-    if y < 0.0 {
-        return -a;
-    }
-    a
+    if y < 0.0 { -a } else { a }
 }
 
 // The angle of (x, y), not both zero.
@@ -304,13 +282,11 @@ fn direction(y: f64, x: f64) -> f64
 pub(crate) fn angle_of(y: f64, x: f64) -> f64
     ensures { result ≡ atan2_of y x }
 {
-    if y == 0.0 {
-        if x == 0.0 {
-            return 0.0;
-        }
-        return direction(y, x);
+    if y == 0.0 && x == 0.0 {
+        0.0
+    } else {
+        direction(y, x)
     }
-    direction(y, x)
 }
 
 // The angle of (x, y), each at most 1,000,000 in size.

@@ -24,10 +24,10 @@ pub record Scaled (n b k : ℕ) : Type 0 where
   pub few : k ≤ 27
   pub room : 2 * k ≤ 51 + b / 4503599627370496
 
--- w is the whole part of the root of n, and l is what w's square leaves of n
-pub record Leaves (n w l : ℕ) : Type 0 where
-  pub sum : w * w + l ≡ n
-  pub less : l ≤ 2 * w
+-- w is the whole part of the root of n
+pub record IsRoot (n w : ℕ) : Type 0 where
+  pub not-above : w * w ≤ n
+  pub next-above : n < (w + 1) * (w + 1)
 
 -- The whole number nearest to the root of n, which lies between r and r + 1. Halfway is (2 * r + 1) / 2: four times its square stands beside four times n.
 -- `nearest` takes r below it, r + 1 above it, and the even one at it.

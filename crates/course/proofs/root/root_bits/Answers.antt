@@ -14,27 +14,24 @@ half b k = (b / 4503599627370496 + 1021) / 2 - k
 halved : (b k : ℕ) → 2 * k ≤ 51 + b / 4503599627370496 → odd b + 52 + (half b k + half b k) ≡ power b k
 halved b k h = omega arith
 
-pub whole_root-r-requires : goal.whole_root-r-requires
-whole_root-r-requires c =
+pub whole_root-w-requires : goal.whole_root-w-requires
+whole_root-w-requires c =
     let b = c.args.b in
     (reaches (significand b) (odd b) (omega arith) (omega arith) (omega arith), shifted (significand b) (odd b) (omega arith) (omega arith), omega arith)
 
 pub overflow_add-result-2 : goal.overflow_add-result-2
 overflow_add-result-2 c =
     let b = c.args.b in
-    let r = c.whole_root-r.result in
-    omega (arith, root-small (significand b) (odd b) r.whole r.left (omega arith) (omega arith) c.whole_root-r.ensures)
+    omega (arith, root-small (significand b) (odd b) c.whole_root-w.result (omega arith) (omega arith) c.whole_root-w.ensures)
 
 pub overflow_add-result-3 : goal.overflow_add-result-3
 overflow_add-result-3 c =
     let b = c.args.b in
-    let r = c.whole_root-r.result in
-    omega (arith, root-small (significand b) (odd b) r.whole r.left (omega arith) (omega arith) c.whole_root-r.ensures)
+    omega (arith, root-small (significand b) (odd b) c.whole_root-w.result (omega arith) (omega arith) c.whole_root-w.ensures)
 
 pub returns : goal.returns
 returns c =
     let b = c.args.b in
     let k = c.args.k in
-    let r = c.whole_root-r.result in
     bits_at (significand b) (odd b) (half b k) (power b k) _ (omega arith) (omega arith) (omega arith) (halved b k (omega arith)) (omega arith)
-    (rounded (significand b) (odd b) r.whole r.left _ (omega arith) (omega arith) (omega arith) c.whole_root-r.ensures (omega arith) (omega arith))
+    (rounded (significand b) (odd b) c.whole_root-w.result _ (omega arith) (omega arith) (omega arith) c.whole_root-w.ensures (omega arith) (omega arith))

@@ -1,68 +1,57 @@
--- `course::root::scaled` meets its contract. The invariant of the loop: m * 2 ^ h stays the same number. Assumes nothing.
-use Rattle.std.proofs.Common.{◌≡◌, ℕ, suc, ◌-◌, ◌*◌, ◌^◌, ◌<◌, ◌≤◌, sym, refl, ap, ◌∙◌, lt_of_lt_of_le, lt_irrefl, mul_assoc, lt_of_not-le, arith, lit≤, pow_mono}
-use native.Mathlib.Nat.{pow-succ'}
+-- `course::root::scaled` meets its contract: what the leading zeros leave has 53 digits. Assumes nothing.
+use Rattle.std.proofs.Common.{◌≡◌, ℕ, suc, ◌+◌, ◌-◌, ◌*◌, ◌/◌, ◌%◌, ◌^◌, ◌<◌, ◌≤◌, sym, ap, ◌∙◌, subst, lt_of_lt_of_le, lt_of_not-le, lt_irrefl, le_trans, mul_assoc, mul-le-mul_right, arith, pow_mono, pow-add, shl_lt}
+use Rattle.std.proofs.lemmas.Nat.{leading_top}
+use lib.Count.{count_leading_zeros}
+use Rattle.course.specs.Steps.Root.{units_of, Scaled}
 use Rattle.course.proofs.RootFields.{as-it-is, brought}
 use Rattle.course.proofs.root.scaled.Goals as goal
 
--- a turn
-above : (m h : ℕ) → 2 ^ (1074 - h) ≤ m → m < 4503599627370496 → 1022 < h
-above m h p q = go (lt_of_not-le (λ (g : 52 ≤ 1074 - h). lt_irrefl m (lt_of_lt_of_le q (le (pow_mono g)))))
+-- b, brought up by its leading zeros but eleven
+record Up (b z : ℕ) : Type 0 where
+  enough : 11 < z
+  few : z < 64
+  high : 4503599627370496 ≤ b * 2 ^ (z - 11)
+  low : b * 2 ^ (z - 11) < 9007199254740992
+
+up : (b : ℕ) → 0 < b → b < 4503599627370496 → Up b (count_leading_zeros 64 b)
+up b p h = go (count_leading_zeros 64 b) (leading_top 64 b p (omega arith))
   where
-    le : 2 ^ 52 ≤ 2 ^ (1074 - h) → 4503599627370496 ≤ m
-    le g = omega (arith, p, g)
+    go : (z : ℕ) → (j : ℕ) × (z + suc j ≡ 64) × (2 ^ j ≤ b) × (b < 2 ^ suc j) → Up b z
+    go z (j, e, l, u) =
+        let s : j < 52 = lt_of_not-le (λ (g : 52 ≤ j). lt_irrefl b (lt_of_lt_of_le h (le_trans (pow_mono g) l))) in
+        let k : j + (z - 11) ≡ 52 = omega arith in
+        let k1 : suc j + (z - 11) ≡ 53 = omega arith in
+        record {
+          enough = omega arith;
+          few = omega arith;
+          high = subst (λ (i : ℕ). 2 ^ i ≤ b * 2 ^ (z - 11)) k (subst (λ (i : ℕ). i ≤ b * 2 ^ (z - 11)) (sym (pow-add 2 j (z - 11))) (mul-le-mul_right (2 ^ (z - 11)) l));
+          low = subst (λ (i : ℕ). b * 2 ^ (z - 11) < 2 ^ i) k1 (shl_lt (suc j) (z - 11) u);
+        }
 
-    go : 1074 - h < 52 → 1022 < h
-    go g = omega arith
-
-halve : (h : ℕ) → 0 < h → 2 ^ h ≡ 2 * 2 ^ (h - 1)
-halve h p = ap (λ (k : ℕ). 2 ^ k) (pred h p) ∙ pow-succ' 2 (h - 1)
+same : (b u : ℕ) → u ≤ 1074 → b * 2 ^ u * 2 ^ (1074 - u) ≡ b * 2 ^ 1074
+same b u h = mul_assoc b (2 ^ u) (2 ^ (1074 - u)) ∙ ap (λ (x : ℕ). b * x) (sym (pow-add 2 u (1074 - u)) ∙ ap (λ (i : ℕ). 2 ^ i) (all u h))
   where
-    pred : (k : ℕ) → 0 < k → k ≡ suc (k - 1)
-    pred k g = omega arith
-
-doubled : (m h : ℕ) → 0 < h → m * 2 * 2 ^ (h - 1) ≡ m * 2 ^ h
-doubled m h p = mul_assoc m 2 (2 ^ (h - 1)) ∙ ap (λ (k : ℕ). m * k) (sym (halve h p))
-
-twice : (m h : ℕ) → 0 < h → h ≤ 1074 → 2 ^ (1074 - h) ≤ m → 2 ^ (1074 - (h - 1)) ≤ m * 2
-twice m h p q g =
-    let e : 2 ^ (1074 - (h - 1)) ≡ 2 * 2 ^ (1074 - h) = ap (λ (k : ℕ). 2 ^ k) (one h p q) ∙ pow-succ' 2 (1074 - h) in
-    omega arith
-  where
-    one : (k : ℕ) → 0 < k → k ≤ 1074 → 1074 - (k - 1) ≡ suc (1074 - k)
-    one k a b = omega arith
+    all : (i : ℕ) → i ≤ 1074 → i + (1074 - i) ≡ 1074
+    all i g = omega arith
 
 pub returns-then-b-ge-LEAD : goal.returns-then-b-ge-LEAD
 returns-then-b-ge-LEAD c = as-it-is c.args.b (omega arith) (omega arith)
 
-pub loop-m-init : goal.loop-m-init
-loop-m-init c = (refl, omega arith, omega arith, lit≤ tt, lit≤ tt)
-
-pub overflow_mul-m : goal.overflow_mul-m
-overflow_mul-m c = omega arith
-
-pub overflow_sub-h : goal.overflow_sub-h
-overflow_sub-h c = omega arith
-
-pub loop-m-smaller : goal.loop-m-smaller
-loop-m-smaller c = omega arith
-
-pub loop-m-preserved : goal.loop-m-preserved
-loop-m-preserved c =
-    let l = c.loop-m in
-    let p : 1022 < l.h = above l.m l.h l.invariant.1 c.loop-m-test.true in
-    let z : 0 < l.h = omega arith in
-    (doubled l.m l.h z ∙ l.invariant.0, twice l.m l.h z l.invariant.4 l.invariant.1, omega arith, omega arith, omega arith)
-
-pub overflow_sub-result : goal.overflow_sub-result
-overflow_sub-result c = omega (arith, c.loop-m.invariant)
-
-pub overflow_mul-result : goal.overflow_mul-result
-overflow_mul-result c = omega (arith, c.loop-m.invariant)
+pub overflow_sub-up : goal.overflow_sub-up
+overflow_sub-up c = omega (arith, (up c.args.b (omega arith) (omega arith)).enough)
 
 pub overflow_add-result : goal.overflow_add-result
-overflow_add-result c = omega (arith, c.loop-m.invariant)
+overflow_add-result c =
+    let z = count_leading_zeros 64 c.args.b in
+    let u : Up c.args.b z = up c.args.b (omega arith) (omega arith) in
+    omega (arith, u.low)
 
 pub returns : goal.returns
 returns c =
-    let l = c.loop-m in
-    brought c.args.b l.m l.h (omega arith) l.invariant.0 (omega arith) l.invariant.2 l.invariant.3 l.invariant.4
+    let b = c.args.b in
+    let z = count_leading_zeros 64 b in
+    let u : Up b z = up b (omega arith) (omega arith) in
+    let m = b * 2 ^ (z - 11) in
+    let bits : (1074 - (z - 11) - 1020) * 4503599627370496 + m ≡ (54 - (z - 11)) * 4503599627370496 + m % 18446744073709551616 = omega (arith, u.low, u.few) in
+    subst (λ (x : ℕ). Scaled (units_of (b / 4503599627370496) (b % 4503599627370496)) x 27) bits
+    (brought b m (1074 - (z - 11)) (omega arith) (same b (z - 11) (omega (arith, u.few))) u.high u.low (omega (arith, u.few)) (omega (arith, u.enough)))
