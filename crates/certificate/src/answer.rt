@@ -63,6 +63,7 @@ fn put_zeros(numbers: &mut [f64])
 }
 
 // The answer to a drive.
+#[tactic(auto, unfolding(crate::specs::Grader::CallColumns::words_of, crate::specs::Grader::CallColumns::numbers_of))]
 pub(crate) fn put_drive(answer: Result<[Force; 4], Cause>, words: &mut [u32], numbers: &mut [f64])
     requires words_len { length words.old ≡ 4 }
     requires numbers_len { length numbers.old ≡ 12 }
@@ -103,6 +104,7 @@ fn flags(off: bool, lap: bool, ended: bool) -> u32
 }
 
 // The answer to a settle.
+#[tactic(auto, unfolding(crate::specs::Grader::CallColumns::words_of, crate::specs::Grader::CallColumns::numbers_of))]
 pub(crate) fn put_settle(
     answer: Result<SettleValues, Cause>,
     words: &mut [u32],
