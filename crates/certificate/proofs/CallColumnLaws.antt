@@ -11,7 +11,6 @@ use lib.ListN.{length, get_or, replicate, take, drop, length-append, length-drop
 use lib.Seq.{take_at, drop_at, drop-drop, length-take-le}
 use lib.Ieee.{Float}
 use Rattle.course.specs.Rules.Arithmetic.{nought}
-use Rattle.course.specs.Rules.Counting.{digit}
 use Rattle.run.specs.Grader.State.{State, Columns, columns}
 use Rattle.run.specs.Grader.Drive.{Driven, driven, drive_of}
 use Rattle.run.specs.Grader.Settle.{AfterSettle, after_settle, settle_of}
@@ -27,8 +26,7 @@ use Rattle.certificate.specs.Rules.Answers.Answer.{drove, settled, refused}
 use Rattle.run.specs.declared.state.Pose.{Pose}
 use Rattle.run.specs.declared.dynamics.Motion.{Motion}
 use Rattle.run.specs.Rules.Pass.{no_forces}
-use Rattle.std.specs.Prelude.{Result, Ok, Err}
-use Rattle.course.specs.Grader.Cause.{number_of}
+use Rattle.std.specs.Prelude.{Result}
 use Rattle.course.specs.declared.cause.Cause.{Cause}
 use Rattle.run.specs.declared.settle.SettleValues.{SettleValues}
 use Rattle.run.specs.declared.dynamics.Force.{Force}
@@ -39,36 +37,6 @@ use Rattle.run.specs.declared.dynamics.Force.{Force}
 pub no-numbers : force_numbers no_forces ≡ replicate answer_numbers nought
 unfolding force_numbers
 no-numbers = refl
-
--- what is written for each case of an answer
-abbrev DriveWritten : Result (List Force) Cause → List ℕ → List Float → Type 0
-DriveWritten r ws ns = (ws ≡ words_of (drive_said r)) × (ns ≡ numbers_of (drive_said r))
-
-pub written-forces : (r : Result (List Force) Cause) (fs : List Force) (ws : List ℕ) (ns : List Float) → r ≡ Ok fs
-    → ws ≡ 0 ∷ 0 ∷ 0 ∷ 0 ∷ [] → ns ≡ force_numbers fs → DriveWritten r ws ns
-unfolding words_of numbers_of
-written-forces r fs ws ns e h k = subst (λ (x : Result (List Force) Cause). DriveWritten x ws ns) (sym e) (h, k)
-
-pub written-not-driven : (r : Result (List Force) Cause) (ws : List ℕ) (ns : List Float) (c : Cause) (k : ℕ) → r ≡ Err c → k ≡ number_of c
-    → ws ≡ 2 ∷ k ∷ 0 ∷ 0 ∷ [] → ns ≡ replicate answer_numbers nought → DriveWritten r ws ns
-unfolding words_of numbers_of
-written-not-driven r ws ns c k e n h z =
-    subst (λ (x : Result (List Force) Cause). DriveWritten x ws ns) (sym e) (h ∙ ap (λ (x : ℕ). 2 ∷ x ∷ 0 ∷ 0 ∷ []) n, z)
-
-abbrev SettleWritten : Result SettleValues Cause → List ℕ → List Float → Type 0
-SettleWritten r ws ns = (ws ≡ words_of (settle_said r)) × (ns ≡ numbers_of (settle_said r))
-
-pub written-settled : (r : Result SettleValues Cause) (ws : List ℕ) (ns : List Float) (v : SettleValues) (f : ℕ) → r ≡ Ok v
-    → f ≡ digit v.off + 2 * digit v.lap + 4 * digit v.ended → ws ≡ 1 ∷ v.new_tiles ∷ v.n ∷ f ∷ [] → ns ≡ replicate answer_numbers nought → SettleWritten r ws ns
-unfolding words_of numbers_of
-written-settled r ws ns v f e g h k =
-    subst (λ (x : Result SettleValues Cause). SettleWritten x ws ns) (sym e) (h ∙ ap (λ (x : ℕ). 1 ∷ v.new_tiles ∷ v.n ∷ x ∷ []) g, k)
-
-pub written-not-settled : (r : Result SettleValues Cause) (ws : List ℕ) (ns : List Float) (c : Cause) (k : ℕ) → r ≡ Err c → k ≡ number_of c
-    → ws ≡ 2 ∷ k ∷ 0 ∷ 0 ∷ [] → ns ≡ replicate answer_numbers nought → SettleWritten r ws ns
-unfolding words_of numbers_of
-written-not-settled r ws ns c k e n h z =
-    subst (λ (x : Result SettleValues Cause). SettleWritten x ws ns) (sym e) (h ∙ ap (λ (x : ℕ). 2 ∷ x ∷ 0 ∷ 0 ∷ []) n, z)
 
 -- ---- one call
 

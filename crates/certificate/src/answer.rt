@@ -51,6 +51,7 @@ fn put_zeros(numbers: &mut [f64])
 }
 
 // The answer to a drive.
+#[tactic(auto, unfolding(crate::specs::Grader::CallColumns::words_of, crate::specs::Grader::CallColumns::numbers_of))]
 pub(crate) fn put_drive(answer: Result<[Force; 4], Cause>, words: &mut [u32], numbers: &mut [f64])
     requires words_len { length words.old ≡ 4 }
     requires numbers_len { length numbers.old ≡ 12 }
@@ -70,6 +71,7 @@ pub(crate) fn put_drive(answer: Result<[Force; 4], Cause>, words: &mut [u32], nu
 }
 
 // The answer to a settle.
+#[tactic(auto, unfolding(crate::specs::Grader::CallColumns::words_of, crate::specs::Grader::CallColumns::numbers_of, run::specs::Grader::Saved::flags_of))]
 pub(crate) fn put_settle(
     answer: Result<SettleValues, Cause>,
     words: &mut [u32],
