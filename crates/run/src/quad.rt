@@ -177,6 +177,7 @@ pub(crate) struct Stance {
 
 impl Stance {
     // The wheels stand at these poses.
+    #[inline]
     pub(crate) fn at(poses: [Pose; 4]) -> Stance
         ensures { result.poses ≡ poses }
     {
