@@ -42,12 +42,7 @@ fn put_zeros(numbers: &mut [f64])
     requires { length numbers.old ≡ 12 }
     ensures { numbers.new ≡ replicate answer_numbers nought }
 {
-    let z = Force {
-        motor: 0.0,
-        fx: 0.0,
-        fy: 0.0,
-    };
-    put_forces([z, z, z, z], numbers);
+    put_forces([Force::default(); 4], numbers);
 }
 
 // The answer to a drive.

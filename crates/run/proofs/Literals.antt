@@ -1,9 +1,10 @@
 -- The bits of constants: what the compiled code has in the place of the Rust's expressions. Assumes nothing.
-use mathlib.Core.Path.{◌≡◌, refl}
+use mathlib.Core.Path.{◌≡◌, refl, sym, ◌∙◌}
 use mathlib.Core.Bool.{Bool, true, false}
 use lib.IntN.{pos}
 use Rattle.std.specs.Int.{from_bool}
-use Rattle.run.specs.Rules.Pass.{indicator}
+use Rattle.run.specs.Rules.Pass.{indicator, no_force}
+use Rattle.run.specs.declared.dynamics.Force.{Force}
 use lib.Ieee.{binary64, of_bits, of_int, round, mul, div}
 use Rattle.course.specs.Rules.Arithmetic.{natural, decimal}
 use Rattle.course.specs.Rules.Constants.{fps}
@@ -87,3 +88,7 @@ pub indicator-from : (b : Bool) → of_int binary64 (pos (from_bool b)) ≡ indi
 unfolding indicator natural
 indicator-from true = refl
 indicator-from false = refl
+
+-- a force of zeros, as the default is
+pub zero-force : (f : Force) → (f.motor ≡ of_bits binary64 0) × ((f.fx ≡ of_bits binary64 0) × (f.fy ≡ of_bits binary64 0)) → f ≡ no_force
+zero-force f h = λ i. record { motor = (h.0) i; fx = (h.1.0) i; fy = (h.1.1) i }

@@ -84,6 +84,7 @@ fn pass(car: Car, action: u32, motion: [Motion; 4], roads: [bool; 4]) -> Passed
 }
 
 // A wheel's five numbers are in range.
+#[tactic(auto, unfolding(crate::specs::Rules::Arguments::motion_ok))]
 fn motion_ok(m: Motion) -> bool
     ensures { result ≡ motion_ok m }
 {

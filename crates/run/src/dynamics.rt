@@ -40,7 +40,7 @@ pub struct Motion {
 
 // What the host is told for a wheel: the joint motor's speed, and the force.
 #[repr(C)]
-#[derive(Clone, Copy)]
+#[derive(Clone, Copy, Default)]
 pub struct Force {
     pub motor: f64,
     pub fx: f64,
@@ -99,6 +99,7 @@ pub fn braked(brake: f64, omega: f64) -> f64
 }
 
 // Omega after the engine, then the brake.
+#[tactic(auto, unfolding(crate::specs::Rules::Dynamics::turning_of))]
 pub(crate) fn turning(w: WheelCtl) -> f64
     ensures { result ≡ turning_of w }
 {
@@ -126,6 +127,7 @@ fn is_small(road: bool, s: f64) -> bool
 }
 
 // The two forces, cut down together to the limit. A root is taken only where it decides.
+#[tactic(auto, unfolding(crate::specs::Rules::Dynamics::held_of))]
 pub(crate) fn held(road: bool, f: f64, p: f64) -> TyreForce
     ensures { tyre_force_as result ≡ held_of (limit_of road) f p }
 {
@@ -168,11 +170,9 @@ pub(crate) fn finish(w: WheelCtl, m: Motion, omega: f64, s: TyreForce, fuel: f64
     ensures { wheel_as result ≡ finish_of w m omega (tyre_force_as s) fuel }
 {
     let ctl = WheelCtl {
-        gas: w.gas,
-        brake: w.brake,
-        steer: w.steer,
         omega: omega - DT * s.f_force * WHEEL_RAD / WHEEL_MOMENT_OF_INERTIA,
         phase: w.phase + omega * DT,
+        ..w
     };
     let force = Force {
         motor: motor(w.steer, m.joint_angle),

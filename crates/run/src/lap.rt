@@ -20,6 +20,7 @@ pub(crate) fn is_off(x: f64, y: f64) -> bool
 }
 
 // The run ends: all credited, lap or off.
+#[tactic(auto, unfolding(crate::specs::Rules::Lap::end_of))]
 pub(crate) fn is_end(credited: u32, n: u32, lap: bool, off: bool) -> bool
     ensures { result ≡ end_of credited n lap off }
 {

@@ -1,6 +1,6 @@
 // Quads of four corners: a wheel's, a tile's, and whether two of them overlap (document 01, "Touch").
 ghost use Rattle.std.specs.Prelude.{◌≡◌, not, ◌||◌, ◌+◌, ◌*◌};
-ghost use Rattle.run.specs.Rules.Overlap.{projections, least_on, greatest_on, apart_on, apart_by_edges, overlap_of};
+ghost use Rattle.run.specs.Rules.Overlap.{least_on, greatest_on, apart_on, apart_by_edges, overlap_of};
 ghost use Rattle.run.specs.Rules.Wheel.{placed, wheel_quad, box_cells};
 ghost use Rattle.run.specs.Steps.Touch.{first_side, beyond, apart_by_others, sixteen_cells};
 
@@ -12,34 +12,27 @@ use course::numeric::{greatest, least};
 
 const WHEEL_W: f64 = 14.0;
 
-// The projections of a quad's corners on the axis (nx, ny).
-fn projections(nx: f64, ny: f64, q: [[f64; 2]; 4]) -> [f64; 4]
-    ensures { result ≡ projections nx ny q }
-{
-    [
-        nx * q[0][0] + ny * q[0][1],
-        nx * q[1][0] + ny * q[1][1],
-        nx * q[2][0] + ny * q[2][1],
-        nx * q[3][0] + ny * q[3][1],
-    ]
+// The least and the greatest projection of a quad on an axis.
+#[derive(Clone, Copy)]
+struct Span {
+    low: f64,
+    high: f64,
 }
 
-// The least projection of a quad on the axis (nx, ny).
-#[tactic(auto, unfolding(crate::specs::Rules::Overlap::least_on))]
-fn least_on(nx: f64, ny: f64, q: [[f64; 2]; 4]) -> f64
-    ensures { result ≡ least_on nx ny q }
+// The projections of a quad's corners on the axis (nx, ny), from the least to the greatest.
+#[tactic(auto, unfolding(crate::specs::Rules::Overlap::least_on, crate::specs::Rules::Overlap::greatest_on))]
+fn span_on(nx: f64, ny: f64, q: [[f64; 2]; 4]) -> Span
+    ensures low { result.low ≡ least_on nx ny q }
+    ensures high { result.high ≡ greatest_on nx ny q }
 {
-    let [a, b, c, d] = projections(nx, ny, q);
-    least(a, b, c, d)
-}
-
-// The greatest projection of a quad on the axis (nx, ny).
-#[tactic(auto, unfolding(crate::specs::Rules::Overlap::greatest_on))]
-fn greatest_on(nx: f64, ny: f64, q: [[f64; 2]; 4]) -> f64
-    ensures { result ≡ greatest_on nx ny q }
-{
-    let [a, b, c, d] = projections(nx, ny, q);
-    greatest(a, b, c, d)
+    let a = nx * q[0][0] + ny * q[0][1];
+    let b = nx * q[1][0] + ny * q[1][1];
+    let c = nx * q[2][0] + ny * q[2][1];
+    let d = nx * q[3][0] + ny * q[3][1];
+    Span {
+        low: least(a, b, c, d),
+        high: greatest(a, b, c, d),
+    }
 }
 
 // The quads lie apart on the axis (nx, ny).
@@ -47,7 +40,9 @@ fn greatest_on(nx: f64, ny: f64, q: [[f64; 2]; 4]) -> f64
 fn apart_on(nx: f64, ny: f64, a: [[f64; 2]; 4], b: [[f64; 2]; 4]) -> bool
     ensures { result ≡ apart_on nx ny a b }
 {
-    (greatest_on(nx, ny, a) < least_on(nx, ny, b)) | (greatest_on(nx, ny, b) < least_on(nx, ny, a))
+    let p = span_on(nx, ny, a);
+    let r = span_on(nx, ny, b);
+    (p.high < r.low) | (r.high < p.low)
 }
 
 // The quads lie apart on a normal of one of the edges of q after the first.
@@ -84,8 +79,7 @@ pub(crate) fn first_side(q: [[f64; 2]; 4]) -> Side
 {
     let nx = q[1][1] - q[0][1];
     let ny = q[0][0] - q[1][0];
-    let low = least_on(nx, ny, q);
-    let high = greatest_on(nx, ny, q);
+    let Span { low, high } = span_on(nx, ny, q);
     Side { nx, ny, low, high }
 }
 
@@ -94,7 +88,8 @@ pub(crate) fn first_side(q: [[f64; 2]; 4]) -> Side
 fn is_beyond(s: Side, q: [[f64; 2]; 4]) -> bool
     ensures { result ≡ beyond s q }
 {
-    (s.high < least_on(s.nx, s.ny, q)) | (greatest_on(s.nx, s.ny, q) < s.low)
+    let p = span_on(s.nx, s.ny, q);
+    (s.high < p.low) | (p.high < s.low)
 }
 
 // Neither the other edges of `a` nor those of `b` part the quads. Apart from the test of the first side, which is compiled into its caller:
@@ -177,6 +172,7 @@ pub(crate) struct Stance {
 
 impl Stance {
     // The wheels stand at these poses.
+    #[inline]
     pub(crate) fn at(poses: [Pose; 4]) -> Stance
         ensures { result.poses ≡ poses }
     {

@@ -86,6 +86,7 @@ pub fn in_range(x: f64) -> bool
 }
 
 // A pose's four numbers are in range.
+#[tactic(auto, unfolding(crate::specs::Rules::Arguments::pose_ok))]
 pub fn pose_ok(p: Pose) -> bool
     ensures { result ≡ pose_ok p }
 {
@@ -109,6 +110,7 @@ pub fn is_short(n: u32, tiles: usize, offsets: usize) -> bool
 }
 
 // Cause 4 but for its ended part, where sets hold `most` tiles: the sheet's whole cause.
+#[tactic(auto, unfolding(crate::specs::Grader::State::unfit))]
 pub fn is_unfit(most: u32, setup: Setup, progress: Progress) -> bool
     ensures { result ≡ unfit most setup progress }
 {

@@ -8,6 +8,7 @@ ghost use Rattle.run.specs.Grader.Saved.{all_below};
 ghost use Rattle.run.specs.Steps.Touch.{Creditable};
 
 // Whether the set has a tile.
+#[tactic(auto, unfolding(crate::specs::Grader::Words::member, crate::specs::Grader::Words::bit_of))]
 pub(crate) fn has(set: &[u64], id: usize) -> bool
     requires { id < 64 * length set.now }
     ensures { result ≡ member set.now id }

@@ -1,6 +1,6 @@
 -- Document 01, "Touch": `quad_overlap`. On none of the eight edge normals is one quad's greatest projection below the other's least. Equality
 -- overlaps. Least and greatest are folded as in the Rust. Assumes nothing.
-use Rattle.std.specs.Prelude.{Bool, not, ◌||◌, List, [], ◌∷◌, ℕ, Float}
+use Rattle.std.specs.Prelude.{Bool, not, ◌||◌, List, ℕ, Float}
 use Rattle.std.specs.Float.Ieee.{lt}
 use Rattle.course.specs.Rules.Arithmetic.{◌⊕◌, ◌⊖◌, ◌⊗◌}
 use Rattle.course.specs.Rules.Numeric.{least_of, greatest_of}
@@ -9,9 +9,6 @@ use Rattle.course.specs.Rules.Tiles.{corner}
 -- the projection of corner i of a quad on the axis (nx, ny)
 abbrev pub projection : Float → Float → List (List Float) → ℕ → Float
 projection nx ny q i = nx ⊗ corner q i 0 ⊕ ny ⊗ corner q i 1
-
-abbrev pub projections : Float → Float → List (List Float) → List Float
-projections nx ny q = projection nx ny q 0 ∷ projection nx ny q 1 ∷ projection nx ny q 2 ∷ projection nx ny q 3 ∷ []
 
 -- a quad's least and greatest projection
 unfoldable pub least_on : Float → Float → List (List Float) → Float
