@@ -76,3 +76,21 @@ impl Columns {
         line::hash(out, hash::column(&self.list))
     }
 }
+
+#[cfg(test)]
+mod tests {
+    use super::*;
+    use std::test::Fail;
+
+    // With memory at hand the columns are made, and a reset leaves their lengths.
+    #[test]
+    fn columns_are_made(rt: HostRuntime) -> Result<(), Fail> {
+        let mut columns = Columns::new(rt.alloc(), 3)?;
+        columns.reset();
+        assert_eq!(rt; columns.alpha.len(), 2600);
+        assert_eq!(rt; columns.tiles.len(), 20100);
+        assert_eq!(rt; columns.offsets.len(), 4600);
+        assert_eq!(rt; columns.list.as_slice(), [UNTOUCHED_ID; 3].as_slice());
+        Ok(())
+    }
+}
