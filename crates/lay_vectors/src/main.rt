@@ -57,17 +57,18 @@ fn checkpoints(record: Record<'_>) -> [Checkpoint; 12] {
         y: 0.0,
     }; 12];
     for (c, at) in cs.iter_mut().zip((8..44).step_by(3)) {
-        *c = Checkpoint {
-            angle: record.float(at),
-            x: record.float(at + 1),
-            y: record.float(at + 2),
-        };
+        let [angle, x, y] = record.floats(at);
+        *c = Checkpoint { angle, x, y };
     }
     cs
 }
 
 // The record's call on parts of the columns, of the record's lengths.
-fn call(request: Request, record: Record<'_>, columns: &mut Columns) -> Result<LaidCourse, LayError> {
+fn call(
+    request: Request,
+    record: Record<'_>,
+    columns: &mut Columns,
+) -> Result<LaidCourse, LayError> {
     let alpha = front_mut(&mut columns.alpha, record.word(1));
     let beta = front_mut(&mut columns.beta, record.word(2));
     let x = front_mut(&mut columns.x, record.word(3));
@@ -79,7 +80,17 @@ fn call(request: Request, record: Record<'_>, columns: &mut Columns) -> Result<L
         Request::Lay => lay::lay(record.word(8), alpha, beta, x, y, tiles, offsets, list),
         Request::Attempts => {
             let attempts = record.low(8);
-            lay::lay_attempts(attempts, record.word(9), alpha, beta, x, y, tiles, offsets, list)
+            lay::lay_attempts(
+                attempts,
+                record.word(9),
+                alpha,
+                beta,
+                x,
+                y,
+                tiles,
+                offsets,
+                list,
+            )
         }
         Request::Checkpoints => {
             lay::lay_checkpoints(checkpoints(record), alpha, beta, x, y, tiles, offsets, list)
