@@ -131,16 +131,20 @@ fn near_whole(v: f64) -> Turns
             quarter: w.n % 4,
         };
     }
-    let w = whole_part(-v);
-    if w.f < -v {
+    let x = -v;
+    let w = whole_part(x);
+    let n = w.n;
+    let f = w.f;
+    if f < x {
+        let g = std::num::nearest_u64_to_f64(n + 1);
         return Turns {
-            k: -std::num::nearest_u64_to_f64(w.n + 1),
-            quarter: 3 - w.n % 4,
+            k: -g,
+            quarter: 3 - n % 4,
         };
     }
     Turns {
-        k: -w.f,
-        quarter: (4 - w.n % 4) % 4,
+        k: -f,
+        quarter: (4 - n % 4) % 4,
     }
 }
 
@@ -168,8 +172,11 @@ pub(crate) fn quarter_turns_from(a: f64, t: Turns) -> Turns
     ensures { result ≡ turns_at (turns_of a) }
 {
     let v = a / HALF_PI + 0.5;
-    if t.k <= v && v < t.k + 1.0 {
-        return t;
+    let k = t.k;
+    if k <= v {
+        if v < k + 1.0 {
+            return t;
+        }
     }
     whole_below(v)
 }
@@ -236,36 +243,47 @@ fn arc_tangent(t: f64) -> f64
     ensures { result ≡ arc_of t }
 {
     if t > 0.41421356237309503 {
-        arc_from(FRAC_PI_4, (t - 1.0) / (t + 1.0))
-    } else {
-        arc_from(0.0, t)
+        return arc_from(FRAC_PI_4, (t - 1.0) / (t + 1.0));
     }
+    arc_from(0.0, t)
 }
 
 // The smaller over the larger of two magnitudes.
 fn ratio(ay: f64, ax: f64) -> f64
     ensures { result ≡ ratio_of ay ax }
 {
-    if ay > ax { ax / ay } else { ay / ax }
+    if ay > ax {
+        return ax / ay;
+    }
+    ay / ax
 }
 
 // The angle A in the half where |y| > |x|.
 fn steepened(ay: f64, ax: f64, a: f64) -> f64
     ensures { result ≡ steep_of ay ax a }
 {
-    if ay > ax { HALF_PI - a } else { a }
+    if ay > ax {
+        return HALF_PI - a;
+    }
+    a
 }
 
 fn reflected(x: f64, a: f64) -> f64
     ensures { result ≡ leftward x a }
 {
-    if x < 0.0 { PI - a } else { a }
+    if x < 0.0 {
+        return PI - a;
+    }
+    a
 }
 
 fn signed(y: f64, a: f64) -> f64
     ensures { result ≡ downward y a }
 {
-    if y < 0.0 { -a } else { a }
+    if y < 0.0 {
+        return -a;
+    }
+    a
 }
 
 // The angle of (x, y), not both zero.
@@ -282,11 +300,13 @@ fn direction(y: f64, x: f64) -> f64
 pub(crate) fn angle_of(y: f64, x: f64) -> f64
     ensures { result ≡ atan2_of y x }
 {
-    if y == 0.0 && x == 0.0 {
-        0.0
-    } else {
-        direction(y, x)
+    if y == 0.0 {
+        if x == 0.0 {
+            return 0.0;
+        }
+        return direction(y, x);
     }
+    direction(y, x)
 }
 
 // The angle of (x, y), each at most 1,000,000 in size.

@@ -8,6 +8,6 @@ pub returns-then-t : goal.returns-then-t
 unfolding of_bits of_int round natural decimal arc_of
 returns-then-t c = rw (c.if-t.true, c.arc_from.ensures)
 
-pub returns-else-t : goal.returns-else-t
+pub returns : goal.returns
 unfolding of_bits of_int round natural decimal arc_of
-returns-else-t c = rw (c.if-t.false, c.arc_from-else-t.ensures)
+returns c = rw (c.if-t.false, c.arc_from-2.ensures)

@@ -23,19 +23,19 @@ pub whole_part-w-requires-2 : goal.whole_part-w-requires-2
 unfolding of_bits
 whole_part-w-requires-2 c = below-fits c.args.v c.requires c.if-v.false
 
-pub overflow_add-w : goal.overflow_add-w
+pub overflow_add-n : goal.overflow_add-n
 unfolding of_bits
-overflow_add-w c = omega (arith, below-small c.args.v c.requires c.if-v.false, whole-n _ _ c.whole_part-w-2.ensures)
+overflow_add-n c = omega (arith, below-small c.args.v c.requires c.if-v.false, whole-n _ _ c.whole_part-w-2.ensures)
 
-pub returns-then-w-v : goal.returns-then-w-v
+pub returns-then-f-x : goal.returns-then-f-x
 unfolding of_bits quarter_of natural
-returns-then-w-v c =
+returns-then-f-x c =
     let v = c.args.v in
     let w = c.whole_part-w-2 in
     let n = w.result.n in
-    let l : lt (natural (to_unsigned 64 (neg v))) (neg v) ≡ true = ap (λ (x : Float). lt x (neg v)) (sym (whole-f _ _ w.ensures)) ∙ c.if-w-v.true in
+    let l : lt (natural (to_unsigned 64 (neg v))) (neg v) ≡ true = ap (λ (x : Float). lt x (neg v)) (sym (whole-f _ _ w.ensures)) ∙ c.if-f-x.true in
     let f : floor v ≡ negsuc n = below-between v c.requires c.if-v.false l ∙ ap negsuc (sym (whole-n _ _ w.ensures)) in
-    turns-is _ _ (floor v) (ap neg c.nearest_u64_to_f64.ensures ∙ minus-whole (n + 1) (omega arith) ∙ ap (λ (z : ℕ). of_int binary64 (neg_ℤ (pos z))) (add-one n) ∙ ap (λ (z : ℤ). of_int binary64 z) (sym f)) (ap quarter_of (sym f))
+    turns-is _ _ (floor v) (ap neg c.nearest_u64_to_f64-g.ensures ∙ minus-whole (n + 1) (omega arith) ∙ ap (λ (z : ℕ). of_int binary64 (neg_ℤ (pos z))) (add-one n) ∙ ap (λ (z : ℤ). of_int binary64 z) (sym f)) (ap quarter_of (sym f))
 
 pub returns : goal.returns
 unfolding of_bits natural
@@ -44,7 +44,7 @@ returns c =
     let w = c.whole_part-w-2 in
     let n = w.result.n in
     let e : n ≡ to_unsigned 64 (neg v) = whole-n _ _ w.ensures in
-    let l : lt (natural (to_unsigned 64 (neg v))) (neg v) ≡ false = ap (λ (x : Float). lt x (neg v)) (sym (whole-f _ _ w.ensures)) ∙ c.if-w-v.false in
+    let l : lt (natural (to_unsigned 64 (neg v))) (neg v) ≡ false = ap (λ (x : Float). lt x (neg v)) (sym (whole-f _ _ w.ensures)) ∙ c.if-f-x.false in
     let f = below_at v c.requires c.if-v.false l in
     let p : 0 < n = subst (λ (z : ℕ). 0 < z) (sym e) f.0 in
     let k : floor v ≡ neg_ℤ (pos n) = f.1 ∙ ap (λ (z : ℕ). neg_ℤ (pos z)) (sym e) in

@@ -19,9 +19,9 @@ same a b t is low high =
     is ∙ ap turns_at (whole-only v (turns_of b) (add-fits binary64 _ _) (small-whole _)
     (ap (λ (f : Float). le f v) (sym at) ∙ low) (ap (λ (f : Float). lt v (add binary64 f (of_bits binary64 0x3ff0000000000000))) (sym at) ∙ high))
 
-pub returns-then-v-t : goal.returns-then-v-t
+pub returns-then-v-k : goal.returns-then-v-k
 unfolding of_bits half_pi decimal round
-returns-then-v-t c = same c.args.a c.requires.angle c.args.t c.requires.is c.if-t-v.true c.if-v-t.true
+returns-then-v-k c = same c.args.a c.requires.angle c.args.t c.requires.is c.if-k-v.true c.if-v-k.true
 
 pub returns : goal.returns
 unfolding of_bits turns_of half_pi decimal round

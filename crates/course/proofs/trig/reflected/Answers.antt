@@ -9,6 +9,6 @@ pub returns-then-x : goal.returns-then-x
 unfolding of_bits of_int round natural decimal half_pi leftward
 returns-then-x c = rw c.if-x.true
 
-pub returns-else-x : goal.returns-else-x
+pub returns : goal.returns
 unfolding of_bits of_int round natural decimal half_pi leftward
-returns-else-x c = rw c.if-x.false
+returns c = rw c.if-x.false

@@ -9,6 +9,6 @@ pub returns-then-y : goal.returns-then-y
 unfolding of_bits of_int round natural decimal half_pi downward
 returns-then-y c = rw c.if-y.true
 
-pub returns-else-y : goal.returns-else-y
+pub returns : goal.returns
 unfolding of_bits of_int round natural decimal half_pi downward
-returns-else-y c = rw c.if-y.false
+returns c = rw c.if-y.false

@@ -9,6 +9,6 @@ pub returns-then-ay-ax : goal.returns-then-ay-ax
 unfolding of_bits of_int round natural decimal half_pi steep_of
 returns-then-ay-ax c = rw c.if-ay-ax.true
 
-pub returns-else-ay-ax : goal.returns-else-ay-ax
+pub returns : goal.returns
 unfolding of_bits of_int round natural decimal half_pi steep_of
-returns-else-ay-ax c = rw c.if-ay-ax.false
+returns c = rw c.if-ay-ax.false
