@@ -14,6 +14,7 @@ use crate::saved::ALL_BYTES;
 use crate::state::{Progress, Run, Setup};
 use crate::widths::{FULL_WORDS, MOST_TILES};
 use crate::{numbers, saved, state};
+use form::table::Fields;
 use form::{eight, number, pack, table};
 
 // How a save is answered: with the length of what is written, or refused by a cause's number.
@@ -153,7 +154,11 @@ pub fn save(run: Run, out: &mut [u8]) -> SaveAnswer
     let mut full = [0u8; ALL_BYTES];
     put_fields(run, &mut full);
     let rows = saved::rows();
-    let map = table::map_of(&rows, &full);
-    let length = pack::pack(&rows, &full, map, out).unwrap();
+    let fields = Fields {
+        rows: &rows,
+        full: &full,
+    };
+    let map = table::map_of(fields);
+    let length = pack::pack(fields, map, out).unwrap();
     SaveAnswer::Saved(length as u32)
 }
