@@ -35,11 +35,6 @@ module _ {A : Type 0} where
   pub next_fits : {c l all : List A} {i : ℕ} {rest : List A} (a b : List A) → Filling c l all i rest → rest ≡ a ++ b → length all ≤ length l → i + length a ≤ length c
   next_fits {c} {l} {all} {i} {rest} a b f e h = omega (arith, f.count, f.same, ap length e, length-append a b, h)
 
-  -- one more
-  pub steps : {c l all : List A} {i : ℕ} {rest : List A} (x : A) (b : List A)
-      → Filling c l all i rest → rest ≡ x ∷ b → Filling (set c i x) l all (i + 1) b
-  steps {c} {l} {all} {i} {rest} x b f e = goes_on (set c i x) (i + 1) (x ∷ []) b f e refl refl
-
   pub ends : {c l all : List A} {i : ℕ} {rest : List A} → Filling c l all i rest → rest ≡ [] → length all ≤ length l → c ≡ all ++ drop (length all) l
   ends {c} {l} {all} {i} {rest} f e h =
       let g : 0 + length all ≤ length l = omega arith in
@@ -51,7 +46,7 @@ module _ {A : Type 0} where
       let k : length l ≤ length all = omega (arith, h) in
       ends f e (omega (arith, h)) ∙ ap (λ (r : List A). all ++ r) (drop_of_length-le l k) ∙ append-nil all
 
-  -- the same, said of the front alone: one more, and all
+  -- of a list of which the front alone is told: one more, and all
   pub grown : (l : List A) (i : ℕ) (x : A) (rest all : List A) → i < length l → take i l ++ (x ∷ rest) ≡ all → take (i + 1) (set l i x) ++ rest ≡ all
   grown l i x rest all h e = ap (λ (p : List A). p ++ rest) (take_more_set l i x h) ∙ append_assoc (take i l) (x ∷ []) rest ∙ e
 
@@ -71,16 +66,11 @@ module _ {A : Type 0} where
   part-on {c} {l} {all} {i} {rest} p a b e j f r w n h q =
       goes_on _ j a b f r (ap (λ (z : List A). take i c ++ (z ++ drop (e - i) (drop i c))) w ∙ part-stored c a i e n h) (q ∙ sym n)
 
-  -- a part that ends where the list does, if not before
+  -- what ends where the list does, if not before
   pub take-least : (n : ℕ) (l : List A) → take (min n (length l)) l ≡ take n l
   take-least zero l = ap (λ (k : ℕ). take k l) (zero-min (length l))
   take-least (suc n) [] = ap (λ (k : ℕ). take k []) (min-zero (suc n))
   take-least (suc n) (x ∷ l) = ap (λ (k : ℕ). take k (x ∷ l)) (suc-min-suc n (length l)) ∙ ap (λ (r : List A). x ∷ r) (take-least n l)
-
-  pub part-least : (at n e : ℕ) (l : List A) → e ≡ at + min n (length l - at) → take (e - at) (drop at l) ≡ take n (drop at l)
-  part-least at n e l h =
-      let d : e - at ≡ min n (length l - at) = omega arith in
-      ap (λ (k : ℕ). take k (drop at l)) (d ∙ ap (min n) (sym (length-drop at l))) ∙ take-least n (drop at l)
 
   pub part_length : (l : List A) (i n : ℕ) → i + n ≤ length l → length (take (i + n - i) (drop i l)) ≡ n
   part_length l i n h =
@@ -92,18 +82,13 @@ module _ {A : Type 0} where
   drop-least (suc n) [] = ap (λ (k : ℕ). drop k []) (min-zero (suc n))
   drop-least (suc n) (x ∷ l) = ap (λ (k : ℕ). drop k (x ∷ l)) (suc-min-suc n (length l)) ∙ drop-least n l
 
+  -- a part that begins and ends where the list ends, if not before
   pub part-taken : (at k a b n : ℕ) (l : List A) → a ≡ min at (length l) → b ≡ k → n ≡ min b (length (take (length l - a) (drop a l)))
       → take n (take (length l - a) (drop a l)) ≡ take k (drop at l)
   part-taken at k a b n l d e h =
       let r : take (length l - a) (drop a l) ≡ drop at l =
       take_all (length l - a) (drop a l) (omega (arith, length-drop a l)) ∙ ap (λ (j : ℕ). drop j l) d ∙ drop-least at l in
       ap₂ take (h ∙ ap₂ (λ (j : ℕ) (t : List A). min j (length t)) e r) r ∙ take-least k (drop at l)
-
-  pub past-least : (at n e : ℕ) (l : List A) → e ≡ at + min n (length l - at) → drop n (drop at l) ≡ drop e l
-  past-least at n e l h =
-      sym (ap (λ (k : ℕ). drop k l) (h ∙ ap (λ (k : ℕ). at + min n k) (sym (length-drop at l)))
-      ∙ sym (drop-drop (min n (length (drop at l))) at l)
-      ∙ drop-least n (drop at l))
 
   pub part-long : (l : List A) (i e : ℕ) → i ≤ e → e ≤ length l → length (take (e - i) (drop i l)) ≡ e - i
   part-long l i e h k = length-take-le (e - i) (drop i l) (omega (arith, length-drop i l))

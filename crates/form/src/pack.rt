@@ -1,9 +1,9 @@
 // Writing: the map, then the fields whose bit stands in it.
 ghost use Rattle.std.specs.Prelude.{◌≡◌, cond, [], ◌≤◌, length};
-ghost use Rattle.form.specs.Rules.Form.{widths, cut, standing, packed, wrote, pack_into};
+ghost use Rattle.form.specs.Rules.Form.{fields_of, standing, packed, wrote, pack_into};
 
 use crate::number;
-use crate::table::{Fields, Row};
+use crate::table::Fields;
 
 // An output is too short for a saved form of this length.
 #[derive(Clone, Copy, Debug, PartialEq, Eq)]
@@ -19,13 +19,13 @@ fn shown(stands: bool, field: &[u8]) -> &[u8]
 }
 
 // The length of the fields that stand.
-fn standing_length(rows: &[Row], full: &[u8], map: u64) -> usize
-    ensures { (result ≡ length (standing map (cut (widths rows.now) full.now)))
-        × (result ≤ length full.now) }
+fn standing_length(fields: Fields<'_>, map: u64) -> usize
+    ensures { (result ≡ length (standing map (fields_of fields.entry)))
+        × (result ≤ length fields.entry.full.now) }
 {
     let mut rest = map;
     let mut n: usize = 0;
-    for field in (Fields { rows, full }) {
+    for field in fields {
         n += shown(rest % 2 == 1, field).len();
         rest /= 2;
     }
@@ -33,13 +33,13 @@ fn standing_length(rows: &[Row], full: &[u8], map: u64) -> usize
 }
 
 // The fields that stand, over an output of their length.
-fn put_standing(rows: &[Row], full: &[u8], map: u64, out: &mut [u8])
-    requires { length (standing map (cut (widths rows.now) full.now)) ≡ length out.old }
-    ensures { out.new ≡ standing map (cut (widths rows.now) full.now) }
+fn put_standing(fields: Fields<'_>, map: u64, out: &mut [u8])
+    requires { length (standing map (fields_of fields)) ≡ length out.old }
+    ensures { out.new ≡ standing map (fields_of fields.entry) }
 {
     let mut rest = map;
     let mut at: usize = 0;
-    for field in (Fields { rows, full }) {
+    for field in fields {
         let part = shown(rest % 2 == 1, field);
         let end = at + part.len();
         out[at..end].copy_from_slice(part);
@@ -50,16 +50,15 @@ fn put_standing(rows: &[Row], full: &[u8], map: u64, out: &mut [u8])
 
 // The saved form of the fields that stand in the map goes to the front of the output; its length. An
 // output that is shorter stays as it is.
-pub fn pack(rows: &[Row], full: &[u8], map: u16, out: &mut [u8]) -> Result<usize, NoRoom>
-    ensures { wrote result out.new
-        ≡ pack_into (packed map (cut (widths rows.now) full.now)) out.old }
+pub fn pack(fields: Fields<'_>, map: u16, out: &mut [u8]) -> Result<usize, NoRoom>
+    ensures { wrote result out.new ≡ pack_into (packed map (fields_of fields.entry)) out.old }
 {
     let m = u64::from(map);
-    let needed = 2 + standing_length(rows, full, m);
+    let needed = 2 + standing_length(fields, m);
     if out.len() < needed {
         return Err(NoRoom { needed });
     }
     number::put_number(m, 2, out);
-    put_standing(rows, full, m, &mut out[2..needed]);
+    put_standing(fields, m, &mut out[2..needed]);
     Ok(needed)
 }

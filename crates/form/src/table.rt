@@ -1,8 +1,8 @@
-// The table of a saved form: its rows, in bit order. The fields lie end to end in one lent list of
-// bytes, `full`.
+// The table of a saved form: its rows, in bit order, and the fields as they lie end to end in one lent
+// list of bytes.
 ghost use Rattle.std.specs.Prelude.{◌≡◌, cond, ◌-◌, ◌≤◌, leb, length, take, Some, None};
 ghost use Rattle.std.specs.Iterator.{YieldsFirstRef, item_count};
-ghost use Rattle.form.specs.Rules.Form.{widths, sum, cut, map_of, most_rows};
+ghost use Rattle.form.specs.Rules.Form.{widths, sum, cut, fields_of, map_of, most_rows};
 
 use crate::number;
 
@@ -16,9 +16,9 @@ pub struct Row {
     pub zeros: bool,
 }
 
-// The fields of a table one after another; one that goes past the end is cut off there.
-#[derive(Drop)]
-pub(crate) struct Fields<'a> {
+// The fields of a table, which lie end to end in `full`, one after another; one that goes past the end is cut off there.
+#[derive(Clone, Copy)]
+pub struct Fields<'a> {
     pub rows: &'a [Row],
     pub full: &'a [u8],
 }
@@ -26,7 +26,7 @@ pub(crate) struct Fields<'a> {
 impl<'a> Iterator for Fields<'a> {
     type Item = &'a [u8];
 
-    ghost next_gives = { YieldsFirstRef (λ s. cut (widths s.rows.now) s.full.now) };
+    ghost next_gives = { YieldsFirstRef fields_of };
 
     ghost remaining = { item_count (λ s. s.rows.now) };
 
@@ -51,13 +51,13 @@ pub(crate) fn room_left(rows: &[Row], room: usize) -> Option<usize>
 }
 
 // The map of up to sixteen fields.
-fn map_rows(rows: &[Row], full: &[u8]) -> u64
-    requires { length rows.now ≤ most_rows }
-    ensures { result ≡ map_of (cut (widths rows.now) full.now) }
+fn map_rows(fields: Fields<'_>) -> u64
+    requires { length fields.rows.now ≤ most_rows }
+    ensures { result ≡ map_of (fields_of fields.entry) }
 {
     let mut map: u64 = 0;
     let mut value: u64 = 1;
-    for field in (Fields { rows, full }) {
+    for field in fields {
         map += value * u64::from(!number::all_zero(field));
         value *= 2;
     }
@@ -65,9 +65,13 @@ fn map_rows(rows: &[Row], full: &[u8]) -> u64
 }
 
 // The map of the fields that are not zeros, of up to sixteen; a field that is not there counts as zeros.
-pub fn map_of(rows: &[Row], full: &[u8]) -> u16
-    ensures { result ≡ map_of (cut (take most_rows (widths rows.now)) full.now) }
+pub fn map_of(fields: Fields<'_>) -> u16
+    ensures { result ≡ map_of (cut (take most_rows (widths fields.entry.rows.now)) fields.entry.full.now) }
 {
-    let n = rows.len().min(MOST_ROWS);
-    map_rows(&rows[..n], full) as u16
+    let n = fields.rows.len().min(MOST_ROWS);
+    let first = Fields {
+        rows: &fields.rows[..n],
+        full: fields.full,
+    };
+    map_rows(first) as u16
 }

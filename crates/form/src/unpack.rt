@@ -1,14 +1,16 @@
 // Reading: the map, then every field, zeros for one whose bit does not stand.
-ghost use Rattle.std.specs.Prelude.{◌≡◌, cond, ◌++◌, ◌≤◌, length, take, drop, replicate, MatchOption, Some, None};
+ghost use Rattle.std.specs.Prelude.{◌≡◌, cond, ◌++◌, ◌≤◌, length, take, drop, replicate};
+ghost use Rattle.std.specs.Prelude.{MatchOption, Some, None};
 ghost use Rattle.form.specs.Rules.Form.{widths, sum, joined, parse, read, unpack_into};
 ghost use Rattle.form.specs.Steps.Form.{field_step, whole, standing_sum, fields_in};
 
 use crate::table::Row;
 use crate::{number, table};
 
-// The bytes after a field that stands or not; none where it stands and may not. It must be whole, and not zeros unless its row allows it.
+// The bytes after a field that stands or not; none where it stands and may not: it must be whole, and not
+// zeros unless its row allows it.
 fn after_field(stands: bool, row: Row, bytes: &[u8]) -> Option<&[u8]>
-    ensures { MatchOption result (field_step stands row bytes.now ≡ None) (λ r. field_step stands row bytes.now ≡ Some r.now) }
+    ensures { let step = field_step stands row bytes.now in MatchOption result (step ≡ None) (λ r. step ≡ Some r.now) }
 {
     if !stands {
         return Some(bytes);

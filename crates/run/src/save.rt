@@ -14,7 +14,8 @@ use crate::state::{Progress, Run, Setup};
 use crate::widths::{FULL_WORDS, MOST_TILES};
 use crate::{numbers, saved, state};
 use course::cause::Cause;
-use form::{number, pack, table, eight};
+use form::table::Fields;
+use form::{eight, number, pack, table};
 
 // The room of the longest form: the map, and every field but the narrow seed's four bytes, where the wide one stands (cause 2).
 pub const SAVE_ROOM: usize = 2 + ALL_BYTES - 4;
@@ -131,7 +132,11 @@ pub fn save(run: Run, out: &mut [u8]) -> Result<u32, Cause>
     let mut full = [0u8; ALL_BYTES];
     put_fields(run, &mut full);
     let rows = saved::rows();
-    let map = table::map_of(&rows, &full);
-    let length = pack::pack(&rows, &full, map, out).unwrap();
+    let fields = Fields {
+        rows: &rows,
+        full: &full,
+    };
+    let map = table::map_of(fields);
+    let length = pack::pack(fields, map, out).unwrap();
     Ok(length as u32)
 }

@@ -3,7 +3,9 @@
 use Rattle.std.specs.Prelude.{Bool, true, false, not, cond, ◌&&◌, ◌||◌, List, [], ◌∷◌, ◌++◌, ℕ, ◌+◌, ◌*◌, ◌/◌, ◌%◌, eqb, ltb, leb, length, get_or, take, drop, replicate, map, Option, Some, None, Result, Ok, Err}
 use Rattle.form.specs.declared.pack.NoRoom.{NoRoom}
 use Rattle.form.specs.declared.table.Row.{Row}
+use Rattle.form.specs.declared.table.Fields.{Fields}
 use Rattle.form.specs.Rules.Bytes.{low, number, all_zero}
+
 -- a row of the table has the field's bytes, and whether it may stand with zeros
 
 -- the table of widths and marks; a row without a mark may not stand with zeros
@@ -23,6 +25,10 @@ sum (w ∷ ws) = w + sum ws
 unfoldable pub cut : List ℕ → List ℕ → List (List ℕ)
 cut [] full = []
 cut (w ∷ ws) full = take w full ∷ cut ws (drop w full)
+
+-- the fields of a table, in bytes that are lent with it
+abbrev pub fields_of : Fields → List (List ℕ)
+fields_of f = cut (widths f.rows.now) f.full.now
 
 unfoldable pub joined : List (List ℕ) → List ℕ
 joined [] = []

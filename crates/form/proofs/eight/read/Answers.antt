@@ -20,7 +20,7 @@ loop-i-preserved g c =
     let l = c.loop-i in
     let step = from_more of (length c.args.values.now) l.i c.of_number.result c.args.bytes.now c.loop-i-test.true (c.of_number.ensures ∙ ap of c.number_at.ensures.0) in
     let t : l.i < length l.values = omega (arith, l.auto.values, c.loop-i-test.true) in
-    grown _ _ _ _ _ t (ap (λ r. take l.i l.values ++ r) (sym step) ∙ l.invariant)
+    grown l.values l.i c.of_number.result _ _ t (ap (λ r. take l.i l.values ++ r) (sym step) ∙ l.invariant)
 
 pub returns : goal.returns
 returns g c =

@@ -8,7 +8,7 @@ use Rattle.form.proofs.pack.pack.Goals as goal
 pub returns-then-out-needed : goal.returns-then-out-needed
 returns-then-out-needed c =
     let s = c.args in
-    let fs = cut (widths s.rows.now) s.full.now in
+    let fs = cut (widths s.fields.rows.now) s.fields.full.now in
     let m = c.from-m.result in
     pack-short (packed m fs) s.out.now _ (ap (λ (n : ℕ). 2 + n) c.standing_length-needed.ensures.0 ∙ sym (packed-length m fs)) c.if-out-needed.true
     ∙ ap (λ (k : ℕ). pack_into (packed k fs) s.out.now) c.from-m.ensures
@@ -16,7 +16,7 @@ returns-then-out-needed c =
 pub returns : goal.returns
 returns c =
     let s = c.args in
-    let fs = cut (widths s.rows.now) s.full.now in
+    let fs = cut (widths s.fields.rows.now) s.fields.full.now in
     let m = c.from-m.result in
     let n = ap (λ (n : ℕ). 2 + n) c.standing_length-needed.ensures.0 ∙ sym (packed-length m fs) in
     pack-done m _ fs s.out.now _ _ _ n c.if-out-needed.false c.put_number.ensures c.put_standing.ensures ∙ ap (λ (k : ℕ). pack_into (packed k fs) s.out.now) c.from-m.ensures

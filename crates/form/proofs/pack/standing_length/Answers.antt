@@ -16,7 +16,7 @@ overflow_add-n c =
     let s = c.args in
     let gs = cut (widths c.next.new.self.rows.now) c.next.new.self.full.now in
     let n = ap length (standing-next l.rest _ _ _ gs c.in-Some.ensures.steps c.shown.ensures) in
-    omega (arith, l.invariant, n, length-append c.shown.result.now (standing (l.rest / 2) gs), standing-within s.map (widths s.rows.now) s.full.now)
+    omega (arith, l.invariant, n, length-append c.shown.result.now (standing (l.rest / 2) gs), standing-within s.map (widths s.fields.rows.now) s.fields.full.now)
 
 pub loop-field-preserved : goal.loop-field-preserved
 loop-field-preserved c =
@@ -30,5 +30,5 @@ returns c =
     let l = c.loop-field in
     let s = c.args in
     let e = ap length (standing-none l.rest _ c.in-None.ensures.steps.0) in
-    let t : l.n ≡ length (standing s.map (cut (widths s.rows.now) s.full.now)) = omega (arith, e, l.invariant) in
-    (t, omega (arith, t, standing-within s.map (widths s.rows.now) s.full.now))
+    let t : l.n ≡ length (standing s.map (cut (widths s.fields.rows.now) s.fields.full.now)) = omega (arith, e, l.invariant) in
+    (t, omega (arith, t, standing-within s.map (widths s.fields.rows.now) s.fields.full.now))

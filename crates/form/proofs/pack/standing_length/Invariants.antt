@@ -7,4 +7,4 @@ use Rattle.form.proofs.pack.standing_length.Given as goal
 
 abbrev pub invariant-loop-field : goal.invariant-loop-field
 invariant-loop-field l =
-    l.n + length (standing l.rest (cut (widths l.field-iterator.rows.now) l.field-iterator.full.now)) ≡ length (standing l.map (cut (widths l.rows) l.full))
+    l.n + length (standing l.rest (cut (widths l.field-iterator.rows.now) l.field-iterator.full.now)) ≡ length (standing l.map (cut (widths l.fn.fields.rows.now) l.fn.fields.full.now))

@@ -11,8 +11,8 @@ pub overflow_cast-result : goal.overflow_cast-result
 overflow_cast-result c =
     let n = c.min-n in
     let s = c.args in
-    let h : length (take n.result s.rows.now) ≤ 16 = omega (arith, n.ensures, length-take n.result s.rows.now) in
-    omega (arith, c.map_rows.ensures, map-small (take n.result s.rows.now) s.full.now, power_small _ h)
+    let h : length (take n.result s.fields.rows.now) ≤ 16 = omega (arith, n.ensures, length-take n.result s.fields.rows.now) in
+    omega (arith, c.map_rows.ensures, map-small (take n.result s.fields.rows.now) s.fields.full.now, power_small _ h)
 
 pub returns : goal.returns
-returns c = c.map_rows.ensures ∙ ap (λ ws. map_of (cut ws c.args.full.now)) (first-rows c.args.rows.now 16 _ c.min-n.ensures)
+returns c = c.map_rows.ensures ∙ ap (λ ws. map_of (cut ws c.args.fields.full.now)) (first-rows c.args.fields.rows.now 16 _ c.min-n.ensures)

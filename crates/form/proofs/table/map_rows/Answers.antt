@@ -15,7 +15,7 @@ loop-field-init c =
     let g = c.into_iter-field-iterator.ensures.into_iter_gives in
     let k = ap (λ it. length (cut (widths it.rows.now) it.full.now)) g in
     let m = ap (λ it. map_of (cut (widths it.rows.now) it.full.now)) g in
-    record { small = omega arith; power = refl; count = omega (arith, k, cut-many s.rows.now s.full.now); rest = omega (arith, m) }
+    record { small = omega arith; power = refl; count = omega (arith, k, cut-many s.fields.rows.now s.fields.full.now); rest = omega (arith, m) }
 
 pub loop-field-preserved : goal.loop-field-preserved
 loop-field-preserved c =

@@ -10,6 +10,6 @@ invariant-loop-field l =
     record {
       small : l.map < l.value;
       power : l.value ≡ 2 ^ length l.yielded;
-      count : length l.yielded + length (cut (widths l.field-iterator.rows.now) l.field-iterator.full.now) ≡ length l.rows;
-      rest : map_of (cut (widths l.rows) l.full) ≡ l.map + l.value * map_of (cut (widths l.field-iterator.rows.now) l.field-iterator.full.now);
+      count : length l.yielded + length (cut (widths l.field-iterator.rows.now) l.field-iterator.full.now) ≡ length l.fn.fields.rows.now;
+      rest : map_of (cut (widths l.fn.fields.rows.now) l.fn.fields.full.now) ≡ l.map + l.value * map_of (cut (widths l.field-iterator.rows.now) l.field-iterator.full.now);
     }
