@@ -194,9 +194,7 @@ fn room_check(m: usize, quads: &[f64], white: &[u8]) -> Result<(), Cause>
     requires { m ≤ most_points }
     ensures { result ≡ check (curb_room m quads.now white.now) Length }
 {
-    let q = 8 * m <= quads.len();
-    let w = m <= white.len();
-    if q & w {
+    if 8 * m <= quads.len() && m <= white.len() {
         return Ok(());
     }
     Err(Cause::Length)
