@@ -170,7 +170,7 @@ fn room_check(m: usize, quads: &[f64], white: &[u8]) -> Result<(), Cause>
     requires { m ≤ most_points }
     ensures { result ≡ check (curb_room m quads.now white.now) Length }
 {
-    if (8 * m <= quads.len()) & (m <= white.len()) {
+    if 8 * m <= quads.len() && m <= white.len() {
         return Ok(());
     }
     Err(Cause::Length)

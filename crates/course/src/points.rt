@@ -141,24 +141,11 @@ pub(crate) fn room_check(
         ≡ check (roomy_of m alpha.now beta.now x.now y.now tiles.now
         offsets.now) Length }
 {
-    let a = m <= alpha.len();
-    let b = m <= beta.len();
-    let c = m <= x.len();
-    let d = m <= y.len();
-    let e = 8 * m <= tiles.len();
-    let f = OFFSET_COUNT <= offsets.len();
-    if a & (b & (c & (d & (e & f)))) {
+    let columns = m <= alpha.len() && m <= beta.len() && m <= x.len() && m <= y.len();
+    if columns && 8 * m <= tiles.len() && OFFSET_COUNT <= offsets.len() {
         return Ok(());
     }
     Err(Cause::Length)
-}
-
-// Whether the given columns have the count given with them.
-#[tactic(auto, unfolding(crate::specs::Grader::Points::given_of))]
-pub(crate) fn given(beta: &[f64], x: &[f64], y: &[f64], n: usize) -> bool
-    ensures { result ≡ given_of beta.now x.now y.now n }
-{
-    (n <= beta.len()) & ((n <= x.len()) & (n <= y.len()))
 }
 
 // Cause 9 of given points: there is one, and there are not too many.
@@ -166,20 +153,18 @@ pub(crate) fn given(beta: &[f64], x: &[f64], y: &[f64], n: usize) -> bool
 pub(crate) fn count_check(count: usize) -> Result<(), Cause>
     ensures { result ≡ count_cause count }
 {
-    if count == 0 {
-        return Err(Cause::Count);
-    }
-    if MOST_POINTS < count {
+    if count == 0 || MOST_POINTS < count {
         return Err(Cause::Count);
     }
     Ok(())
 }
 
 // Causes 2 and 8 of given points: their columns have the count given with them, and each point is within its range.
+#[tactic(auto, unfolding(crate::specs::Grader::Points::columns_cause, crate::specs::Grader::Points::given_of))]
 pub(crate) fn given_check(b: &[f64], x: &[f64], y: &[f64], count: usize) -> Result<(), Cause>
     ensures { result ≡ columns_cause b.now x.now y.now count }
 {
-    if !given(b, x, y, count) {
+    if b.len() < count || x.len() < count || y.len() < count {
         return Err(Cause::Length);
     }
     let points = PointColumns {
