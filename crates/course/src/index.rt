@@ -41,9 +41,8 @@ fn count_run(o: &mut [u32], a: usize, b: usize)
 }
 
 // One more, two places after its own, for each cell of a rectangle but the grid's last.
-fn count_rect(o: &mut [u32], r: Rect)
-    requires o_len { length o.old ≡ offset_count }
-    requires by_index { (k : ℕ) → k < offset_count → slice_index o.old k < most_points }
+fn count_rect(o: &mut [u32; OFFSET_COUNT], r: Rect)
+    requires { (k : ℕ) → k < offset_count → slice_index o.old k < most_points }
     ensures { RectCounted 2 o.old o.new (rect_as r) }
 {
     for y in r.y0..=r.y1 {
@@ -53,7 +52,7 @@ fn count_rect(o: &mut [u32], r: Rect)
 }
 
 // How many tiles each cell but the last lists.
-fn count_all(rects: &[f64], o: &mut [u32])
+fn count_all(rects: &[f64], o: &mut [u32; OFFSET_COUNT])
     requires rects_in { RectsIn rects.now }
     requires counts { Counts (held_in rects.now) 0 o.old }
     ensures { Counts (held_in rects.now) (length rects.now) o.new }
@@ -64,9 +63,8 @@ fn count_all(rects: &[f64], o: &mut [u32])
 }
 
 // Each offset becomes the sum of all up to and with it.
-fn sum_up(o: &mut [u32])
-    requires o_len { length o.old ≡ offset_count }
-    requires by_index { (k : ℕ) → k < offset_count → slice_index o.old k ≤ most_points }
+fn sum_up(o: &mut [u32; OFFSET_COUNT])
+    requires { (k : ℕ) → k < offset_count → slice_index o.old k ≤ most_points }
     ensures { Summed o.old o.new }
 {
     let mut sum: u32 = 0;
@@ -90,8 +88,7 @@ fn place_run(o: &mut [u32], l: &mut [u32], id: u32, a: usize, b: usize)
 }
 
 // The id goes where the cursor of each cell of a rectangle points.
-fn place_rect(o: &mut [u32], l: &mut [u32], id: u32, r: Rect)
-    requires o_len { length o.old ≡ offset_count }
+fn place_rect(o: &mut [u32; OFFSET_COUNT], l: &mut [u32], id: u32, r: Rect)
     requires l_len_bound { length l.old ≤ most_points * cell_count }
     requires by_index { (c : ℕ) → c < cell_count → holds (rect_as r) c ≡ true
         → slice_index o.old (c + 1) < length l.old }
@@ -103,7 +100,7 @@ fn place_rect(o: &mut [u32], l: &mut [u32], id: u32, r: Rect)
 }
 
 // All ids, ascending: each cursor ends where the next cell's part starts.
-fn place_all(rects: &[f64], o: &mut [u32], l: &mut [u32])
+fn place_all(rects: &[f64], o: &mut [u32; OFFSET_COUNT], l: &mut [u32])
     requires rects_in { RectsIn rects.now }
     requires placed { Placed (held_in rects.now) (length rects.now) 0 o.old l.old }
     ensures { Placed (held_in rects.now) (length rects.now) (length rects.now) o.new l.new }
@@ -114,9 +111,8 @@ fn place_all(rects: &[f64], o: &mut [u32], l: &mut [u32])
 }
 
 // The index of the rectangles, in columns of just the lengths that it has.
-fn lay_index(rects: &[f64], o: &mut [u32], l: &mut [u32])
+fn lay_index(rects: &[f64], o: &mut [u32; OFFSET_COUNT], l: &mut [u32])
     requires rects_in { RectsIn rects.now }
-    requires o_len { length o.old ≡ offset_count }
     requires l_len { length l.old ≡ start (held_in rects.now) (length rects.now) cell_count }
     ensures o_after { o.new ≡ offsets_of (held_in rects.now) (length rects.now) cell_count }
     ensures l_after { l.new ≡ index_of (held_in rects.now) (length rects.now) cell_count }
@@ -147,7 +143,8 @@ pub(crate) fn build_index(
     if list.len() < need {
         return Err(need);
     }
-    lay_index(&rects[..n], &mut offsets[..OFFSET_COUNT], &mut list[..need]);
+    let o = offsets.first_chunk_mut::<OFFSET_COUNT>().unwrap();
+    lay_index(&rects[..n], o, &mut list[..need]);
     Ok(need)
 }
 

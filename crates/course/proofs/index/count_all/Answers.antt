@@ -5,8 +5,8 @@ use Rattle.course.specs.Steps.Index.{rect_as, held_in}
 use Rattle.course.proofs.TileSteps.{counts-more, counts-small}
 use Rattle.course.proofs.index.count_all.Goals as goal
 
-pub count_rect-requires-clause-by_index : goal.count_rect-requires-clause-by_index
-count_rect-requires-clause-by_index c k l =
+pub count_rect-requires : goal.count_rect-requires
+count_rect-requires c = λ k l.
     omega (arith, counts-small (held_in c.args.rects.now) c.loop-v.v-index c.loop-v.o c.loop-v.invariant k l, c.requires.rects_in.few)
 
 pub loop-v-preserved : goal.loop-v-preserved

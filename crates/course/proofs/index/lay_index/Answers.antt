@@ -1,6 +1,7 @@
 -- `course::index::lay_index` meets its contract. Assumes nothing.
 use Rattle.std.proofs.Common.{ℕ, List, length, get_or, replicate, ◌≡◌, ap, ◌∙◌, arith}
 use lib.ListN.{length-replicate, get_or-replicate}
+use Rattle.course.specs.Rules.Lengths.{offset_count}
 use Rattle.course.specs.Steps.Index.{held_in}
 use Rattle.course.proofs.TileSteps.{counts-none, counts-small, placed-none, placed-offsets, placed-index}
 use Rattle.course.proofs.index.lay_index.Goals as goal
@@ -8,13 +9,14 @@ use Rattle.course.proofs.index.lay_index.Goals as goal
 pub count_all-requires-clause-counts : goal.count_all-requires-clause-counts
 count_all-requires-clause-counts c =
     let o : List ℕ = c.args.o.now in
+    let long : length o ≡ offset_count = omega arith in
     let zeros : c.fill.new.self ≡ replicate (length o) 0 = c.fill.ensures.after (λ y h. h) in
     counts-none (held_in c.args.rects.now) 0 c.fill.new.self
-    (ap length zeros ∙ length-replicate (length o) 0 ∙ c.requires.o_len)
-    (λ d l. ap (λ (z : List ℕ). get_or z d 0) zeros ∙ get_or-replicate (length o) d 0 0 (omega (arith, c.requires.o_len)))
+    (ap length zeros ∙ length-replicate (length o) 0 ∙ long)
+    (λ d l. ap (λ (z : List ℕ). get_or z d 0) zeros ∙ get_or-replicate (length o) d 0 0 (omega (arith, long)))
 
-pub sum_up-requires-clause-by_index : goal.sum_up-requires-clause-by_index
-sum_up-requires-clause-by_index c k l = omega (arith, counts-small (held_in c.args.rects.now) (length c.args.rects.now) _ c.count_all.ensures k l, c.requires.rects_in.few)
+pub sum_up-requires : goal.sum_up-requires
+sum_up-requires c = λ k l. omega (arith, counts-small (held_in c.args.rects.now) (length c.args.rects.now) _ c.count_all.ensures k l, c.requires.rects_in.few)
 
 pub place_all-requires-clause-placed : goal.place_all-requires-clause-placed
 place_all-requires-clause-placed c = placed-none (held_in c.args.rects.now) (length c.args.rects.now) _ _ _ c.count_all.ensures c.sum_up.ensures c.requires.l_len

@@ -13,10 +13,10 @@ overflow_add-sum c =
     let t = c.loop-offset.invariant.0 in
     omega (
       arith,
-      sum-small most_points c.args.o.now k (λ d l. c.requires.by_index d (omega arith)),
+      sum-small most_points c.args.o.now k (λ d l. c.requires d (omega arith)),
       t.same,
       t.left k (omega arith),
-      c.requires.by_index k (omega (arith, t.same)),
+      c.requires k (omega (arith, t.same)),
     )
 
 pub loop-offset-preserved : goal.loop-offset-preserved
