@@ -3,6 +3,10 @@ use mathlib.Core.List.{List}
 use mathlib.Core.Path.{◌≡◌, sym, ap, ◌∙◌}
 use Prim.Native.Nat.{ℕ}
 use lib.Ieee.{Float}
+use Rattle.std.specs.Result.{result_unwrap_or}
+use Rattle.std.specs.Prelude.{Result, Ok, Err}
+use Rattle.course.specs.Grader.Cause.{cause_number}
+use Rattle.course.specs.declared.cause.Cause.{Cause}
 use Rattle.course.specs.Grader.Outcome.{CourseColumns, Outcome, outcome}
 use Rattle.course.specs.Grader.LayCall.{lay_on_call}
 use Rattle.course.specs.Grader.Curbs.{Edged, edged}
@@ -12,10 +16,7 @@ use Rattle.course.specs.declared.curbs.CurbAnswer.{CurbAnswer}
 use Rattle.run.specs.Grader.State.{view}
 use Rattle.run.specs.Grader.Start.{Begun, begun, start_cause_of, start_values_of}
 use Rattle.run.specs.Grader.Drive.{DroveParts, drove_parts, drive_parts_of}
-use Rattle.course.specs.Grader.Cause.{cause_number}
-use Rattle.course.specs.declared.cause.Cause.{Cause}
 use Rattle.run.specs.Grader.Settle.{settled_parts, SettledPoses, settled_poses}
-use Rattle.std.specs.Result.{result_unwrap_or}
 use Rattle.run.specs.Grader.Numbers.{motions_from, force_numbers, car_from, car_numbers}
 use Rattle.run.specs.Grader.Save.{AfterSave, after_save}
 use Rattle.run.specs.Grader.Restore.{AfterRestore, after_restore, restore_cause_of}
@@ -28,7 +29,6 @@ use Rattle.run.specs.declared.dynamics.Motion.{Motion}
 use Rattle.run.specs.declared.start.StartAnswer.{StartAnswer}
 use Rattle.run.specs.declared.start.StartValues.{StartValues}
 use Rattle.run.specs.declared.dynamics.Force.{Force}
-use Rattle.std.specs.Prelude.{Result, Ok, Err}
 use Rattle.run.specs.declared.settle.SettleValues.{SettleValues}
 use Rattle.run.specs.declared.sheet.SheetAnswer.{SheetAnswer}
 use Rattle.run.specs.declared.save.SaveAnswer.{SaveAnswer}

@@ -7,13 +7,12 @@ use native.Mathlib.Omega.{arith}
 use lib.ListN.{length, get_or}
 use lib.Ieee.{Float}
 use borrow.Author.Tests.{ne_eqb}
+use Rattle.std.specs.Prelude.{Result, Ok, Err}
+use Rattle.course.specs.Grader.Cause.{number_of, cause_number}
+use Rattle.course.specs.declared.cause.Cause.{Cause}
 use Rattle.run.specs.Grader.State.{State, state_of, view, Columns}
 use Rattle.run.specs.Rules.Pass.{gathered_of, pass_of, still_car}
 use Rattle.run.specs.Grader.Drive.{drive_check, drive_at, drive_parts_of, drive_of}
-use Rattle.run.proofs.RefusalLaws.{number-some}
-use Rattle.course.specs.Grader.Cause.{number_of, cause_number}
-use Rattle.course.specs.declared.cause.Cause.{Cause}
-use Rattle.std.specs.Prelude.{Result, Ok, Err}
 use Rattle.run.specs.Grader.Settle.{settle_check, settled_by, settle_at, settle_parts_of, poses_after, settle_poses_of, settle_of}
 use Rattle.run.specs.Grader.Start.{zero_state, started_by, start_at, start_of}
 use Rattle.run.specs.Grader.Saved.{Loaded, loaded}
@@ -28,6 +27,7 @@ use Rattle.run.specs.declared.state.Setup.{Setup}
 use Rattle.run.specs.declared.state.Progress.{Progress}
 use Rattle.run.specs.declared.state.Pose.{Pose}
 use Rattle.run.specs.Grader.Start.{Settings, start_cause}
+use Rattle.run.proofs.RefusalLaws.{number-some}
 use Rattle.abi.specs.Grader.Flat.{flat_driven, flat_settled, run_of, flat_saved, flat_save, flat_restored}
 use Rattle.abi.specs.Grader.InPlace.{forces_after, drive_in_place, settle_in_place}
 use Rattle.abi.specs.Laws.Host.{Kept, kept_run, kept_state, kept_from, HostCall, value_call, drive_read, settle_read, HostReplied, host_reply, host_replies, host_kept, HostRequest, value_request, HostGoing, host_going, value_going, saves_kept, run_kept, HostWent, host_request, host_said, host_after}

@@ -9,6 +9,7 @@ use lib.Dec.{ltb}
 use lib.ListN.{length, replicate}
 use lib.Ieee.{Float, binary64, fits as fitsIn}
 use borrow.Author.Tests.{ltb-true, not-false}
+use Rattle.course.specs.Grader.Cause.{number_of}
 use Rattle.course.specs.Rules.Constants.{max_attempts}
 use Rattle.course.specs.Rules.Lengths.{most_points, laid_length}
 use Rattle.course.specs.Grader.Course.{cells_of}
@@ -30,7 +31,6 @@ use Rattle.run.specs.Grader.Saved.{fields_of, saved_form}
 use Rattle.run.specs.Grader.Save.{save_answer, save_cause, save_at, save_of, save_cause_of}
 use Rattle.run.specs.Grader.Restore.{restore_answer, AfterRestore, after_restore, restore_of, restore_cause_of}
 use Rattle.run.specs.Grader.Drive.{drive_check, drive_at, drive_parts_of, drive_of}
-use Rattle.course.specs.Grader.Cause.{number_of}
 use Rattle.run.specs.Grader.Settle.{settle_check, settle_at, settle_parts_of, poses_after, settle_poses_of, settle_of}
 use Rattle.certificate.specs.Rules.Answers.{Answer, Reply}
 use Rattle.certificate.specs.Rules.Answers.Answer.{refused}
