@@ -4,17 +4,18 @@ use mathlib.Core.Path.{◌≡◌, sym, ap, ◌∙◌}
 use Prim.Native.Nat.{ℕ}
 use Rattle.std.specs.Prelude.{Result}
 use lib.Ieee.{Float}
+use Rattle.std.specs.Result.{result_unwrap_or}
+use Rattle.std.specs.Prelude.{Ok, Err}
+use Rattle.course.specs.Grader.Cause.{cause_number}
+use Rattle.course.specs.declared.cause.Cause.{Cause}
 use Rattle.course.specs.Grader.Outcome.{CourseColumns, Outcome, outcome}
 use Rattle.course.specs.Grader.LayCall.{lay_on_call}
 use Rattle.course.specs.Grader.Curbs.{Edged, edged}
-use Rattle.course.specs.declared.cause.Cause.{Cause}
 use Rattle.course.specs.declared.checkpoints.Checkpoint.{Checkpoint}
 use Rattle.course.specs.declared.points.LaidCourse.{LaidCourse}
 use Rattle.course.specs.declared.points.LayError.{LayError}
 use Rattle.run.specs.Grader.Drive.{DroveParts, drove_parts, drive_parts_of}
-use Rattle.course.specs.Grader.Cause.{cause_number}
 use Rattle.run.specs.Grader.Settle.{settled_parts, SettledPoses, settled_poses}
-use Rattle.std.specs.Result.{result_unwrap_or}
 use Rattle.run.specs.Grader.Numbers.{motions_from, force_numbers, car_from, car_numbers}
 use Rattle.run.specs.Grader.Save.{AfterSave, after_save}
 use Rattle.certificate.specs.Grader.Replay.{Replay, replay}
@@ -24,7 +25,6 @@ use Rattle.run.specs.declared.state.Car.{Car}
 use Rattle.run.specs.declared.dynamics.Motion.{Motion}
 use Rattle.run.specs.declared.start.StartValues.{StartValues}
 use Rattle.run.specs.declared.dynamics.Force.{Force}
-use Rattle.std.specs.Prelude.{Ok, Err}
 use Rattle.run.specs.declared.settle.SettleValues.{SettleValues}
 use Rattle.run.specs.declared.sheet.RunSheet.{RunSheet}
 use Rattle.run.proofs.DriveLaws.{refused-keeps}

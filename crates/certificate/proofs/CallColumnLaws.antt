@@ -10,6 +10,8 @@ use lib.Dec.{eqb}
 use lib.ListN.{length, get_or, replicate, take, drop, length-append, length-drop}
 use lib.Seq.{take_at, drop_at, drop-drop, length-take-le}
 use lib.Ieee.{Float}
+use Rattle.std.specs.Prelude.{Result}
+use Rattle.course.specs.declared.cause.Cause.{Cause}
 use Rattle.course.specs.Rules.Arithmetic.{nought}
 use Rattle.run.specs.Grader.State.{State, Columns, columns}
 use Rattle.run.specs.Grader.Drive.{Driven, driven, drive_of}
@@ -26,8 +28,6 @@ use Rattle.certificate.specs.Rules.Answers.Answer.{drove, settled, refused}
 use Rattle.run.specs.declared.state.Pose.{Pose}
 use Rattle.run.specs.declared.dynamics.Motion.{Motion}
 use Rattle.run.specs.Rules.Pass.{no_forces}
-use Rattle.std.specs.Prelude.{Result}
-use Rattle.course.specs.declared.cause.Cause.{Cause}
 use Rattle.run.specs.declared.settle.SettleValues.{SettleValues}
 use Rattle.run.specs.declared.dynamics.Force.{Force}
 

@@ -9,6 +9,7 @@ use lib.Dec.{ltb}
 use lib.ListN.{length, replicate}
 use lib.Ieee.{Float, binary64, fits as fitsIn}
 use borrow.Author.Tests.{ltb-true, not-false}
+use Rattle.course.specs.Grader.Cause.{number_of}
 use Rattle.course.specs.Rules.Constants.{max_attempts}
 use Rattle.course.specs.Rules.Lengths.{most_points, laid_length}
 use Rattle.course.specs.Grader.Course.{cells_of}

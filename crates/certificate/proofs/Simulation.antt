@@ -11,6 +11,9 @@ use lib.Dec.{ltb, leb}
 use lib.ListN.{length, replicate, length-replicate, replicate-append-replicate}
 use lib.Ieee.{Float}
 use borrow.Author.Tests.{ltb-true, lt-ltb, le-ltb, lt-leb, not-false}
+use Rattle.std.specs.Prelude.{Ok, Err}
+use Rattle.course.specs.Grader.Cause.{number_of, cause_number}
+use Rattle.course.specs.declared.cause.Cause.{Cause}
 use Rattle.course.specs.declared.tiles.TrackPoint.{TrackPoint}
 use Rattle.run.specs.Rules.Below.{any_below, how_many}
 use Rattle.run.specs.Rules.Arguments.{places_ok}
@@ -25,7 +28,6 @@ use Rattle.run.specs.Rules.Lap.{above_share, lap_of, off_field, end_of}
 use Rattle.run.specs.Rules.Pass.{pass_of}
 use Rattle.run.specs.Grader.Start.{setup_of, first_progress, first_contact, started_by}
 use Rattle.run.specs.Grader.Drive.{DroveParts, drive_check, drive_at, drive_parts_of, drive_of}
-use Rattle.course.specs.Grader.Cause.{number_of, cause_number}
 use Rattle.run.specs.Grader.Settle.{settle_check, settled_progress, SettledParts, settled_parts, settled_by, settle_at, settle_parts_of, poses_after, settle_poses_of, settle_of}
 use Rattle.certificate.specs.Grader.Calls.{Call, Replied, drive_said, settle_said, reply_of}
 use Rattle.certificate.specs.Claim.Scorer.{Opening, Told, History, opening, drives, settles, last_poses, off, Scored, touch, touches, touched, touched_count, new_tiles, meets_lap, lap_done, over, ended, grip, grips, passed, drive_number, settle_number, drive_score, settle_score, score}
@@ -37,14 +39,13 @@ use Rattle.run.specs.declared.state.Progress.{Progress}
 use Rattle.run.specs.declared.dynamics.Motion.{Motion}
 use Rattle.run.specs.declared.settle.SettleValues.{SettleValues}
 use Rattle.course.proofs.BoolLaws.{right-false, cond-else, cond-skip, cleared}
+use Rattle.run.proofs.RefusalLaws.{number-some, none-number}
 use Rattle.run.proofs.WordLaws.{get_d-zeros, how_many-cong, how_many-or, set_of-cong}
 use Rattle.run.proofs.CreditLaws.{few, empty-words}
 use Rattle.run.proofs.AnyLaws.{any_none}
 use Rattle.run.proofs.CheckLaws.{number-not-0, none-number}
 use Rattle.run.proofs.DriveLaws.{drive-cause-number}
 use Rattle.run.proofs.CallLaws.{settle-cause-number}
-use Rattle.std.specs.Prelude.{Ok, Err}
-use Rattle.course.specs.declared.cause.Cause.{Cause}
 use Rattle.certificate.specs.Rules.Answers.Answer.{refused}
 use Rattle.certificate.proofs.ScoreLaws.{InTurn}
 use Rattle.run.proofs.BelowLaws.{below, all_pass}

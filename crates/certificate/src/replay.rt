@@ -168,8 +168,7 @@ pub(crate) fn replies(
         given.now many))
         ++ drop (answer_numbers * many) numbers.old }
 {
-    let mut i: usize = 0;
-    while i < many {
+    for i in 0..many {
         let c = CALL_WORDS * i;
         let g = CALL_NUMBERS * i;
         let w = ANSWER_WORDS * i;
@@ -184,7 +183,6 @@ pub(crate) fn replies(
             &mut words[w..w + ANSWER_WORDS],
             &mut numbers[n..n + ANSWER_NUMBERS],
         );
-        i += 1;
     }
 }
 

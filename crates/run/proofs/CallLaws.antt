@@ -9,6 +9,9 @@ use lib.Dec.{ltb, leb}
 use lib.ListN.{length}
 use lib.Ieee.{Float}
 use borrow.Author.Tests.{ltb-false, leb-false, not-false}
+use Rattle.course.specs.Grader.Cause.{number_of, cause_number}
+use Rattle.course.specs.declared.cause.Cause.{Cause}
+use Rattle.course.specs.declared.cause.Cause.TheVariants.{State as NoRun, Length, Turn, Limit, Range, Index}
 use Rattle.course.specs.Rules.Lengths.{most_points, column_length, quad_numbers, offset_count}
 use Rattle.course.proofs.LengthLaws.{points-fit}
 use Rattle.run.specs.Grader.State.{State, state_of, Columns, short_of, unfit}
@@ -18,8 +21,8 @@ use Rattle.run.specs.Rules.Wheel.{quad_of}
 use Rattle.run.specs.Grader.Words.{member}
 use Rattle.run.specs.Grader.Contact.{entered, Contacted, contacted, contact_of}
 use Rattle.course.proofs.BoolLaws.{or_no, cleared}
-use Rattle.course.specs.declared.cause.Cause.{Cause}
 use Rattle.run.proofs.CheckLaws.{passed}
+use Rattle.run.proofs.RefusalLaws.{first-number, none-number, met-none}
 use Rattle.run.proofs.CreditLaws.{few}
 use Rattle.run.specs.Grader.Numbers.{pose_numbers}
 use Rattle.run.specs.Rules.Lap.{lap_of, off_field}
@@ -31,8 +34,6 @@ use Rattle.run.specs.declared.state.Progress.{Progress}
 use Rattle.run.specs.declared.state.Car.{Car}
 use Rattle.run.specs.declared.state.Pose.{Pose}
 use Rattle.run.specs.declared.settle.SettleValues.{SettleValues}
-use Rattle.course.specs.Grader.Cause.{number_of, cause_number}
-use Rattle.course.specs.declared.cause.Cause.TheVariants.{State as NoRun, Length, Turn, Limit, Range, Index}
 use Rattle.run.proofs.CheckLaws.{cause-by, none-number, met-none}
 
 -- the lent tiles are long enough for n of them

@@ -1,12 +1,13 @@
 -- The tyre pass from its steps, and what a drive answers, by its cause: a refused one leaves all as it was. For any number of words. Assumes nothing.
-use Rattle.std.specs.Prelude.{Result, Ok, Err}
 use mathlib.Core.Path.{◌≡◌, refl, ap, ◌∙◌}
 use mathlib.Core.Bool.{Bool, cond, not, ◌||◌}
 use mathlib.Core.List.{List}
 use Prim.Native.Nat.{ℕ}
 use lib.Dec.{ltb, leb}
 use lib.Ieee.{Float}
+use Rattle.std.specs.Prelude.{Result, Ok, Err}
 use Rattle.course.specs.Grader.Cause.{number_of, cause_number}
+use Rattle.course.specs.declared.cause.Cause.{Cause}
 use Rattle.run.specs.Rules.Arguments.{motion_at, motions_ok}
 use Rattle.run.specs.Rules.Dynamics.{TyreForce, PassedWheel, turning_of, limit_of, held_of, push_of, finish_of, tyre_of}
 use Rattle.run.specs.Grader.State.{State, state_of, awaiting, unfit}
@@ -20,7 +21,7 @@ use Rattle.run.specs.declared.state.Progress.{Progress}
 use Rattle.run.specs.declared.state.Car.{Car}
 use Rattle.run.specs.declared.dynamics.Motion.{Motion}
 use Rattle.run.specs.declared.dynamics.Force.{Force}
-use Rattle.course.specs.declared.cause.Cause.{Cause}
+use Rattle.run.proofs.RefusalLaws.{first-number, none-number}
 
 -- ---- the pass
 

@@ -2,7 +2,7 @@
 -- before it returned, refused or not; and a list that holds saves and restores too. What a call answers and returns is what its contract says. For states whose sets have m words and take n up
 -- to `most`. Assumes nothing.
 use Rattle.std.specs.Prelude.{List, [], ◌∷◌, ℕ, get_or, take, Float, Result, Ok, Err}
-use Rattle.course.specs.Grader.Cause.{cause_number}
+use Rattle.course.specs.Grader.Cause.{cause_number, number_of}
 use Rattle.course.specs.declared.cause.Cause.{Cause}
 use Rattle.run.specs.Grader.State.{State, Columns}
 use Rattle.run.specs.Grader.Drive.{drive_of}
@@ -15,7 +15,6 @@ use Rattle.certificate.specs.Rules.Answers.Reply.{answered, decided}
 use Rattle.run.specs.declared.state.Pose.{Pose}
 use Rattle.run.specs.declared.dynamics.Motion.{Motion}
 use Rattle.run.specs.declared.dynamics.Force.{Force}
-use Rattle.course.specs.Grader.Cause.{number_of}
 use Rattle.run.specs.declared.settle.SettleValues.{SettleValues}
 
 -- a call with all that it is handed but the state

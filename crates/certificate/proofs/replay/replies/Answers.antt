@@ -1,5 +1,4 @@
 -- `certificate::replay::replies` meets its contract. Assumes nothing.
-use native.Mathlib.Omega.{arith}
 use Rattle.certificate.proofs.CallColumnLaws.{no-reply, own-parts, one-reply, all-replies}
 use Rattle.certificate.proofs.replay.replies.Goals as goal
 
@@ -10,12 +9,6 @@ pub reply-requires : goal.reply-requires
 reply-requires c =
     let whole = own-parts c.loop-i.invariant (c.requires.many_in_bounds, (c.requires.many_in_bounds_2, (c.requires.many_in_bounds_3, c.requires.many_in_bounds_4))) c.loop-i-test.true in
     record { in_bounds = whole.0; in_bounds_2 = whole.1.0; words_len = whole.1.1.0; numbers_len = whole.1.1.1 }
-
-pub overflow_add-i : goal.overflow_add-i
-overflow_add-i c = omega (arith, c.loop-i-test.true)
-
-pub loop-i-smaller : goal.loop-i-smaller
-loop-i-smaller c = omega (arith, c.loop-i-test.true)
 
 pub loop-i-preserved : goal.loop-i-preserved
 loop-i-preserved c = one-reply c.loop-i.invariant (c.requires.many_in_bounds, (c.requires.many_in_bounds_2, (c.requires.many_in_bounds_3, c.requires.many_in_bounds_4))) c.loop-i-test.true (c.reply.ensures.run_after, (c.reply.ensures.words_after, c.reply.ensures.numbers_after))

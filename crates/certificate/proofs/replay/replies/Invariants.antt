@@ -1,5 +1,4 @@
 -- `certificate::replay::replies` meets its contract. Assumes nothing.
-use Prim.Native.Nat.{◌-◌}
 use Rattle.run.specs.Grader.State.{view, columns}
 use Rattle.certificate.proofs.CallColumnLaws.{Replying}
 use Rattle.run.specs.Grader.Widths.{full_words, most_tiles}
@@ -7,6 +6,3 @@ use Rattle.certificate.proofs.replay.replies.Given as goal
 
 abbrev pub invariant-loop-i : goal.invariant-loop-i
 invariant-loop-i l = Replying full_words most_tiles (columns l.tiles l.offsets l.list) l.calls l.given (view l.initial.run) l.initial.words l.initial.numbers l.many (view l.run) l.words l.numbers l.i
-
-abbrev pub decreases-loop-i : goal.decreases-loop-i
-decreases-loop-i l = l.many - l.i
