@@ -29,7 +29,7 @@ use Rattle.run.specs.declared.settle.SettleAnswer.{SettleAnswer}
 use Rattle.run.specs.declared.settle.SettleValues.{SettleValues}
 use Rattle.run.specs.declared.sheet.RunSheet.{RunSheet}
 use Rattle.run.proofs.DriveLaws.{refused-keeps}
-use Rattle.abi.specs.Grader.Flat.{flat_laid, flat_curbs, flat_driven, flat_settled, flat_sheet, flat_saved, saved_out, flat_save, flat_answers, flat_replayed, replay_columns, columns_after}
+use Rattle.abi.specs.Grader.Flat.{flat_laid, flat_curbs, flat_driven, flat_settled, flat_saved, saved_out, flat_save, flat_answers, flat_replayed, replay_columns, columns_after}
 use Rattle.abi.specs.Grader.InPlace.{DrivenInPlace, driven_in_place, drive_in_place, SettledInPlace, settled_in_place}
 use Rattle.abi.specs.declared.flat.FlatLaid.{FlatLaid}
 use Rattle.abi.specs.declared.flat.FlatCurbs.{FlatCurbs}
