@@ -2,7 +2,6 @@
 use mathlib.Core.List.{List}
 use mathlib.Core.Path.{◌≡◌, sym, ap, ◌∙◌}
 use Prim.Native.Nat.{ℕ}
-use Rattle.std.specs.Prelude.{Result}
 use lib.Ieee.{Float}
 use Rattle.std.specs.Result.{result_unwrap_or}
 use Rattle.std.specs.Prelude.{Ok, Err}
@@ -17,23 +16,17 @@ use Rattle.course.specs.declared.points.LayError.{LayError}
 use Rattle.run.specs.Grader.Drive.{DroveParts, drove_parts, drive_parts_of}
 use Rattle.run.specs.Grader.Settle.{settled_parts, SettledPoses, settled_poses}
 use Rattle.run.specs.Grader.Numbers.{motions_from, force_numbers, car_from, car_numbers}
-use Rattle.run.specs.Grader.Save.{AfterSave, after_save}
-use Rattle.certificate.specs.Grader.Replay.{Replay, replay}
 use Rattle.run.specs.declared.state.Setup.{Setup}
 use Rattle.run.specs.declared.state.Progress.{Progress}
 use Rattle.run.specs.declared.state.Car.{Car}
 use Rattle.run.specs.declared.dynamics.Motion.{Motion}
-use Rattle.run.specs.declared.start.StartValues.{StartValues}
 use Rattle.run.specs.declared.dynamics.Force.{Force}
 use Rattle.run.specs.declared.settle.SettleValues.{SettleValues}
-use Rattle.run.specs.declared.sheet.RunSheet.{RunSheet}
 use Rattle.run.proofs.DriveLaws.{refused-keeps}
-use Rattle.abi.specs.Grader.Flat.{flat_laid, flat_curbs, flat_driven, no_settle, flat_settled, flat_sheet, flat_saved, saved_out, flat_save, flat_answers, flat_replayed, replay_columns, columns_after}
+use Rattle.abi.specs.Grader.Flat.{flat_laid, flat_curbs, flat_driven, no_settle, flat_settled}
 use Rattle.abi.specs.Grader.InPlace.{DrivenInPlace, driven_in_place, forces_after, drive_in_place, SettledInPlace, settled_in_place}
 use Rattle.abi.specs.declared.flat.FlatLaid.{FlatLaid}
 use Rattle.abi.specs.declared.flat.FlatCurbs.{FlatCurbs}
-use Rattle.abi.specs.declared.flat.FlatSaved.{FlatSaved}
-use Rattle.abi.specs.declared.flat.FlatReplayed.{FlatReplayed}
 
 -- ---- courses
 
@@ -93,17 +86,3 @@ unfolding flat_settled
 settled-whole {next = next} {c = c} {w = w} {last = last} ek ev e =
     (λ i. settled_in_place (record { cause = ek i; new_tiles = (ev i).new_tiles; n = (ev i).n; off = (ev i).off; lap = (ev i).lap; ended = (ev i).ended; progress = next }) c w last)
     ∙ ap settled_from e
-
--- ---- saves
-
-pub saved-whole : (f : FlatSaved) (a : Result ℕ Cause) (out : List ℕ) (d : AfterSave) → f ≡ flat_saved a → after_save a out ≡ d → saved_out f out ≡ flat_save d
-unfolding flat_save
-saved-whole f a out d e p = ap (λ (g : FlatSaved). saved_out g out) e ∙ ap flat_save p
-
--- ---- a whole replay
-
-pub replayed-whole : (f : FlatReplayed) (a : Result LaidCourse LayError) (b : Result StartValues Cause) (s : Result RunSheet Cause) (l : CourseColumns) (ws : List ℕ) (ns : List Float) (q : Replay)
-    → f ≡ flat_answers a b s → replay a b s l ws ns ≡ q → (f ≡ flat_replayed q) × (replay_columns l ws ns ≡ columns_after q)
-unfolding flat_replayed columns_after
-replayed-whole f a b s l ws ns q e p =
-    (e ∙ ap (λ (z : Replay). flat_answers z.laid z.start z.sheet) p, ap (λ (z : Replay). replay_columns z.lent z.words z.numbers) p)

@@ -139,6 +139,7 @@ pub extern "C" fn grader_settle_parts(
 
 // A seed's course, a start on it and a whole list of calls, every answer written to the lent words and numbers.
 #[unsafe(no_mangle)]
+#[tactic(auto, unfolding(crate::specs::Grader::Flat::flat_replayed, crate::specs::Grader::Flat::columns_after))]
 pub extern "C" fn grader_replay(
     seed: u64,
     alpha: &mut [f64],

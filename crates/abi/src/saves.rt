@@ -13,6 +13,7 @@ use run::{restore, save};
 
 // The run's saved form goes to the front of the output. A refusal writes nothing.
 #[unsafe(no_mangle)]
+#[tactic(auto, unfolding(crate::specs::Grader::Flat::flat_save))]
 pub extern "C" fn grader_save(run: Run, out: &mut [u8]) -> FlatSaved
     ensures { saved_out result out.new ≡ flat_save (save_of most_tiles (view run) out.old) }
 {

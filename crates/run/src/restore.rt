@@ -30,6 +30,7 @@ pub struct SavedFor {
 }
 
 // Refused by the first of the causes 12, 2 and 10 that holds of what was saved and of the lent course.
+#[tactic(auto, unfolding(crate::specs::Grader::Restore::restore_check, crate::specs::Grader::State::short_of))]
 fn restore_check(
     f: Fields,
     tiles: &[f64],

@@ -31,6 +31,7 @@ fn share(credited: u32, n: u32) -> u32
 
 // The figures of a run, ended or not; refused where its counts are not those of a run. They are read from what start fixed and what
 // settle changed.
+#[tactic(auto, unfolding(crate::specs::Grader::Sheet::sheet_of, crate::specs::Grader::Sheet::figures_of))]
 pub fn sheet(setup: Setup, progress: Progress) -> Result<RunSheet, Cause>
     ensures { result ≡ sheet_of most_tiles setup progress }
 {

@@ -37,6 +37,7 @@ pub(crate) fn settings_ok(share: f64, limit: u32) -> bool
 }
 
 // Refused by the first of the causes 1, 2, 8 and 10 that holds; n is at most `most`.
+#[tactic(auto, unfolding(crate::specs::Grader::Start::start_check, crate::specs::Grader::Start::start_short, crate::specs::Grader::State::short_of))]
 fn start_check(
     most: u32,
     tiles: &[f64],

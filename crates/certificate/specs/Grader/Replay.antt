@@ -39,7 +39,7 @@ tolds_to k ws ns (suc n) = tolds_to k ws ns n ++ (told_from k (part_at call_word
 
 -- ---- the plain scorer's answers to a start and the calls after it, by the number of start's cause: after a refused start every call is refused by 4
 
--- the cause that has this number
+-- the cause that has this number; for a number that no cause has, the last
 unfoldable pub cause_of : ℕ → Cause
 cause_of k =
     cond (eqb k 1) Cause.Settings

@@ -6,28 +6,12 @@ use Rattle.run.specs.Grader.Restore.{restore_check}
 use Rattle.std.specs.Prelude.{Some, Ok, Err}
 use Rattle.course.specs.declared.cause.Cause.{Cause}
 use Rattle.run.specs.Grader.State.{columns, short_of}
-use borrow.Author.Tests.{eq-eqb, ne_eqb}
-use lib.Dec.{eqb}
-use mathlib.Core.Bool.{cond, not, false}
+use borrow.Author.Tests.{eq-eqb}
+use mathlib.Core.Bool.{cond, not}
 use native.Mathlib.Omega.{arith}
 use mathlib.Core.Path.{◌≡◌, sym, ap, ◌∙◌}
 use Rattle.run.specs.Steps.Touch.{sixteen_cells}
 use Rattle.run.proofs.restore.restore_check.Goals as goal
-
-pub returns-then-n-f : goal.returns-then-n-f
-unfolding restore_check
-returns-then-n-f c =
-    let a = c.args in
-    let other : eqb a.n a.f.n ≡ false = ne_eqb a.n a.f.n (λ e. omega (arith, e, c.if-n-f.true)) in
-    simp other
-
-pub returns-then-is_short : goal.returns-then-is_short
-unfolding restore_check short_of
-returns-then-is_short c =
-    let h = c.is_short in
-    let a = c.args in
-    let same : a.n ≡ a.f.n = omega (arith, c.if-n-f.false) in
-    simp (eq-eqb a.n a.f.n same, ← h.ensures, c.if-is_short.true)
 
 pub returns-then-not-cells_sound : goal.returns-then-not-cells_sound
 unfolding restore_check short_of

@@ -1,7 +1,6 @@
 -- `run::restore::restored` meets its contract. Assumes nothing.
 use lib.Dec.{lit≤}
-use mathlib.Core.Path.{◌≡◌, refl, sym, ap, ◌∙◌}
-use Rattle.std.specs.Prelude.{Some}
+use mathlib.Core.Path.{refl, sym, ap, ◌∙◌}
 use Rattle.std.specs.Result.{result_ok}
 use Rattle.std.proofs.lemmas.Result.{err_from_is_err_and}
 use Rattle.run.specs.Grader.Widths.{most_tiles, full_words}
@@ -9,7 +8,6 @@ use Rattle.run.specs.Grader.State.{view, columns}
 use Rattle.run.specs.Grader.Touch.{sound_poses}
 use Rattle.run.specs.Grader.Contact.{Contacted}
 use Rattle.run.specs.Grader.Start.{first_contact}
-use Rattle.run.specs.Grader.Saved.{loaded}
 use Rattle.run.specs.Steps.Load.{fields_as}
 use Rattle.run.proofs.CheckLaws.{not-there}
 use Rattle.run.proofs.LoadLaws.{not-loaded, is-loaded, kept-sound}

@@ -8,18 +8,6 @@ use Rattle.course.specs.declared.cause.Cause.{Cause}
 use Rattle.run.proofs.CellLaws.{cells-sound-is}
 use Rattle.run.proofs.start.start_check.Goals as goal
 
-pub returns-then-not-settings_ok : goal.returns-then-not-settings_ok
-unfolding start_check
-returns-then-not-settings_ok c = simp (← c.settings_ok.ensures, c.if-not-settings_ok.true)
-
-pub returns-then-is_short-n : goal.returns-then-is_short-n
-unfolding start_check start_short short_of
-returns-then-is_short-n c = simp (← c.settings_ok.ensures, c.if-not-settings_ok.false, ← c.is_short.ensures, c.if-is_short-n.true)
-
-pub returns-then-not-poses_ok : goal.returns-then-not-poses_ok
-unfolding start_check start_short short_of
-returns-then-not-poses_ok c = simp (← c.settings_ok.ensures, c.if-not-settings_ok.false, ← c.is_short.ensures, c.if-is_short-n.false, ← c.poses_ok.ensures, c.if-not-poses_ok.true)
-
 pub returns-then-not-cells_sound : goal.returns-then-not-cells_sound
 unfolding start_check start_short short_of
 returns-then-not-cells_sound c =
