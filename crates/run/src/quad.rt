@@ -172,7 +172,6 @@ pub(crate) struct Stance {
 
 impl Stance {
     // The wheels stand at these poses.
-    #[inline]
     pub(crate) fn at(poses: [Pose; 4]) -> Stance
         ensures { result.poses ≡ poses }
     {
