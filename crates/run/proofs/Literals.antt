@@ -1,5 +1,5 @@
 -- The bits of constants: what the compiled code has in the place of the Rust's expressions. Assumes nothing.
-use mathlib.Core.Path.{◌≡◌, refl, sym, ◌∙◌}
+use mathlib.Core.Path.{◌≡◌, refl}
 use mathlib.Core.Bool.{Bool, true, false}
 use lib.IntN.{pos}
 use Rattle.std.specs.Int.{from_bool}

@@ -26,7 +26,8 @@ fn touch_sets(stance: &Stance, columns: Columns, n: usize, tested: &mut [u64], w
     requires looked { Looked columns.offsets.now columns.list.now n (sixteen_cells stance.now.poses) stance.now.cells }
     ensures { wheels.new
         ≡ wheel_sets (length tested.old)
-        (λ w. touched_by columns.entry.tiles.now columns.entry.offsets.now columns.entry.list.now (quad_of stance.now.poses w)) 4 }
+        (λ w. touched_by columns.entry.tiles.now columns.entry.offsets.now columns.entry.list.now
+        (quad_of stance.now.poses w)) 4 }
 {
     let m = tested.len();
     for wheel in 0..4 {
@@ -88,7 +89,8 @@ pub(crate) fn full_contact(
         × (sound_poses columns.offsets.now columns.list.now n stance.now.poses ≡ true) }
     ensures { contacted credited.new wheels.new result.fresh result.zero
         ≡ contact_of full_words credited.old wheels.old
-        (λ w. touched_by columns.entry.tiles.now columns.entry.offsets.now columns.entry.list.now (quad_of stance.now.poses w)) }
+        (λ w. touched_by columns.entry.tiles.now columns.entry.offsets.now columns.entry.list.now
+        (quad_of stance.now.poses w)) }
 {
     let mut tested = [0u64; FULL_WORDS];
     let before = *wheels;

@@ -66,10 +66,10 @@ fn pass(car: Car, action: u32, motion: [Motion; 4], roads: [bool; 4]) -> Passed
     let p1 = dynamics::push(o1, motion[1]);
     let p2 = dynamics::push(o2, motion[2]);
     let p3 = dynamics::push(o3, motion[3]);
-    let s0 = dynamics::held(roads[0], p0.f_force, p0.p_force);
-    let s1 = dynamics::held(roads[1], p1.f_force, p1.p_force);
-    let s2 = dynamics::held(roads[2], p2.f_force, p2.p_force);
-    let s3 = dynamics::held(roads[3], p3.f_force, p3.p_force);
+    let s0 = dynamics::held(roads[0], p0);
+    let s1 = dynamics::held(roads[1], p1);
+    let s2 = dynamics::held(roads[2], p2);
+    let s3 = dynamics::held(roads[3], p3);
     let a = dynamics::finish(w0, motion[0], o0, s0, car.fuel_spent);
     let b = dynamics::finish(w1, motion[1], o1, s1, a.fuel_spent);
     let c = dynamics::finish(w2, motion[2], o2, s2, b.fuel_spent);

@@ -128,28 +128,22 @@ fn is_small(road: bool, s: f64) -> bool
 
 // The two forces, cut down together to the limit. A root is taken only where it decides.
 #[tactic(auto, unfolding(crate::specs::Rules::Dynamics::held_of))]
-pub(crate) fn held(road: bool, f: f64, p: f64) -> TyreForce
-    ensures { tyre_force_as result ≡ held_of (limit_of road) f p }
+pub(crate) fn held(road: bool, push: TyreForce) -> TyreForce
+    ensures { tyre_force_as result ≡ held_of (limit_of road) push.f_force push.p_force }
 {
-    let s = f * f + p * p;
+    let s = push.f_force * push.f_force + push.p_force * push.p_force;
     if is_small(road, s) {
-        return TyreForce {
-            f_force: f,
-            p_force: p,
-        };
+        return push;
     }
     let force = root::sqrt(s);
     let most = limit(road);
     if force > most {
         return TyreForce {
-            f_force: f / force * most,
-            p_force: p / force * most,
+            f_force: push.f_force / force * most,
+            p_force: push.p_force / force * most,
         };
     }
-    TyreForce {
-        f_force: f,
-        p_force: p,
-    }
+    push
 }
 
 // What pushes at a tyre that turns at omega, before it is cut: by how its surface slips over the ground.

@@ -56,7 +56,7 @@ fn apart_by_others(q: [[f64; 2]; 4], a: [[f64; 2]; 4], b: [[f64; 2]; 4]) -> bool
 }
 
 // The quads lie apart on a normal of one of the four edges of q.
-#[tactic(auto, unfolding(crate::specs::Steps::Touch::apart_by_others, crate::specs::Rules::Overlap::apart_by_edges, crate::specs::Rules::Overlap::apart_along))]
+#[tactic(auto, unfolding(crate::specs::Steps::Touch::apart_by_others, crate::specs::Rules::Overlap::apart_by_edges, crate::specs::Rules::Overlap::apart_along,))]
 fn apart_by_edges(q: [[f64; 2]; 4], a: [[f64; 2]; 4], b: [[f64; 2]; 4]) -> bool
     ensures { result ≡ apart_by_edges q a b }
 {
@@ -172,7 +172,6 @@ pub(crate) struct Stance {
 
 impl Stance {
     // The wheels stand at these poses.
-    #[inline]
     pub(crate) fn at(poses: [Pose; 4]) -> Stance
         ensures { result.poses ≡ poses }
     {

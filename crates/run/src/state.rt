@@ -11,7 +11,7 @@ use course::{constants, numeric};
 
 // A wheel's control record: what it keeps from drive to drive.
 #[repr(C)]
-#[derive(Clone, Copy)]
+#[derive(Clone, Copy, Default)]
 pub struct WheelCtl {
     pub gas: f64,
     pub brake: f64,
@@ -32,7 +32,7 @@ pub struct Pose {
 
 // What start fixes: no later call changes it.
 #[repr(C)]
-#[derive(Clone, Copy)]
+#[derive(Clone, Copy, Default)]
 pub struct Setup {
     // The course's tile count.
     pub n: u32,
@@ -43,7 +43,7 @@ pub struct Setup {
 
 // What settle changes.
 #[repr(C)]
-#[derive(Clone, Copy)]
+#[derive(Clone, Copy, Default)]
 pub struct Progress {
     // How many tiles are credited.
     pub visited_count: u32,
@@ -56,7 +56,7 @@ pub struct Progress {
 
 // What drive changes.
 #[repr(C)]
-#[derive(Clone, Copy)]
+#[derive(Clone, Copy, Default)]
 pub struct Car {
     pub ctl: [WheelCtl; 4],
     pub fuel_spent: f64,

@@ -1,10 +1,11 @@
 -- `run::contact::credit_sets` meets its contract. Assumes nothing.
 use Rattle.run.proofs.ContactLaws.{no-credit, own-credit, one-credit, few-new, credited-long, four-credits}
 use native.Mathlib.Omega.{arith}
+use borrow.Author.Rules.{rules}
 use Rattle.run.proofs.contact.credit_sets.Goals as goal
 
 pub loop-w-init : goal.loop-w-init
-loop-w-init c = no-credit c.requires (λ j. (c.slice_known-1.given j).fits)
+loop-w-init c = no-credit c.requires (λ j. search rules)
 
 pub credit_set-k-requires : goal.credit_set-k-requires
 credit_set-k-requires c = own-credit c.loop-w.invariant c.requires c.loop-w-test.true
