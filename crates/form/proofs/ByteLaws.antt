@@ -17,7 +17,7 @@ use lib.Ieee.{Float, binary64, fits, to_bits, of_bits}
 use lib.Ieee.Bits.{of_bits-to_bits, to_bits-lt}
 use borrow.Author.Tests.{le-leb, lt-leb}
 use Rattle.form.proofs.Filling.{Filling, part-on, part_length}
-use Rattle.form.specs.Rules.Bytes.{low, number, all_zero, each_bytes, each_from, word_bytes, words_from, float_bytes, floats_from, Leaves, leaves, store, fill_each}
+use Rattle.form.specs.Rules.Bytes.{low, number, all_zero, each_bytes, each_from, word_bytes, words_from, float_bytes, floats_from, Leaves, leaves, store, fill_each, fill_words, fill_floats}
 
 -- ---- numbers
 pub low-length : (k v : ℕ) → length (low k v) ≡ k
@@ -210,3 +210,16 @@ words_back = each_back (λ (w : ℕ). w) (λ (w : ℕ). w) Word (λ w h. h) (λ 
 -- every float of the format, NaN and infinities among them
 pub float_back : (xs : List Float) → All Fitting xs → floats_from (length xs) (float_bytes xs) ≡ xs
 float_back = each_back (to_bits binary64) (of_bits binary64) Fitting float_small (of_bits-to_bits binary64)
+
+-- what `put` and `read` promise, at words and at floats
+words-put : (ws out : List ℕ) → store (each_bytes (λ (w : ℕ). w) ws) out ≡ store (word_bytes ws) out
+words-put ws out = refl
+
+floats-put : (xs : List Float) (out : List ℕ) → store (each_bytes (to_bits binary64) xs) out ≡ store (float_bytes xs) out
+floats-put xs out = refl
+
+words-filled : (bs ws : List ℕ) → fill_each (λ (w : ℕ). w) bs ws ≡ fill_words bs ws
+words-filled bs ws = refl
+
+floats-filled : (bs : List ℕ) (xs : List Float) → fill_each (of_bits binary64) bs xs ≡ fill_floats bs xs
+floats-filled bs xs = refl

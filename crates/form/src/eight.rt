@@ -48,6 +48,7 @@ impl Eight for f64 {
 }
 
 // Values go to the front of the output, eight bytes each; whether they have room.
+// Kept as a bool, here and in `read`: it answers a question and carries nothing, and callers lend exact room.
 pub fn put<E: Eight>(values: &[E], out: &mut [u8]) -> bool
     ensures { leaves result out.new ≡ store (each_bytes E.number_of values.now) out.old }
 {

@@ -10,7 +10,7 @@ pub fn all_zero(bytes: &[u8]) -> bool
 }
 
 // The k low bytes of v go to the front of the output; whether they have room.
-// Kept as a bool, as in `put` and `read` of `eight`: it answers a question and carries nothing, and callers lend exact room.
+// Kept as a bool: it answers a question and carries nothing, and callers lend exact room.
 pub fn put_number(v: u64, k: usize, out: &mut [u8]) -> bool
     ensures { leaves result out.new ≡ store (low k v) out.old }
 {

@@ -6,9 +6,7 @@ use Rattle.form.specs.declared.table.Row.{Row}
 use Rattle.form.specs.declared.table.Fields.{Fields}
 use Rattle.form.specs.Rules.Bytes.{low, number, all_zero}
 
--- a row of the table has the field's bytes, and whether it may stand with zeros
-
--- the table of widths and marks; a row without a mark may not stand with zeros
+-- the table of widths and marks: a row has its field's bytes, and whether this may stand with zeros; one without a mark may not
 unfoldable pub rows_of : List ℕ → List Bool → List Row
 rows_of [] zs = []
 rows_of (w ∷ ws) zs = record { bytes = w; zeros = get_or zs 0 false } ∷ rows_of ws (drop 1 zs)
