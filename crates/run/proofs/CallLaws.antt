@@ -22,7 +22,7 @@ use Rattle.run.specs.Grader.Words.{member}
 use Rattle.run.specs.Grader.Contact.{entered, Contacted, contacted, contact_of}
 use Rattle.course.proofs.BoolLaws.{or_no, cleared}
 use Rattle.run.proofs.CheckLaws.{passed}
-use Rattle.run.proofs.RefusalLaws.{first-number, none-number, met-none}
+use Rattle.run.proofs.CheckLaws.{cause-by, none-number, met-none}
 use Rattle.run.proofs.CreditLaws.{few}
 use Rattle.run.specs.Grader.Numbers.{pose_numbers}
 use Rattle.run.specs.Rules.Lap.{lap_of, off_field}
@@ -34,7 +34,6 @@ use Rattle.run.specs.declared.state.Progress.{Progress}
 use Rattle.run.specs.declared.state.Car.{Car}
 use Rattle.run.specs.declared.state.Pose.{Pose}
 use Rattle.run.specs.declared.settle.SettleValues.{SettleValues}
-use Rattle.run.proofs.CheckLaws.{cause-by, none-number, met-none}
 
 -- the lent tiles are long enough for n of them
 pub long : (tiles offsets n most : ℕ) → short_columns n tiles offsets ≡ false → ltb most n ≡ false → most ≤ most_points → n * 8 ≤ tiles
