@@ -39,7 +39,6 @@ use Rattle.run.specs.declared.state.Progress.{Progress}
 use Rattle.run.specs.declared.dynamics.Motion.{Motion}
 use Rattle.run.specs.declared.settle.SettleValues.{SettleValues}
 use Rattle.course.proofs.BoolLaws.{right-false, cond-else, cond-skip, cleared}
-use Rattle.run.proofs.RefusalLaws.{number-some, none-number}
 use Rattle.run.proofs.WordLaws.{get_d-zeros, how_many-cong, how_many-or, set_of-cong}
 use Rattle.run.proofs.CreditLaws.{few, empty-words}
 use Rattle.run.proofs.AnyLaws.{any_none}
