@@ -4,7 +4,7 @@ use mathlib.Core.Path.{◌≡◌, sym, ap, ◌∙◌}
 use Prim.Native.Nat.{ℕ}
 use lib.Ieee.{Float}
 use Rattle.std.specs.Result.{result_unwrap_or}
-use Rattle.std.specs.Prelude.{Ok, Err}
+use Rattle.std.specs.Prelude.{Result, Ok, Err}
 use Rattle.course.specs.Grader.Cause.{cause_number}
 use Rattle.course.specs.declared.cause.Cause.{Cause}
 use Rattle.course.specs.Grader.Outcome.{CourseColumns, Outcome, outcome}
