@@ -37,6 +37,7 @@ fn is_steep(d: f64) -> bool
 }
 
 // Whether four turns are steep and all to one side.
+// Kept as tests written out, as the definition has them: an array of the four with three closures is no shorter.
 fn one_way(t: f64, u: f64, v: f64, w: f64) -> bool
     ensures { result ≡ one_way t u v w }
 {
