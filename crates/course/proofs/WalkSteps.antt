@@ -3,12 +3,13 @@ use Rattle.std.proofs.Common.{◌≡◌, ℕ, suc, ◌+◌, ◌-◌, ◌<◌, �
 use mathlib.Core.List.{map-append}
 use lib.ListN.{length-map}
 use lib.Ieee.{Float}
-use Rattle.course.specs.Rules.Lengths.{step_limit}
+use Rattle.course.specs.Rules.Lengths.{step_limit, laid_length}
 use Rattle.course.specs.Rules.Step.{Walk, TrackStep, step_of}
 use Rattle.course.specs.Rules.Track.{step_alphas, step_betas, step_xs, step_ys}
 use Rattle.course.specs.Rules.Walk.{Trail, follow, onward, walk_from, walk_start, walk_of}
-use Rattle.course.specs.Steps.Lay.{Columns, Trod}
+use Rattle.course.specs.Steps.Lay.{Columns, columns_of, SameColumns, Trod}
 use Rattle.course.specs.declared.checkpoints.Checkpoint.{Checkpoint}
+use Rattle.course.specs.declared.point_columns.PointColumns.{PointColumns}
 use Rattle.course.proofs.ColumnLaws.{Grown, grown-none, grown-more}
 use Rattle.course.proofs.Turns.{suc-pred}
 
@@ -25,6 +26,16 @@ pub record Room (m : ℕ) (c : Columns) : Type 0 where
   pub beta : m ≤ length c.beta
   pub x : m ≤ length c.x
   pub y : m ≤ length c.y
+
+pub room-of : (m : ℕ) (c : PointColumns) → m ≤ laid_length → Room m (columns_of c)
+room-of m c h = record { alpha = omega (arith, c.room_alpha); beta = omega (arith, c.room_beta); x = omega (arith, c.room_x); y = omega (arith, c.room_y) }
+
+-- columns that are the ones that were lent, and stay so
+pub same-none : (c : PointColumns) → SameColumns c c
+same-none c = record { alpha = refl; beta = refl; x = refl; y = refl }
+
+pub same-then : {c c' c'' : PointColumns} → SameColumns c c' → SameColumns c' c'' → SameColumns c c''
+same-then s t = record { alpha = t.alpha ∙ s.alpha; beta = t.beta ∙ s.beta; x = t.x ∙ s.x; y = t.y ∙ s.y }
 
 -- one step is stored
 abbrev pub stored : Columns → ℕ → TrackStep → Columns

@@ -155,6 +155,7 @@ pub fn lay(
 
 // The course of one attempt with given checkpoints in the lent columns, the ring where that attempt is refused. It lets
 // the limit on the search be met on purpose.
+// Kept beside `lay_attempts`: a closure in place of the one call that differs would need a contract over the lent columns.
 pub fn lay_checkpoints(
     cs: [Checkpoint; 12],
     alpha: &mut [f64],

@@ -82,6 +82,7 @@ fn turn_down(beta: f64, alpha: f64, left: u32) -> Option<(f64, u32)>
 }
 
 // Beta more tau while it is below alpha by more than 1.5 pi.
+// Kept beside `turn_down`: one function for both would take comparison and turn as closures, which says more, not less.
 fn turn_up(beta: f64, alpha: f64, left: u32) -> Option<(f64, u32)>
     ensures { result ≡ turn_up left beta alpha }
 {

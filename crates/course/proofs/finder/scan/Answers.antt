@@ -1,5 +1,5 @@
 -- `course::finder::scan` meets its contract, a place at a time. Assumes nothing.
-use Rattle.std.proofs.Common.{sym, refl, ◌∙◌, arith}
+use Rattle.std.proofs.Common.{sym, ◌∙◌, arith}
 use Rattle.course.proofs.FinderSteps.{scan-past, scan-at, scan-end}
 use Rattle.course.proofs.finder.scan.Goals as goal
 
@@ -7,9 +7,6 @@ pub returns-then-alpha-checkpoint : goal.returns-then-alpha-checkpoint
 returns-then-alpha-checkpoint c =
     let here = c.loop-index-test.true in
     sym (c.loop-index.invariant ∙ scan-at c.args.cs.now c.loop-index.index _ _ (omega (arith, c.told-cs, here)) c.if-alpha-checkpoint.true)
-
-pub loop-index-init : goal.loop-index-init
-loop-index-init c = refl
 
 -- not here: the next place
 pub loop-index-preserved : goal.loop-index-preserved

@@ -1,15 +1,11 @@
 -- `course::lay::ring_points` meets its contract. Assumes nothing.
-use Rattle.std.proofs.Common.{◌≡◌, refl, arith}
+use Rattle.std.proofs.Common.{◌≡◌, arith}
 use Rattle.course.proofs.Generating.{ring-none, ring-more, ring-all}
+use Rattle.course.proofs.WalkSteps.{room-of, same-none}
 use Rattle.course.proofs.lay.ring_points.Goals as goal
 
 pub loop-i-init : goal.loop-i-init
-loop-i-init c =
-    let r = c.args.cols.now in
-    record {
-      same = record { alpha = refl; beta = refl; x = refl; y = refl };
-      ringing = ring-none _ (record { alpha = omega (arith, r.room_alpha); beta = omega (arith, r.room_beta); x = omega (arith, r.room_x); y = omega (arith, r.room_y) });
-    }
+loop-i-init c = record { same = same-none _; ringing = ring-none _ (room-of _ c.args.cols.now (omega arith)) }
 
 pub loop-i-preserved : goal.loop-i-preserved
 loop-i-preserved c =

@@ -1,10 +1,7 @@
 -- `course::step::turn_down` meets its contract. Assumes nothing.
 use Rattle.course.proofs.Turns.{down-left, down-stop, down-more}
-use Rattle.std.proofs.Common.{sym, refl, ◌∙◌, arith}
+use Rattle.std.proofs.Common.{sym, ◌∙◌, arith}
 use Rattle.course.proofs.step.turn_down.Goals as goal
-
-pub loop-n-init : goal.loop-n-init
-loop-n-init c = refl
 
 pub returns-then-not-b-alpha : goal.returns-then-not-b-alpha
 returns-then-not-b-alpha c = sym (c.loop-n.invariant ∙ down-left c.loop-n.n _ _ c.if-not-b-alpha.true)
