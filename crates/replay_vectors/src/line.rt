@@ -19,7 +19,13 @@ pub fn started<W: Write>(out: &mut W, answer: Result<StartValues, Cause>) -> io:
 // Tick, credited, n, lap, ended, fallback, share.
 fn figures<W: Write>(out: &mut W, s: RunSheet) -> io::Result<()> {
     write!(out, "sheet {} {} {}", s.tick, s.credited, s.n)?;
-    write!(out, " {} {} {}", Flag(s.lap), Flag(s.ended), Flag(s.fallback))?;
+    write!(
+        out,
+        " {} {} {}",
+        Flag(s.lap),
+        Flag(s.ended),
+        Flag(s.fallback)
+    )?;
     writeln!(out, " {}", s.share)
 }
 
@@ -63,7 +69,9 @@ pub fn answers<W: Write>(
     words: &[u32],
     numbers: &[f64],
 ) -> io::Result<()> {
-    let each = words.chunks_exact(ANSWER_WORDS).zip(numbers.chunks_exact(ANSWER_NUMBERS));
+    let each = words
+        .chunks_exact(ANSWER_WORDS)
+        .zip(numbers.chunks_exact(ANSWER_NUMBERS));
     for (words, numbers) in each.take(count) {
         answer(out, words, numbers)?;
     }
