@@ -1,6 +1,6 @@
 // Sets of tiles kept as words of 64 bits: tile t is bit t % 64 of word t / 64. Every function takes
 // slices of any number of words, so that states of several widths share it.
-ghost use Rattle.std.specs.Prelude.{◌≡◌, false, not, ◌&&◌, ◌||◌, ℕ, ◌*◌, ◌^◌, ◌<◌, eqb, length, get_or};
+ghost use Rattle.std.specs.Prelude.{◌≡◌, false, not, ◌&&◌, ◌||◌, ◌*◌, ◌^◌, ◌<◌, eqb, length};
 ghost use Rattle.run.specs.Rules.Below.{how_many};
 ghost use Rattle.std.specs.List.{list_all};
 ghost use Rattle.run.specs.Grader.Words.{member, set_of};
@@ -35,8 +35,7 @@ pub(crate) fn clear(set: &mut [u64])
 // course has few tiles for the words at hand: those after the word of tile n - 1 are not gone through.
 #[tactic(auto, using(crate::proofs::CreditLaws::within))]
 pub(crate) fn credit(credited: &mut [u64], last: &[u64], cur: &[u64], n: usize) -> u32
-    requires creditable { Creditable (length credited.old) n last.now cur.now }
-    requires by_index { (j : ℕ) → get_or credited.old j 0 < 2 ^ 64 }
+    requires { Creditable (length credited.old) n last.now cur.now }
     ensures credited_after { credited.new
         ≡ set_of (length credited.old)
         (λ t. member credited.old t || (member cur.now t && not (member last.now t))) }

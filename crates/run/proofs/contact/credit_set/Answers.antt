@@ -1,11 +1,7 @@
 -- `run::contact::credit_set` meets its contract. Assumes nothing.
 use mathlib.Core.Bool.{not, ◌&&◌}
 use Rattle.run.specs.Steps.Touch.{credits, credits_of}
-use borrow.Author.Rules.{rules}
 use Rattle.run.proofs.contact.credit_set.Goals as goal
-
-pub credit-fresh-requires : goal.credit-fresh-requires
-credit-fresh-requires c = record { creditable = c.requires; by_index = λ j. search rules }
 
 pub returns : goal.returns
 unfolding credits_of
