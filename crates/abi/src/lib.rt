@@ -9,6 +9,5 @@ pub mod courses;
 pub mod flat;
 pub mod inner;
 pub mod numbers;
-mod parts;
 pub mod runs;
 pub mod saves;

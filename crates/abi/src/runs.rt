@@ -13,10 +13,9 @@ ghost use Rattle.abi.specs.Grader.InPlace.{driven_in_place, drive_in_place, sett
 
 use crate::flat;
 use crate::flat::{FlatDriven, FlatReplayed, FlatSettled, FlatSheet, FlatStarted, Poses};
-use crate::parts::{FORCE_NUMBERS, MOTION_NUMBERS};
-use certificate::{answer, call, replay};
+use certificate::replay;
 use course::cause;
-use run::numbers::{CAR_NUMBERS, POSE_NUMBERS};
+use run::numbers::{CAR_NUMBERS, FORCE_NUMBERS, MOTION_NUMBERS, POSE_NUMBERS};
 use run::reward::Weights;
 use run::settle::SettleValues;
 use run::state::{Progress, Setup};
@@ -80,12 +79,12 @@ pub extern "C" fn grader_drive_parts(
 {
     let mut next = progress;
     let mut after = numbers::car_from(car);
-    let given = call::motions_lent(motions);
+    let given = numbers::motions_from(motions);
     let said = drive::drive_parts(setup, &mut next, &mut after, wheels, action, given);
     let cause = cause::cause_number(&said);
     if let Ok(pushes) = said {
         numbers::put_car(after, car);
-        answer::put_forces_lent(pushes, forces);
+        numbers::put_forces(pushes, forces);
     }
     FlatDriven {
         cause,

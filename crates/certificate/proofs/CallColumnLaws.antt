@@ -10,7 +10,9 @@ use lib.Dec.{eqb}
 use lib.ListN.{length, get_or, replicate, take, drop, length-append, length-drop}
 use lib.Seq.{take_at, drop_at, drop-drop, length-take-le}
 use lib.Ieee.{Float}
-use Rattle.std.specs.Prelude.{Result}
+use Rattle.std.specs.Prelude.{Result, Option, Some, MatchOption}
+use Rattle.std.specs.Array.{IsFirstChunk}
+use Rattle.std.proofs.lemmas.List.{take_all, length-take}
 use Rattle.course.specs.declared.cause.Cause.{Cause}
 use Rattle.course.specs.Rules.Arithmetic.{nought}
 use Rattle.run.specs.Grader.State.{State, Columns, columns}
@@ -159,6 +161,13 @@ size a k = omega arith
 part-long : {A : Type 0} (a k : ℕ) (l : List A) → a + k ≤ length l → length (take (a + k - a) (drop a l)) ≡ k
 part-long a k l h = length-take-le (a + k - a) (drop a l) (omega (arith, length-drop a l)) ∙ size a k
 
+-- a part of k entries, cut as an array of that length
+pub part-cut : {A X : Type 0} (now : X → List A) (a k : ℕ) (l : List A) (N : Type 0) {o : Option X} {y : X} → MatchOption o N (λ x. IsFirstChunk (take (a + k - a) (drop a l)) (now x) k) → o ≡ Some y
+    → take (a + k - a) (drop a l) ≡ now y
+part-cut {X = X} now a k l N m e =
+    let h = subst (λ (p : Option X). MatchOption p N (λ x. IsFirstChunk (take (a + k - a) (drop a l)) (now x) k)) e m in
+    sym (h.same ∙ take_all k (take (a + k - a) (drop a l)) (omega (arith, length-take (a + k - a) (drop a l))))
+
 -- a part more behind what is written
 part-more : {A : Type 0} (a k b : ℕ) (front p col col₀ : List A) → length front ≡ a → col ≡ front ++ drop a col₀ → a + k ≡ b
     → take a col ++ (p ++ drop (a + k - a) (drop a col)) ≡ (front ++ p) ++ drop b col₀
@@ -210,18 +219,6 @@ Roomy many calls given W N = (call_words * many ≤ length calls) × ((call_numb
 
 module _ {m most : ℕ} {l : Columns} {calls : List ℕ} {given : List Float} {s₀ : State} {W₀ : List ℕ} {N₀ : List Float} {many : ℕ} {s : State} {W : List ℕ} {N : List Float} {i : ℕ}
     (h : Replying m most l calls given s₀ W₀ N₀ many s W N i) where
-  -- the parts that the next call is lent have the lengths of one
-  pub own-parts : Roomy many calls given W₀ N₀ → i < many
-      → (4 ≤ length (take (4 * i + 4 - 4 * i) (drop (4 * i) calls))) × ((20 ≤ length (take (20 * i + 20 - 20 * i) (drop (20 * i) given)))
-      × ((length (take (4 * i + 4 - 4 * i) (drop (4 * i) W)) ≡ 4) × (length (take (12 * i + 12 - 12 * i) (drop (12 * i) N)) ≡ 12)))
-  own-parts room b = (
-    le_of_eq (sym (part-long (4 * i) 4 calls (omega (arith, room)))),
-    (
-      le_of_eq (sym (part-long (20 * i) 20 given (omega (arith, room)))),
-      (part-long (4 * i) 4 W (omega (arith, room, h.words_long)), part-long (12 * i) 12 N (omega (arith, room, h.numbers-long))),
-    ),
-  )
-
   pub one-reply : {after : State} {ws : List ℕ} {ns : List Float} → Roomy many calls given W₀ N₀ → i < many
       → Answered m most s (call_from l (take (4 * i + 4 - 4 * i) (drop (4 * i) calls)) (take (20 * i + 20 - 20 * i) (drop (20 * i) given))) after ws ns
       → Replying m most l calls given s₀ W₀ N₀ many after

@@ -7,34 +7,19 @@ ghost use Rattle.certificate.specs.Grader.CallColumns.{answer_numbers, words_of,
 
 use course::cause::Cause;
 use run::dynamics::Force;
-use run::settle::SettleValues;
-use run::save::flags_of;
 use run::numbers;
-
-// An answer's four words.
-fn put_words(a: u32, b: u32, c: u32, d: u32, words: &mut [u32])
-    requires { length words.old ≡ 4 }
-    ensures { words.new ≡ a ∷ b ∷ c ∷ d ∷ [] }
-{
-    words[0] = a;
-    words[1] = b;
-    words[2] = c;
-    words[3] = d;
-}
+use run::numbers::FORCE_NUMBERS;
+use run::save::flags_of;
+use run::settle::SettleValues;
 
 // An answer's twelve numbers.
 fn put_forces(forces: [Force; 4], numbers: &mut [f64])
     requires { length numbers.old ≡ 12 }
     ensures { numbers.new ≡ force_numbers forces }
 {
-    numbers::write_four(forces, numbers);
-}
-
-// The same into the numbers that a host lends.
-pub fn put_forces_lent(forces: [Force; 4], numbers: &mut [f64; 12])
-    ensures { numbers.new ≡ force_numbers forces }
-{
-    put_forces(forces, numbers);
+    let mut twelve = [0.0; FORCE_NUMBERS];
+    numbers::put_forces(forces, &mut twelve);
+    numbers.copy_from_slice(&twelve);
 }
 
 // No forces.
@@ -55,11 +40,11 @@ pub(crate) fn put_drive(answer: Result<[Force; 4], Cause>, words: &mut [u32], nu
 {
     match answer {
         Ok(forces) => {
-            put_words(0, 0, 0, 0, words);
+            words.copy_from_slice(&[0; 4]);
             put_forces(forces, numbers);
         }
         Err(cause) => {
-            put_words(2, cause.number(), 0, 0, words);
+            words.copy_from_slice(&[2, cause.number(), 0, 0]);
             put_zeros(numbers);
         }
     }
@@ -80,10 +65,10 @@ pub(crate) fn put_settle(
     put_zeros(numbers);
     match answer {
         Ok(v) => {
-            put_words(1, v.new_tiles, v.n, flags_of(v.off, v.lap, v.ended), words);
+            words.copy_from_slice(&[1, v.new_tiles, v.n, flags_of(v.off, v.lap, v.ended)]);
         }
         Err(cause) => {
-            put_words(2, cause.number(), 0, 0, words);
+            words.copy_from_slice(&[2, cause.number(), 0, 0]);
         }
     }
 }

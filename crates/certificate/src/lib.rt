@@ -5,6 +5,6 @@
 // `requires`. The definitions that the contracts cite stand in specs/.
 #![tactic(auto)]
 
-pub mod answer;
-pub mod call;
+mod answer;
+mod call;
 pub mod replay;

@@ -18,7 +18,7 @@ use course::{lay, points};
 use run::sheet::RunSheet;
 use run::start::StartValues;
 use run::state::{Pose, Run};
-use run::{drive, settle, sheet, start};
+use run::{drive, numbers, settle, sheet, start};
 
 // Words and numbers of a call, and of its answer.
 pub const CALL_WORDS: usize = 4;
@@ -38,8 +38,13 @@ pub struct Replayed {
 }
 
 // A drive from the numbers of its call, and its answer.
-fn reply_drive(run: &mut Run, action: u32, given: &[f64], words: &mut [u32], numbers: &mut [f64])
-    requires in_bounds { 20 ≤ length given.now }
+fn reply_drive(
+    run: &mut Run,
+    action: u32,
+    given: &[f64; CALL_NUMBERS],
+    words: &mut [u32],
+    numbers: &mut [f64],
+)
     requires words_len { length words.old ≡ 4 }
     requires numbers_len { length numbers.old ≡ 12 }
     ensures run_after { view run.new
@@ -51,7 +56,7 @@ fn reply_drive(run: &mut Run, action: u32, given: &[f64], words: &mut [u32], num
         ≡ numbers_of
         (reply_of full_words most_tiles (view run.old) (Call.drive action (motions_from given.now))).answer }
 {
-    let said = drive::drive(run, action, call::motions(given));
+    let said = drive::drive(run, action, numbers::motions_from(given));
     answer::put_drive(said, words, numbers);
 }
 
@@ -61,11 +66,10 @@ fn reply_settle(
     tiles: &[f64],
     offsets: &[u32],
     list: &[u32],
-    given: &[f64],
+    given: &[f64; CALL_NUMBERS],
     words: &mut [u32],
     numbers: &mut [f64],
 )
-    requires in_bounds { 20 ≤ length given.now }
     requires words_len { length words.old ≡ 4 }
     requires numbers_len { length numbers.old ≡ 12 }
     ensures run_after { view run.new
@@ -88,7 +92,7 @@ fn reply_settle(
         list,
         given[0],
         given[1],
-        call::poses(given),
+        numbers::settle_poses(given),
     );
     answer::put_settle(said, words, numbers);
 }
@@ -99,13 +103,11 @@ fn reply(
     tiles: &[f64],
     offsets: &[u32],
     list: &[u32],
-    asked: &[u32],
-    given: &[f64],
+    asked: &[u32; CALL_WORDS],
+    given: &[f64; CALL_NUMBERS],
     words: &mut [u32],
     numbers: &mut [f64],
 )
-    requires in_bounds { 4 ≤ length asked.now }
-    requires in_bounds_2 { 20 ≤ length given.now }
     requires words_len { length words.old ≡ 4 }
     requires numbers_len { length numbers.old ≡ 12 }
     ensures run_after { view run.new
@@ -178,8 +180,8 @@ pub(crate) fn replies(
             tiles,
             offsets,
             list,
-            &calls[c..c + CALL_WORDS],
-            &given[g..g + CALL_NUMBERS],
+            calls[c..c + CALL_WORDS].first_chunk().unwrap(),
+            given[g..g + CALL_NUMBERS].first_chunk().unwrap(),
             &mut words[w..w + ANSWER_WORDS],
             &mut numbers[n..n + ANSWER_NUMBERS],
         );

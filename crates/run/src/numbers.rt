@@ -1,7 +1,7 @@
 // A car and four poses as numbers, one wheel after the other: as a host lends a car, and as a run keeps its last poses.
 ghost use Rattle.std.specs.Prelude.{◌≡◌, List, ℕ, ◌+◌, ◌*◌, ◌≤◌, Float, length};
 ghost use Rattle.std.specs.List.{flat_map};
-ghost use Rattle.run.specs.Grader.Numbers.{wheel_from, wheel_list, car_from, car_numbers, pose_from, pose_list, poses_at, pose_numbers, motion_from, motion_list, force_from, force_list, four_from};
+ghost use Rattle.run.specs.Grader.Numbers.{wheel_from, wheel_list, car_from, car_numbers, pose_from, pose_list, poses_at, pose_numbers, motion_from, motion_list, force_from, force_list, force_numbers, four_from, motions_from, poses_from};
 
 use crate::dynamics::{Force, Motion};
 use crate::state::{Car, Pose, WheelCtl};
@@ -12,8 +12,14 @@ pub const CAR_NUMBERS: usize = 21;
 // Four to a wheel: x, y, cos, sin.
 pub const POSE_NUMBERS: usize = 16;
 
+// Five to a wheel: joint angle, sin, cos, vx, vy.
+pub const MOTION_NUMBERS: usize = 20;
+
+// Three to a wheel: motor, fx, fy.
+pub const FORCE_NUMBERS: usize = 12;
+
 // A record of so many numbers.
-pub trait Numbers: Copy {
+pub(crate) trait Numbers: Copy {
     const COUNT: usize;
 
     ghost COUNT: { ℕ };
@@ -146,7 +152,7 @@ impl Numbers for Force {
 }
 
 // The records of four wheels, one after the other from number i on.
-pub fn read_four<T: Numbers>(numbers: &[f64], i: usize) -> [T; 4]
+pub(crate) fn read_four<T: Numbers>(numbers: &[f64], i: usize) -> [T; 4]
     requires { i + 4 * T.COUNT ≤ length numbers.now }
     ensures { result ≡ four_from T.held T.COUNT numbers.now i }
 {
@@ -158,7 +164,7 @@ pub fn read_four<T: Numbers>(numbers: &[f64], i: usize) -> [T; 4]
 }
 
 // The numbers of four wheels' records are written, one wheel after the other.
-pub fn write_four<T: Numbers>(records: [T; 4], numbers: &mut [f64])
+pub(crate) fn write_four<T: Numbers>(records: [T; 4], numbers: &mut [f64])
     requires { length numbers.old ≡ 4 * T.COUNT }
     ensures { numbers.new ≡ flat_map T.list records }
 {
@@ -199,4 +205,25 @@ pub fn put_poses(poses: [Pose; 4], numbers: &mut [f64; POSE_NUMBERS])
     ensures { numbers.new ≡ pose_numbers poses }
 {
     write_four(poses, numbers);
+}
+
+// The four wheels' motions that their numbers hold.
+pub fn motions_from(numbers: &[f64; MOTION_NUMBERS]) -> [Motion; 4]
+    ensures { result ≡ motions_from numbers.now }
+{
+    read_four(numbers, 0)
+}
+
+// The four wheels' poses of a settle, behind the hull's place.
+pub fn settle_poses(numbers: &[f64; MOTION_NUMBERS]) -> [Pose; 4]
+    ensures { result ≡ poses_from numbers.now }
+{
+    read_four(numbers, 2)
+}
+
+// The forces' numbers are written.
+pub fn put_forces(forces: [Force; 4], numbers: &mut [f64; FORCE_NUMBERS])
+    ensures { numbers.new ≡ force_numbers forces }
+{
+    write_four(forces, numbers);
 }

@@ -1,6 +1,6 @@
--- `certificate::call::poses` meets its contract. Assumes nothing.
+-- `run::numbers::settle_poses` meets its contract. Assumes nothing.
 use Rattle.run.specs.Grader.Numbers.{poses_at}
-use Rattle.certificate.proofs.call.poses.Goals as goal
+use Rattle.run.proofs.numbers.settle_poses.Goals as goal
 
 pub returns : goal.returns
 unfolding poses_at

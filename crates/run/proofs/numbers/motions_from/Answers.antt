@@ -1,6 +1,6 @@
--- `certificate::call::motions` meets its contract. Assumes nothing.
+-- `run::numbers::motions_from` meets its contract. Assumes nothing.
 use Rattle.run.specs.Grader.Numbers.{motions_from}
-use Rattle.certificate.proofs.call.motions.Goals as goal
+use Rattle.run.proofs.numbers.motions_from.Goals as goal
 
 pub returns : goal.returns
 unfolding motions_from
