@@ -4,7 +4,7 @@ use mathlib.Core.List.{List, [], ◌∷◌, ◌++◌, append-nil, append_assoc}
 use mathlib.Core.Bool.{Bool, true, false, cond}
 use Prim.Native.Nat.{ℕ, zero, suc, ◌+◌, ◌-◌, ◌*◌, ◌≤◌, ◌<◌, min}
 use native.Mathlib.Omega.{arith}
-use native.Mathlib.Nat.{zero-min, min-zero, suc-min-suc, le_of_eq}
+use native.Mathlib.Nat.{zero-min, min-zero, suc-min-suc}
 use native.Mathlib.Numerals.{add-one}
 use lib.Dec.{eqb}
 use lib.ListN.{length, get_or, replicate, take, drop, length-append, length-drop}
@@ -157,9 +157,6 @@ calls-long l ws ns (suc k) =
 
 size : (a k : ℕ) → a + k - a ≡ k
 size a k = omega arith
-
-part-long : {A : Type 0} (a k : ℕ) (l : List A) → a + k ≤ length l → length (take (a + k - a) (drop a l)) ≡ k
-part-long a k l h = length-take-le (a + k - a) (drop a l) (omega (arith, length-drop a l)) ∙ size a k
 
 -- a part of k entries, cut as an array of that length
 pub part-cut : {A X : Type 0} (now : X → List A) (a k : ℕ) (l : List A) (N : Type 0) {o : Option X} {y : X} → MatchOption o N (λ x. IsFirstChunk (take (a + k - a) (drop a l)) (now x) k) → o ≡ Some y
