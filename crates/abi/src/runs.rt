@@ -19,6 +19,7 @@ use run::numbers::{CAR_NUMBERS, FORCE_NUMBERS, MOTION_NUMBERS, POSE_NUMBERS};
 use run::reward::Weights;
 use run::settle::SettleValues;
 use run::state::{Progress, Setup};
+use run::touch::Columns;
 use run::widths::{FULL_WORDS, WHEEL_WORDS};
 use run::{drive, numbers, reward, settle, sheet, start};
 
@@ -56,10 +57,13 @@ pub extern "C" fn grader_start(
         (start_of full_words most_tiles (columns tiles.now offsets.now list.now)
         (record { n = n; fallback = fallback; seed = seed; share = share; limit = limit; poses = poses.wheels })) }
 {
+    let columns = Columns {
+        tiles,
+        offsets,
+        list,
+    };
     let wheels = poses.wheels;
-    FlatStarted::from(start::start(
-        tiles, offsets, list, n, fallback, seed, share, limit, wheels,
-    ))
+    FlatStarted::from(start::start(columns, n, fallback, seed, share, limit, wheels))
 }
 
 // Forces for the host: the car is changed where it stands and the forces are written. A refusal changes nothing.
@@ -113,9 +117,14 @@ pub extern "C" fn grader_settle_parts(
         poses.wheels }
 {
     let mut next = progress;
+    let columns = Columns {
+        tiles,
+        offsets,
+        list,
+    };
     let given = poses.wheels;
     let said = settle::settle_parts(
-        setup, &mut next, credited, wheels, last, tiles, offsets, list, x, y, given,
+        setup, &mut next, credited, wheels, last, columns, x, y, given,
     );
     let cause = cause::cause_number(&said);
     let v = said.unwrap_or(SettleValues {

@@ -9,6 +9,7 @@ ghost use Rattle.abi.specs.Grader.Flat.{saved_out, flat_save, flat_restored, fla
 
 use crate::flat::{FlatRestored, FlatSaved, FlatSavedFor};
 use run::state::Run;
+use run::touch::Columns;
 use run::{restore, save};
 
 // The run's saved form goes to the front of the output. A refusal writes nothing.
@@ -33,7 +34,12 @@ pub extern "C" fn grader_restore(
         ≡ flat_restored (restore_of full_words most_tiles bytes.now
         (columns tiles.now offsets.now list.now) n) }
 {
-    FlatRestored::from(restore::restore(bytes, tiles, offsets, list, n))
+    let columns = Columns {
+        tiles,
+        offsets,
+        list,
+    };
+    FlatRestored::from(restore::restore(bytes, columns, n))
 }
 
 // The seed and tile count of the course that saved bytes are of.

@@ -2,7 +2,7 @@
 // (document 01, "The plain scorer").
 ghost use Rattle.std.specs.Prelude.{◌≡◌, ◌++◌, ◌+◌, ◌*◌, ◌≤◌, length, drop};
 ghost use Rattle.run.specs.Grader.Widths.{full_words, most_tiles};
-ghost use Rattle.run.specs.Grader.State.{view, columns};
+ghost use Rattle.run.specs.Grader.State.{view, lent_columns};
 ghost use Rattle.certificate.specs.Grader.Calls.{Call, reply_of, replies_of, state_after};
 ghost use Rattle.course.specs.Rules.Tiles.{number_at};
 ghost use Rattle.run.specs.Grader.Numbers.{motions_from, poses_from};
@@ -18,6 +18,7 @@ use course::{lay, points};
 use run::sheet::RunSheet;
 use run::start::StartValues;
 use run::state::{Pose, Run};
+use run::touch::Columns;
 use run::{drive, numbers, settle, sheet, start};
 
 // Words and numbers of a call, and of its answer.
@@ -63,9 +64,7 @@ fn reply_drive(
 // A settle on the lent columns from the numbers of its call, and its answer.
 fn reply_settle(
     run: &mut Run,
-    tiles: &[f64],
-    offsets: &[u32],
-    list: &[u32],
+    columns: Columns<'_>,
     given: &[f64; CALL_NUMBERS],
     words: &mut [u32],
     numbers: &mut [f64],
@@ -74,22 +73,20 @@ fn reply_settle(
     requires numbers_len { length numbers.old ≡ 12 }
     ensures run_after { view run.new
         ≡ (reply_of full_words most_tiles (view run.old)
-        (Call.settle (columns tiles.now offsets.now list.now)
+        (Call.settle (lent_columns columns.entry)
         (number_at given.now 0) (number_at given.now 1) (poses_from given.now))).state }
     ensures words_after { words.new
         ≡ words_of (reply_of full_words most_tiles (view run.old)
-        (Call.settle (columns tiles.now offsets.now list.now)
+        (Call.settle (lent_columns columns.entry)
         (number_at given.now 0) (number_at given.now 1) (poses_from given.now))).answer }
     ensures numbers_after { numbers.new
         ≡ numbers_of (reply_of full_words most_tiles (view run.old)
-        (Call.settle (columns tiles.now offsets.now list.now)
+        (Call.settle (lent_columns columns.entry)
         (number_at given.now 0) (number_at given.now 1) (poses_from given.now))).answer }
 {
     let said = settle::settle(
         run,
-        tiles,
-        offsets,
-        list,
+        columns,
         given[0],
         given[1],
         numbers::settle_poses(given),
@@ -100,9 +97,7 @@ fn reply_settle(
 // The call that four words and twenty numbers hold, and its answer.
 fn reply(
     run: &mut Run,
-    tiles: &[f64],
-    offsets: &[u32],
-    list: &[u32],
+    columns: Columns<'_>,
     asked: &[u32; CALL_WORDS],
     given: &[f64; CALL_NUMBERS],
     words: &mut [u32],
@@ -112,39 +107,34 @@ fn reply(
     requires numbers_len { length numbers.old ≡ 12 }
     ensures run_after { view run.new
         ≡ (reply_of full_words most_tiles (view run.old)
-        (call_from (columns tiles.now offsets.now list.now) asked.now
+        (call_from (lent_columns columns.entry) asked.now
         given.now)).state }
     ensures words_after { words.new
         ≡ words_of (reply_of full_words most_tiles (view run.old)
-        (call_from (columns tiles.now offsets.now list.now) asked.now
+        (call_from (lent_columns columns.entry) asked.now
         given.now)).answer }
     ensures numbers_after { numbers.new
         ≡ numbers_of (reply_of full_words most_tiles (view run.old)
-        (call_from (columns tiles.now offsets.now list.now) asked.now
+        (call_from (lent_columns columns.entry) asked.now
         given.now)).answer }
 {
     if asked[0] == 0 {
         return reply_drive(run, asked[1], given, words, numbers);
     }
-    let most = call::upto(asked[2], tiles.len());
-    let last = call::upto(asked[3], offsets.len());
-    reply_settle(
-        run,
-        &tiles[..most],
-        &offsets[..last],
-        list,
-        given,
-        words,
-        numbers,
-    )
+    let most = call::upto(asked[2], columns.tiles.len());
+    let last = call::upto(asked[3], columns.offsets.len());
+    let lent = Columns {
+        tiles: &columns.tiles[..most],
+        offsets: &columns.offsets[..last],
+        list: columns.list,
+    };
+    reply_settle(run, lent, given, words, numbers)
 }
 
 // All calls of the columns in their order, each on the state that the one before it left, and their answers.
 pub(crate) fn replies(
     run: &mut Run,
-    tiles: &[f64],
-    offsets: &[u32],
-    list: &[u32],
+    columns: Columns<'_>,
     many: usize,
     calls: &[u32],
     given: &[f64],
@@ -157,16 +147,16 @@ pub(crate) fn replies(
     requires many_in_bounds_4 { answer_numbers * many ≤ length numbers.old }
     ensures run_after { view run.new
         ≡ state_after full_words most_tiles (view run.old)
-        (calls_to (columns tiles.now offsets.now list.now) calls.now
+        (calls_to (lent_columns columns.entry) calls.now
         given.now many) }
     ensures words_after { words.new
         ≡ all_words (replies_of full_words most_tiles (view run.old)
-        (calls_to (columns tiles.now offsets.now list.now) calls.now
+        (calls_to (lent_columns columns.entry) calls.now
         given.now many))
         ++ drop (answer_words * many) words.old }
     ensures numbers_after { numbers.new
         ≡ all_numbers (replies_of full_words most_tiles (view run.old)
-        (calls_to (columns tiles.now offsets.now list.now) calls.now
+        (calls_to (lent_columns columns.entry) calls.now
         given.now many))
         ++ drop (answer_numbers * many) numbers.old }
 {
@@ -177,9 +167,7 @@ pub(crate) fn replies(
         let n = ANSWER_NUMBERS * i;
         reply(
             run,
-            tiles,
-            offsets,
-            list,
+            columns,
             calls[c..c + CALL_WORDS].first_chunk().unwrap(),
             given[g..g + CALL_NUMBERS].first_chunk().unwrap(),
             &mut words[w..w + ANSWER_WORDS],
@@ -235,10 +223,13 @@ pub fn replay(
     }
     let laid = lay::lay(seed, alpha, beta, x, y, tiles, offsets, list);
     let course = points::laid_values(laid);
-    let s = start::start(
+    let columns = Columns {
         tiles,
         offsets,
         list,
+    };
+    let s = start::start(
+        columns,
         course.n,
         course.fallback,
         seed,
@@ -250,9 +241,7 @@ pub fn replay(
     let mut run = s.run;
     replies(
         &mut run,
-        tiles,
-        offsets,
-        list,
+        columns,
         many as usize,
         calls,
         given,

@@ -1,8 +1,8 @@
 -- What start and settle answer, by their causes and by the contact. Assumes nothing.
 use mathlib.Core.Bool.{Bool, true, false, cond, not, ◌&&◌, ◌||◌}
 use mathlib.Core.List.{List}
-use mathlib.Core.Path.{◌≡◌, refl, sym, ap, ap₂, ◌∙◌, subst}
-use Prim.Native.Nat.{ℕ, zero, suc, ◌*◌, ◌≤◌, ◌<◌}
+use mathlib.Core.Path.{◌≡◌, sym, ap, ap₂, ◌∙◌, subst}
+use Prim.Native.Nat.{ℕ, ◌*◌, ◌≤◌, ◌<◌}
 use native.Mathlib.Omega.{arith}
 use Rattle.std.specs.Prelude.{Result, Ok, Err}
 use lib.Dec.{ltb, leb}
@@ -20,7 +20,7 @@ use Rattle.run.specs.Grader.Touch.{sound_poses, touched_by}
 use Rattle.run.specs.Rules.Wheel.{quad_of}
 use Rattle.run.specs.Grader.Words.{member}
 use Rattle.run.specs.Grader.Contact.{entered, Contacted, contacted, contact_of}
-use Rattle.course.proofs.BoolLaws.{or_no, cleared}
+use Rattle.course.proofs.BoolLaws.{or_no}
 use Rattle.run.proofs.CheckLaws.{passed}
 use Rattle.run.proofs.CheckLaws.{cause-by, none-number, met-none}
 use Rattle.run.proofs.CreditLaws.{few}

@@ -1,7 +1,7 @@
 // The call `restore`: a run from the bytes of a save, on its course; and `saved_course`, which course that is (document 02, order 1).
 ghost use Rattle.std.specs.Prelude.{◌≡◌, Some};
 ghost use Rattle.run.specs.Grader.Widths.{full_words, most_tiles};
-ghost use Rattle.run.specs.Grader.State.{view, columns};
+ghost use Rattle.run.specs.Grader.State.{view, lent_columns};
 ghost use Rattle.run.specs.Grader.Numbers.{poses_at};
 ghost use Rattle.run.specs.Grader.Restore.{run_from, after_restore, restore_of, saved_course_of, restore_check};
 ghost use Rattle.run.specs.Steps.Load.{fields_as, restored_as};
@@ -31,29 +31,17 @@ pub struct SavedFor {
 
 // Refused by the first of the causes 12, 2 and 10 that holds of what was saved and of the lent course.
 #[tactic(auto, unfolding(crate::specs::Grader::Restore::restore_check, crate::specs::Grader::State::short_of))]
-fn restore_check(
-    f: Fields,
-    tiles: &[f64],
-    offsets: &[u32],
-    list: &[u32],
-    n: u32,
-    stance: &Stance,
-) -> Result<(), Cause>
+fn restore_check(f: Fields, columns: Columns<'_>, n: u32, stance: &Stance) -> Result<(), Cause>
     requires { stance.now.poses ≡ poses_at f.poses 0 }
     ensures { result
-        ≡ restore_check (columns tiles.now offsets.now list.now) n (Some (fields_as f)) }
+        ≡ restore_check (lent_columns columns.entry) n (Some (fields_as f)) }
 {
     if n != f.n {
         return Err(Cause::Course);
     }
-    if state::is_short(n, tiles.len(), offsets.len()) {
+    if state::is_short(n, columns.tiles.len(), columns.offsets.len()) {
         return Err(Cause::Length);
     }
-    let columns = Columns {
-        tiles,
-        offsets,
-        list,
-    };
     if !columns.cells_sound(n as usize, &stance.cells) {
         return Err(Cause::Index);
     }
@@ -93,39 +81,28 @@ fn run_of(f: Fields, credited: [u64; FULL_WORDS], wheels: [u64; WHEEL_WORDS]) ->
 }
 
 // The run that was saved, on the lent course. What the wheels touch at the last poses is found anew; what they would credit there is dropped.
-fn restored(
-    bytes: &[u8],
-    tiles: &[f64],
-    offsets: &[u32],
-    list: &[u32],
-    n: u32,
-) -> Result<Run, Cause>
+fn restored(bytes: &[u8], columns: Columns<'_>, n: u32) -> Result<Run, Cause>
     ensures { restored_as result
         ≡ restore_of full_words most_tiles bytes.now
-        (columns tiles.now offsets.now list.now) n }
+        (lent_columns columns.entry) n }
 {
     let f = load::load(bytes).ok_or(Cause::Form)?;
     let poses = numbers::poses_from(&f.poses);
     let stance = Stance::at(poses);
-    restore_check(f, tiles, offsets, list, n, &stance)?;
+    restore_check(f, columns, n, &stance)?;
     let mut scratch = [0u64; FULL_WORDS];
     let mut wheels = [0u64; WHEEL_WORDS];
-    let columns = Columns {
-        tiles,
-        offsets,
-        list,
-    };
     contact::full_contact(&stance, columns, n as usize, &mut scratch, &mut wheels);
     Ok(run_of(f, f.credited, wheels))
 }
 
 // The run that was saved, on the lent course, or a cause with the state of zeros.
-pub fn restore(bytes: &[u8], tiles: &[f64], offsets: &[u32], list: &[u32], n: u32) -> Restoration
+pub fn restore(bytes: &[u8], columns: Columns<'_>, n: u32) -> Restoration
     ensures { after_restore result.answer (view result.run)
         ≡ restore_of full_words most_tiles bytes.now
-        (columns tiles.now offsets.now list.now) n }
+        (lent_columns columns.entry) n }
 {
-    match restored(bytes, tiles, offsets, list, n) {
+    match restored(bytes, columns, n) {
         Ok(run) => Restoration {
             answer: Ok(()),
             run,

@@ -1,7 +1,7 @@
 // The call `settle`: contact after physics (document 01, "Settle").
 ghost use Rattle.std.specs.Prelude.{◌≡◌, ◌+◌, ◌<◌};
 ghost use Rattle.run.specs.Grader.Widths.{full_words, most_tiles};
-ghost use Rattle.run.specs.Grader.State.{view, columns};
+ghost use Rattle.run.specs.Grader.State.{view, lent_columns};
 ghost use Rattle.run.specs.Grader.Settle.{settled_progress, settled_parts, settled_poses, settle_poses_of, after_settle, settle_of, settle_check};
 
 use crate::numbers::POSE_NUMBERS;
@@ -28,15 +28,13 @@ fn settle_check(
     most: u32,
     setup: Setup,
     progress: Progress,
-    tiles: &[f64],
-    offsets: &[u32],
-    list: &[u32],
+    columns: Columns<'_>,
     x: f64,
     y: f64,
     stance: &Stance,
 ) -> Result<(), Cause>
     ensures { result
-        ≡ settle_check most setup progress (columns tiles.now offsets.now list.now) x
+        ≡ settle_check most setup progress (lent_columns columns.entry) x
         y stance.now.poses }
 {
     if state::is_unfit(most, setup, progress) | progress.ended {
@@ -48,17 +46,12 @@ fn settle_check(
     if setup.tick_limit <= progress.tick {
         return Err(Cause::Limit);
     }
-    if state::is_short(setup.n, tiles.len(), offsets.len()) {
+    if state::is_short(setup.n, columns.tiles.len(), columns.offsets.len()) {
         return Err(Cause::Length);
     }
     if !((state::in_range(x) & state::in_range(y)) & state::poses_ok(stance.poses)) {
         return Err(Cause::Range);
     }
-    let columns = Columns {
-        tiles,
-        offsets,
-        list,
-    };
     if !columns.cells_sound(setup.n as usize, &stance.cells) {
         return Err(Cause::Index);
     }
@@ -88,26 +81,17 @@ pub fn settle_parts(
     credited: &mut [u64; FULL_WORDS],
     wheels: &mut [u64; WHEEL_WORDS],
     last: &mut [f64; POSE_NUMBERS],
-    tiles: &[f64],
-    offsets: &[u32],
-    list: &[u32],
+    columns: Columns<'_>,
     x: f64,
     y: f64,
     poses: [Pose; 4],
 ) -> Result<SettleValues, Cause>
     ensures { settled_poses (settled_parts result progress.new credited.new wheels.new) last.new
         ≡ settle_poses_of full_words most_tiles setup progress.old credited.old wheels.old
-        last.old (columns tiles.now offsets.now list.now) x y poses }
+        last.old (lent_columns columns.entry) x y poses }
 {
     let stance = Stance::at(poses);
-    settle_check(
-        MOST_TILES, setup, *progress, tiles, offsets, list, x, y, &stance,
-    )?;
-    let columns = Columns {
-        tiles,
-        offsets,
-        list,
-    };
+    settle_check(MOST_TILES, setup, *progress, columns, x, y, &stance)?;
     let c = contact::full_contact(&stance, columns, setup.n as usize, credited, wheels);
     let off = lap::is_off(x, y);
     let next = settled_progress(setup, *progress, c.fresh, c.zero, off);
@@ -125,16 +109,14 @@ pub fn settle_parts(
 // The contact after physics; a refusal leaves the state.
 pub fn settle(
     run: &mut Run,
-    tiles: &[f64],
-    offsets: &[u32],
-    list: &[u32],
+    columns: Columns<'_>,
     x: f64,
     y: f64,
     poses: [Pose; 4],
 ) -> Result<SettleValues, Cause>
     ensures { after_settle result (view run.new)
         ≡ settle_of full_words most_tiles (view run.old)
-        (columns tiles.now offsets.now list.now) x y poses }
+        (lent_columns columns.entry) x y poses }
 {
     settle_parts(
         run.setup,
@@ -142,9 +124,7 @@ pub fn settle(
         &mut run.credited,
         &mut run.wheels,
         &mut run.poses,
-        tiles,
-        offsets,
-        list,
+        columns,
         x,
         y,
         poses,

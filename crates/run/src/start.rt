@@ -1,7 +1,7 @@
 // The call `start`: the first contact (document 01, "Start").
 ghost use Rattle.std.specs.Prelude.{◌≡◌};
 ghost use Rattle.run.specs.Grader.Widths.{full_words, most_tiles};
-ghost use Rattle.run.specs.Grader.State.{view, columns};
+ghost use Rattle.run.specs.Grader.State.{view, lent_columns};
 ghost use Rattle.run.specs.Grader.Start.{start_check, first_progress, zero_state, begun, start_of};
 ghost use Rattle.run.specs.Rules.Pass.{still_car};
 ghost use Rattle.run.specs.Rules.Arguments.{settings_ok};
@@ -40,9 +40,7 @@ pub(crate) fn settings_ok(share: f64, limit: u32) -> bool
 #[tactic(auto, unfolding(crate::specs::Grader::Start::start_check, crate::specs::Grader::Start::start_short, crate::specs::Grader::State::short_of))]
 fn start_check(
     most: u32,
-    tiles: &[f64],
-    offsets: &[u32],
-    list: &[u32],
+    columns: Columns<'_>,
     n: u32,
     fallback: bool,
     seed: u64,
@@ -51,23 +49,18 @@ fn start_check(
     stance: &Stance,
 ) -> Result<(), Cause>
     ensures { result
-        ≡ start_check most (columns tiles.now offsets.now list.now)
+        ≡ start_check most (lent_columns columns.entry)
         (record { n = n; fallback = fallback; seed = seed; share = share; limit = limit; poses = stance.now.poses }) }
 {
     if !settings_ok(share, limit) {
         return Err(Cause::Settings);
     }
-    if state::is_short(n, tiles.len(), offsets.len()) | ((n < 1) | (most < n)) {
+    if state::is_short(n, columns.tiles.len(), columns.offsets.len()) | ((n < 1) | (most < n)) {
         return Err(Cause::Length);
     }
     if !state::poses_ok(stance.poses) {
         return Err(Cause::Range);
     }
-    let columns = Columns {
-        tiles,
-        offsets,
-        list,
-    };
     if !columns.cells_sound(n as usize, &stance.cells) {
         return Err(Cause::Index);
     }
@@ -132,9 +125,7 @@ pub(crate) fn zero_run() -> Run
 
 // A run on the lent course, or a cause with the state of zeros.
 pub fn start(
-    tiles: &[f64],
-    offsets: &[u32],
-    list: &[u32],
+    columns: Columns<'_>,
     n: u32,
     fallback: bool,
     seed: u64,
@@ -143,12 +134,12 @@ pub fn start(
     poses: [Pose; 4],
 ) -> Started
     ensures { begun result.answer (view result.run)
-        ≡ start_of full_words most_tiles (columns tiles.now offsets.now list.now)
+        ≡ start_of full_words most_tiles (lent_columns columns.entry)
         (record { n = n; fallback = fallback; seed = seed; share = share; limit = limit; poses = poses }) }
 {
     let stance = Stance::at(poses);
     let check = start_check(
-        MOST_TILES, tiles, offsets, list, n, fallback, seed, share, limit, &stance,
+        MOST_TILES, columns, n, fallback, seed, share, limit, &stance,
     );
     if let Err(cause) = check {
         return Started {
@@ -158,11 +149,6 @@ pub fn start(
     }
     let mut credited = [0u64; FULL_WORDS];
     let mut wheels = [0u64; WHEEL_WORDS];
-    let columns = Columns {
-        tiles,
-        offsets,
-        list,
-    };
     let c = contact::full_contact(&stance, columns, n as usize, &mut credited, &mut wheels);
     let lap = lap::update_lap(false, c.zero, c.fresh, n, share);
     let setup = Setup {

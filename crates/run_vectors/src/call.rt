@@ -6,7 +6,6 @@ use run::state::Run;
 use run::{drive, settle, start};
 use std::io;
 use std::io::Write;
-use vectors::columns::front;
 use vectors::line;
 use vectors::line::{Bits, Flag};
 use vectors::record::Record;
@@ -33,9 +32,7 @@ pub fn replay_start<W: Write>(
     run: &mut Run,
 ) -> io::Result<()> {
     let s = start::start(
-        front(&lent.tiles, record.word(1)),
-        front(&lent.offsets, record.word(2)),
-        front(&lent.list, record.word(3)),
+        lent.columns(record),
         record.low(4),
         record.flag(5),
         record.word(6),
@@ -80,9 +77,7 @@ pub fn replay_settle<W: Write>(
 ) -> io::Result<()> {
     let answer = settle::settle(
         run,
-        front(&lent.tiles, record.word(1)),
-        front(&lent.offsets, record.word(2)),
-        front(&lent.list, record.word(3)),
+        lent.columns(record),
         record.float(4),
         record.float(5),
         read::poses(record, 6),

@@ -4,10 +4,11 @@ use crate::kind;
 use course::constants::{LAID_LENGTH, MOST_POINTS};
 use course::points;
 use course::points::{LaidCourse, LayError};
+use run::touch::Columns;
 use std::alloc::{AllocError, Global};
 use std::io;
 use std::io::Write;
-use vectors::columns::front_mut;
+use vectors::columns::{front, front_mut};
 use vectors::record::Record;
 use vectors::{hash, line};
 
@@ -40,6 +41,15 @@ impl Lent {
             offsets: vec![in alloc; 0; 4600]?,
             list: vec![in alloc; 0; 60000]?,
         })
+    }
+
+    // As much of each column as the record's words 1 to 3 say.
+    pub fn columns(&self, record: Record<'_>) -> Columns<'_> {
+        Columns {
+            tiles: front(&self.tiles, record.word(1)),
+            offsets: front(&self.offsets, record.word(2)),
+            list: front(&self.list, record.word(3)),
+        }
     }
 
     fn put_course(&mut self, record: Record<'_>) -> Result<LaidCourse, LayError> {

@@ -59,13 +59,7 @@ pub fn replay_restore<W: Write>(
 ) -> io::Result<()> {
     let bytes = record.bytes(6, kind::byte_count(record));
     line_course(out, bytes)?;
-    let s = restore::restore(
-        bytes,
-        front(&lent.tiles, record.word(1)),
-        front(&lent.offsets, record.word(2)),
-        front(&lent.list, record.word(3)),
-        record.low(4),
-    );
+    let s = restore::restore(bytes, lent.columns(record), record.low(4));
     match s.answer {
         Ok(()) => {
             writeln!(out, "restored")?;

@@ -5,6 +5,7 @@ use Rattle.run.specs.declared.state.Setup.{Setup}
 use Rattle.run.specs.declared.state.Progress.{Progress}
 use Rattle.run.specs.declared.state.Car.{Car}
 use Rattle.run.specs.declared.state.Run.{Run}
+use Rattle.run.specs.declared.touch.Columns.{Columns as Slices}
 
 -- ---- states, whatever the number of words of their sets: what start fixes, what settle changes, what drive changes, and the sets; and what is kept for
 -- a save alone (document 02, order 1): the numbers of the last poses, and the seed
@@ -35,6 +36,10 @@ pub record Columns : Type 0 where
 
 abbrev pub columns : List Float → List ℕ → List ℕ → Columns
 columns ts offs l = record { tiles = ts; offsets = offs; list = l }
+
+-- what a call's columns hold
+abbrev pub lent_columns : Slices → Columns
+lent_columns c = columns c.tiles.now c.offsets.now c.list.now
 
 -- ---- tests
 

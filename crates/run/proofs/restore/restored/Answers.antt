@@ -4,7 +4,7 @@ use mathlib.Core.Path.{refl, sym, ap, ◌∙◌}
 use Rattle.std.specs.Result.{result_ok}
 use Rattle.std.proofs.lemmas.Result.{err_from_is_err_and}
 use Rattle.run.specs.Grader.Widths.{most_tiles, full_words}
-use Rattle.run.specs.Grader.State.{view, columns}
+use Rattle.run.specs.Grader.State.{view, lent_columns}
 use Rattle.run.specs.Grader.Touch.{sound_poses}
 use Rattle.run.specs.Grader.Contact.{Contacted}
 use Rattle.run.specs.Grader.Start.{first_contact}
@@ -19,7 +19,7 @@ returns-in_err-f c =
     let a = c.args in
     let p = err_from_is_err_and c.from_residual.result c.from_residual.ensures.1 in
     let q = not-there c.load.result c.ok_or.ensures.value c.in_err-f.was in
-    rw (p.1, p.2, q.1) (restore-none full_words most_tiles a.bytes.now (columns a.tiles.now a.offsets.now a.list.now) a.n (not-loaded q.0 c.load.ensures))
+    rw (p.1, p.2, q.1) (restore-none full_words most_tiles a.bytes.now (lent_columns a.columns) a.n (not-loaded q.0 c.load.ensures))
 
 pub returns-in_err-restore_check : goal.returns-in_err-restore_check
 returns-in_err-restore_check c =
@@ -27,7 +27,7 @@ returns-in_err-restore_check c =
     let a = c.args in
     let p = err_from_is_err_and c.from_residual-in_err-restore_check.result c.from_residual-in_err-restore_check.ensures.1 in
     rw (p.1, p.2)
-    (restore-refused full_words most_tiles a.bytes.now (columns a.tiles.now a.offsets.now a.list.now) a.n _ _ _ loaded_at c.restore_check.ensures c.in_err-restore_check.was)
+    (restore-refused full_words most_tiles a.bytes.now (lent_columns a.columns) a.n _ _ _ loaded_at c.restore_check.ensures c.in_err-restore_check.was)
 
 pub restore_check-requires : goal.restore_check-requires
 restore_check-requires c = c.at-stance.ensures ∙ c.poses_from-poses.ensures
@@ -38,8 +38,8 @@ full_contact-requires c =
     let f = fields_as c.in_ok-f.f in
     let a = c.args in
     let kept-is = kept-sound full_words most_tiles a.bytes.now f (sym loaded_at) in
-    let h = restore-facts most_tiles (columns a.tiles.now a.offsets.now a.list.now) a.n f (lit≤ tt) kept-is (sym c.restore_check.ensures ∙ c.in_ok-restore_check.was) in
-    let sound = ap (sound_poses a.offsets.now a.list.now a.n) (c.at-stance.ensures ∙ c.poses_from-poses.ensures) ∙ h.sound in
+    let h = restore-facts most_tiles (lent_columns a.columns) a.n f (lit≤ tt) kept-is (sym c.restore_check.ensures ∙ c.in_ok-restore_check.was) in
+    let sound = ap (sound_poses a.columns.offsets.now a.columns.list.now a.n) (c.at-stance.ensures ∙ c.poses_from-poses.ensures) ∙ h.sound in
     (h.some, h.few, h.tiles, sound)
 
 pub returns : goal.returns
@@ -48,6 +48,6 @@ returns c =
     let loaded_at = is-loaded (c.ok_or.ensures.ok_part ∙ ap result_ok c.in_ok-f.was) c.load.ensures in
     let f = fields_as c.in_ok-f.f in
     let a = c.args in
-    let touched = ap (λ (x : Contacted). x.wheels) (c.full_contact.ensures ∙ ap (first_contact full_words (columns a.tiles.now a.offsets.now a.list.now)) (c.at-stance.ensures ∙ c.poses_from-poses.ensures)) in
-    let made = run-restored full_words (columns a.tiles.now a.offsets.now a.list.now) f (view c.run_of.result) _ _ c.run_of.ensures refl touched in
-    restore-accepted full_words most_tiles a.bytes.now (columns a.tiles.now a.offsets.now a.list.now) a.n (view c.run_of.result) f _ loaded_at c.restore_check.ensures c.in_ok-restore_check.was made
+    let touched = ap (λ (x : Contacted). x.wheels) (c.full_contact.ensures ∙ ap (first_contact full_words (lent_columns a.columns)) (c.at-stance.ensures ∙ c.poses_from-poses.ensures)) in
+    let made = run-restored full_words (lent_columns a.columns) f (view c.run_of.result) _ _ c.run_of.ensures refl touched in
+    restore-accepted full_words most_tiles a.bytes.now (lent_columns a.columns) a.n (view c.run_of.result) f _ loaded_at c.restore_check.ensures c.in_ok-restore_check.was made

@@ -10,12 +10,12 @@ pub returns-then-not-cells_sound : goal.returns-then-not-cells_sound
 unfolding settle_check short_of places_ok
 returns-then-not-cells_sound c =
     let a = c.args in
-    let sound = cells-sound-is a.offsets.now a.list.now a.setup.n a.stance.now.poses a.stance.now.own_cells c.cells_sound.ensures in
+    let sound = cells-sound-is a.columns.offsets.now a.columns.list.now a.setup.n a.stance.now.poses a.stance.now.own_cells c.cells_sound.ensures in
     search rules
 
 pub returns : goal.returns
 unfolding settle_check short_of places_ok
 returns c =
     let a = c.args in
-    let sound = cells-sound-is a.offsets.now a.list.now a.setup.n a.stance.now.poses a.stance.now.own_cells c.cells_sound.ensures in
+    let sound = cells-sound-is a.columns.offsets.now a.columns.list.now a.setup.n a.stance.now.poses a.stance.now.own_cells c.cells_sound.ensures in
     search rules

@@ -4,7 +4,7 @@ use native.Mathlib.Omega.{arith}
 use lib.Dec.{lit≤}
 use Rattle.std.specs.Prelude.{Err}
 use Rattle.std.proofs.lemmas.Result.{err_from_is_err_and}
-use Rattle.run.specs.Grader.State.{columns}
+use Rattle.run.specs.Grader.State.{lent_columns}
 use Rattle.run.specs.Grader.Widths.{full_words, most_tiles}
 use Rattle.run.proofs.CallLaws.{settle-facts, settle-refused, settle-accepted, contact-few}
 use Rattle.run.proofs.settle.settle_parts.Goals as goal
@@ -17,13 +17,13 @@ returns-in_err-settle_check c =
 pub full_contact-c-requires : goal.full_contact-c-requires
 full_contact-c-requires c =
     let a = c.args in
-    let h = settle-facts most_tiles a.setup a.progress.now (columns a.tiles.now a.offsets.now a.list.now) a.x a.y c.at-stance.result.poses (lit≤ tt) c.in_ok-settle_check.ensures in
+    let h = settle-facts most_tiles a.setup a.progress.now (lent_columns a.columns) a.x a.y c.at-stance.result.poses (lit≤ tt) c.in_ok-settle_check.ensures in
     (h.some, h.few, h.tiles, h.sound)
 
 pub settled_progress-next-requires : goal.settled_progress-next-requires
 settled_progress-next-requires c =
     let a = c.args in
-    let h = settle-facts most_tiles a.setup a.progress.now (columns a.tiles.now a.offsets.now a.list.now) a.x a.y c.at-stance.result.poses (lit≤ tt) c.in_ok-settle_check.ensures in
+    let h = settle-facts most_tiles a.setup a.progress.now (lent_columns a.columns) a.x a.y c.at-stance.result.poses (lit≤ tt) c.in_ok-settle_check.ensures in
     (omega (arith, h.few, h.count, contact-few full_words _ _ _ c.full_contact-c.ensures), h.time)
 
 pub returns : goal.returns

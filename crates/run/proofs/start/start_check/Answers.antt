@@ -1,6 +1,6 @@
 -- `run::start::start_check` meets its contract. Assumes nothing.
 use Rattle.run.specs.Grader.Start.{start_check, start_short}
-use Rattle.run.specs.Grader.State.{columns, short_of}
+use Rattle.run.specs.Grader.State.{lent_columns, short_of}
 use mathlib.Core.Bool.{cond, not}
 use mathlib.Core.Path.{◌≡◌, sym, ◌∙◌}
 use Rattle.std.specs.Prelude.{Ok, Err}
@@ -11,7 +11,7 @@ use Rattle.run.proofs.start.start_check.Goals as goal
 pub returns-then-not-cells_sound : goal.returns-then-not-cells_sound
 unfolding start_check start_short short_of
 returns-then-not-cells_sound c =
-    let past-poses : (let a = c.args in start_check a.most (columns a.tiles.now a.offsets.now a.list.now) (record { n = a.n; fallback = a.fallback; seed = a.seed; share = a.share; limit = a.limit; poses = a.stance.now.poses })) ≡ cond (not c.cells_sound.result) (Err Cause.Index) (Ok tt) =
+    let past-poses : (let a = c.args in start_check a.most (lent_columns a.columns) (record { n = a.n; fallback = a.fallback; seed = a.seed; share = a.share; limit = a.limit; poses = a.stance.now.poses })) ≡ cond (not c.cells_sound.result) (Err Cause.Index) (Ok tt) =
     let a = c.args in
     simp (
       ← c.settings_ok.ensures,
@@ -20,7 +20,7 @@ returns-then-not-cells_sound c =
       c.if-is_short-n.false,
       ← c.poses_ok.ensures,
       c.if-not-poses_ok.false,
-      ← cells-sound-is a.offsets.now a.list.now a.n a.stance.now.poses a.stance.now.own_cells c.cells_sound.ensures,
+      ← cells-sound-is a.columns.offsets.now a.columns.list.now a.n a.stance.now.poses a.stance.now.own_cells c.cells_sound.ensures,
     )
     in
     sym (past-poses ∙ simp c.if-not-cells_sound.true)
@@ -28,7 +28,7 @@ returns-then-not-cells_sound c =
 pub returns : goal.returns
 unfolding start_check start_short short_of
 returns c =
-    let past-poses : (let a = c.args in start_check a.most (columns a.tiles.now a.offsets.now a.list.now) (record { n = a.n; fallback = a.fallback; seed = a.seed; share = a.share; limit = a.limit; poses = a.stance.now.poses })) ≡ cond (not c.cells_sound.result) (Err Cause.Index) (Ok tt) =
+    let past-poses : (let a = c.args in start_check a.most (lent_columns a.columns) (record { n = a.n; fallback = a.fallback; seed = a.seed; share = a.share; limit = a.limit; poses = a.stance.now.poses })) ≡ cond (not c.cells_sound.result) (Err Cause.Index) (Ok tt) =
     let a = c.args in
     simp (
       ← c.settings_ok.ensures,
@@ -37,7 +37,7 @@ returns c =
       c.if-is_short-n.false,
       ← c.poses_ok.ensures,
       c.if-not-poses_ok.false,
-      ← cells-sound-is a.offsets.now a.list.now a.n a.stance.now.poses a.stance.now.own_cells c.cells_sound.ensures,
+      ← cells-sound-is a.columns.offsets.now a.columns.list.now a.n a.stance.now.poses a.stance.now.own_cells c.cells_sound.ensures,
     )
     in
     sym (past-poses ∙ simp c.if-not-cells_sound.false)
