@@ -16,7 +16,7 @@ use given::Given;
 use std::alloc::Global;
 use std::io;
 use std::io::{BufWriter, Read, Write};
-use vectors::columns::{Columns, UNTOUCHED, UNTOUCHED_MARK, front, front_mut};
+use vectors::columns::{Columns, UNTOUCHED, UNTOUCHED_MARK, front, front_mut, put};
 use vectors::record::{Kind, Record, Records, UnknownCode};
 use vectors::{hash, line};
 
@@ -131,12 +131,6 @@ fn replay_curbs<W: Write>(
     line::hash(out, hash::column(&white))
 }
 
-fn put_offset(record: Record<'_>, offsets: &mut [u32]) {
-    if let Some(place) = offsets.get_mut(record.word(1) as usize) {
-        *place = record.low(2);
-    }
-}
-
 // The part's length, and its hash.
 fn replay_lookup<W: Write>(out: &mut W, record: Record<'_>, columns: &Columns) -> io::Result<()> {
     let offsets = front(&columns.offsets, record.word(1));
@@ -159,7 +153,7 @@ fn main(rt: HostRuntime) -> io::Result<()> {
             Request::Repeat => given.repeat(record),
             Request::Points => replay_points(&mut out, record, &given, &mut columns)?,
             Request::Curbs => replay_curbs(&mut out, alloc, record, &given)?,
-            Request::Offset => put_offset(record, &mut columns.offsets),
+            Request::Offset => put(&mut columns.offsets, record.word(1), record.low(2)),
             Request::Lookup => replay_lookup(&mut out, record, &columns)?,
         }
     }

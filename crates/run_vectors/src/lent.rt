@@ -26,13 +26,6 @@ fn given_column(record: Record<'_>, k: usize) -> [f64; MOST_POINTS] {
     col
 }
 
-// What stands at a place of a column becomes the number; nothing where there is no such place.
-fn put<T: Copy>(col: &mut [T], place: u64, number: T) {
-    if let Some(at) = col.get_mut(place as usize) {
-        *at = number;
-    }
-}
-
 impl Lent {
     // Columns of zeros.
     pub fn new(alloc: Global) -> Result<Self, AllocError> {
@@ -82,17 +75,5 @@ impl Lent {
         line::hash(out, hash::column(&self.tiles))?;
         line::hash(out, hash::column(&self.offsets))?;
         line::hash(out, hash::column(&self.list))
-    }
-
-    pub fn put_tile(&mut self, record: Record<'_>) {
-        put(&mut self.tiles, record.word(1), record.float(2));
-    }
-
-    pub fn put_offset(&mut self, record: Record<'_>) {
-        put(&mut self.offsets, record.word(1), record.low(2));
-    }
-
-    pub fn put_id(&mut self, record: Record<'_>) {
-        put(&mut self.list, record.word(1), record.low(2));
     }
 }

@@ -24,6 +24,7 @@ use lent::Lent;
 use run::state::Run;
 use std::io;
 use std::io::{BufWriter, Read, Write};
+use vectors::columns::put;
 use vectors::record::{Record, Records};
 
 // The length of a block.
@@ -38,28 +39,29 @@ fn replay<W: Write>(
     run: &mut Run,
 ) -> io::Result<()> {
     match request {
-        Request::Course => lent.replay_course(out, record),
-        Request::Tile => Ok(lent.put_tile(record)),
-        Request::Offset => Ok(lent.put_offset(record)),
-        Request::Id => Ok(lent.put_id(record)),
-        Request::Core => Ok(call::put_core(record, run)),
-        Request::Credited => Ok(call::fill(&mut run.credited, record)),
-        Request::Wheels => Ok(call::fill(&mut run.wheels, record)),
-        Request::Start => call::replay_start(out, record, lent, run),
-        Request::Drive => call::replay_drive(out, record, run),
-        Request::Settle => call::replay_settle(out, record, lent, run),
-        Request::Sheet => rule::replay_sheet(out, run),
-        Request::Reward => rule::replay_reward(out, record),
-        Request::Overlap => rule::replay_overlap(out, record),
-        Request::Braked => rule::replay_braked(out, record),
-        Request::Quad => rule::replay_quad(out, record),
-        Request::Cells => rule::replay_cells(out, record),
-        Request::Weights => rule::replay_weights(out),
-        Request::PutLast => Ok(saves::put_last(record, run)),
-        Request::Last => saves::line_last(out, run),
-        Request::Save => saves::replay_save(out, record, *run),
-        Request::Restore => saves::replay_restore(out, record, lent, run),
+        Request::Course => lent.replay_course(out, record)?,
+        Request::Tile => put(&mut lent.tiles, record.word(1), record.float(2)),
+        Request::Offset => put(&mut lent.offsets, record.word(1), record.low(2)),
+        Request::Id => put(&mut lent.list, record.word(1), record.low(2)),
+        Request::Core => call::put_core(record, run),
+        Request::Credited => call::fill(&mut run.credited, record),
+        Request::Wheels => call::fill(&mut run.wheels, record),
+        Request::Start => call::replay_start(out, record, lent, run)?,
+        Request::Drive => call::replay_drive(out, record, run)?,
+        Request::Settle => call::replay_settle(out, record, lent, run)?,
+        Request::Sheet => rule::replay_sheet(out, run)?,
+        Request::Reward => rule::replay_reward(out, record)?,
+        Request::Overlap => rule::replay_overlap(out, record)?,
+        Request::Braked => rule::replay_braked(out, record)?,
+        Request::Quad => rule::replay_quad(out, record)?,
+        Request::Cells => rule::replay_cells(out, record)?,
+        Request::Weights => rule::replay_weights(out)?,
+        Request::PutLast => saves::put_last(record, run),
+        Request::Last => saves::line_last(out, run)?,
+        Request::Save => saves::replay_save(out, record, *run)?,
+        Request::Restore => saves::replay_restore(out, record, lent, run)?,
     }
+    Ok(())
 }
 
 fn main(rt: HostRuntime) -> io::Result<()> {

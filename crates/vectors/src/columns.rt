@@ -1,5 +1,5 @@
 // The columns that a test program lends: of its own length each, of which a call is lent a part.
-ghost use Rattle.std.specs.Prelude.{◌≡◌, take};
+ghost use Rattle.std.specs.Prelude.{◌≡◌, length, take};
 
 use crate::{hash, line};
 use std::alloc::{AllocError, Global};
@@ -26,6 +26,15 @@ pub fn front_mut<T>(col: &mut [T], length: u64) -> &mut [T]
 {
     let n = (length as usize).min(col.len());
     &mut col[..n]
+}
+
+// What stands at a place of a column becomes the number; nothing does where there is no such place.
+pub fn put<T: Copy>(col: &mut [T], place: u64, number: T)
+    ensures { length col.new ≡ length col.old }
+{
+    if let Some(at) = col.get_mut(place as usize) {
+        *at = number;
+    }
 }
 
 // The columns of a course.
