@@ -14,25 +14,12 @@ pub fn forces(forces: [Force; 4]) -> u64 {
 }
 
 fn mix_counts(h: u64, setup: Setup, progress: Progress) -> u64 {
-    let counts = [
-        setup.n,
-        progress.visited_count,
-        progress.tick,
-        setup.tick_limit,
-    ];
+    let counts = [setup.n, progress.visited_count, progress.tick, setup.tick_limit];
     mix(mix_all(h, &counts), setup.lap_share)
 }
 
 fn mix_flags(h: u64, setup: Setup, progress: Progress) -> u64 {
-    mix_all(
-        h,
-        &[
-            progress.lap,
-            progress.ended,
-            setup.fallback,
-            progress.driven,
-        ],
-    )
+    mix_all(h, &[progress.lap, progress.ended, setup.fallback, progress.driven])
 }
 
 fn mix_car(h: u64, car: Car) -> u64 {

@@ -13,13 +13,7 @@ pub fn replay_sheet<W: Write>(out: &mut W, run: &Run) -> io::Result<()> {
     match sheet::sheet(run.setup, run.progress) {
         Ok(s) => {
             writeln!(out, "{}\n{}\n{}", s.tick, s.credited, s.n)?;
-            writeln!(
-                out,
-                "{}\n{}\n{}",
-                Flag(s.lap),
-                Flag(s.ended),
-                Flag(s.fallback)
-            )?;
+            writeln!(out, "{}\n{}\n{}", Flag(s.lap), Flag(s.ended), Flag(s.fallback))?;
             writeln!(out, "{}", s.share)
         }
         Err(cause) => line::refused(out, cause),
@@ -38,21 +32,11 @@ pub fn replay_reward<W: Write>(out: &mut W, record: Record<'_>) -> io::Result<()
 
 pub fn replay_weights<W: Write>(out: &mut W) -> io::Result<()> {
     let w = reward::default_weights();
-    writeln!(
-        out,
-        "{}\n{}\n{}",
-        Bits(w.tile),
-        Bits(w.step),
-        Bits(w.off_playfield)
-    )
+    writeln!(out, "{}\n{}\n{}", Bits(w.tile), Bits(w.step), Bits(w.off_playfield))
 }
 
 pub fn replay_braked<W: Write>(out: &mut W, record: Record<'_>) -> io::Result<()> {
-    writeln!(
-        out,
-        "{}",
-        Bits(dynamics::braked(record.float(1), record.float(2)))
-    )
+    writeln!(out, "{}", Bits(dynamics::braked(record.float(1), record.float(2))))
 }
 
 pub fn replay_overlap<W: Write>(out: &mut W, record: Record<'_>) -> io::Result<()> {
