@@ -1,8 +1,8 @@
 """Says which definitions one must read and believe: for the certificate, for the plain scorer alone, for each public
 call, and for all together. A contract or statement cites definitions, and these cite others. All that is so reached
-counts, line by line, with the comments directly above it: definitions in specs/, the structs, enums and constants of
-src/ that they name, and the contract itself. Blank lines, `use` lines and proofs do not count, and a name of the kit is
-not followed.
+counts, line by line, with the comments directly above it: definitions in specs/, the structs, enums, traits and
+constants of src/ that they name, a trait with what its impls say of its ghosts, and the contract itself. Blank lines,
+`use` lines and proofs do not count, and a name of the kit is not followed.
 
 Definitions stand in rooms, the folders of each crate's specs/: Rules, what document 01 says, which grader and plain
 scorer share; Claim, the plain scorer and the certificate; Grader, state, words, look-up, contact and calls; Laws, the
@@ -29,8 +29,8 @@ ROWS = {"the certificate, with the contract of `replay`": "certificate", "the pl
 ROOMS = ("Rules", "Claim", "Grader", "Laws", "Steps")
 COUNTED = (*ROOMS[:3], "src")
 # what Rattle and its proof language have of their own
-WORDS = set("record let in where module Type λ → ∀ = : _ ⊥ ⊤ × | Self".split())
-SIMPLE = set("self u8 u16 u32 u64 usize i8 i16 i32 i64 isize f32 f64 bool mut a Self as static".split())
+WORDS = set("record let in where module Type λ → ∀ = : _ ⊥ ⊤ × | Self Unit tt".split())
+SIMPLE = set("self u8 u16 u32 u64 usize i8 i16 i32 i64 isize f32 f64 bool mut a Self as static Option Result".split())
 NUMBER = re.compile(r"^(0x[0-9A-Fa-f_]+|[0-9][0-9_]*)$")
 INDENT = re.compile(r"^ *")
 
@@ -182,9 +182,11 @@ def clauses(item):
 # ---- declarations and contracts: the files of src/
 
 USED = re.compile(r"(?m)^(?:pub(?:\(crate\))? )?use ([^;]+);")
-DECLARED = re.compile(r"^(?:pub(?:\(crate\))? )?(struct|enum|const) (\w+)")
+DECLARED = re.compile(r"^(?:pub(?:\(crate\))? )?(struct|enum|trait|const) (\w+)")
 CALL = re.compile(r'^( *)pub (?:extern "C" )?fn (\w+)')
 IMPL = re.compile(r"^impl (\w+)")
+OF_TRAIT = re.compile(r"^impl(?:<[^>]*>)? (\w+) for (\w+)")
+GHOST = re.compile(r"^ +ghost \w+ = (\{.*\});$")
 
 
 def used_paths(tree):
@@ -210,7 +212,7 @@ def read_source(path, crate, root):
     file = File(path, crate)
     parts = list(path.relative_to(root).with_suffix("").parts)
     file.module = [] if parts in (["lib"], ["main"]) else [p for p in parts if p != "mod"]
-    file.used, file.calls, of = {}, [], None
+    file.used, file.calls, file.impls, of = {}, [], [], None
     for m in USED.finditer("\n".join(file.text)):
         for path in used_paths(m[1]):
             file.used[path[-1]] = path
@@ -232,7 +234,24 @@ def read_source(path, crate, root):
         m = CALL.match(line)
         if m:
             read_contract(file, at, m, of)
+        m = OF_TRAIT.match(line)
+        if m:
+            read_impl(file, at, m)
     return file
+
+
+def read_impl(file, at, m):
+    """What a type says of a trait's ghosts."""
+    item = Item(file, f"{m[1]} for {m[2]}", "impl", at)
+    item.trait, item.clauses, item.bound = m[1], [], set()
+    for line in file.text[at:]:
+        ghost = GHOST.match(line)
+        if ghost:
+            item.clauses.append(ghost[1])
+        if line == "}":
+            break
+    item.lines = 1 + len(item.clauses)
+    file.impls.append(item)
 
 
 def closing(text, at):
@@ -261,6 +280,11 @@ def read_contract(file, at, m, of):
         item.clauses.append(text[c.end():end - 1])
         place = end
     item.bound = set(re.findall(r"(\w+)\s*:(?!:)", item.types)) | {"self", "result"}
+    # a type or number that the function is told stands for any; what bounds it is read
+    generics = text[m.end():begin].strip("<>")
+    item.params = {g.split(":")[0].split()[-1] for g in generics.split(",") if g}
+    item.bound |= item.params
+    item.types = " ".join(g.partition(":")[2] for g in generics.split(",")) + " " + item.types
     file.close(item, "//", at + text.count("\n", 0, place) + 1)
     file.calls.append(item)
 
@@ -290,6 +314,8 @@ class Tree:
                 self.cite_types(file, item, "\n".join(item.body))
             for item in file.calls:
                 self.cite_contract(file, item)
+            for item in file.impls:
+                self.cite_impl(file, item)
 
     # where a name leads: an item, ("kit", library), ("proofs", path) or None
     def follow(self, path, name):
@@ -378,7 +404,7 @@ class Tree:
             there = self.declared(file, path.split("::"))
             if there and there is not item:
                 item.cited.append(there)
-            elif not there and path not in SIMPLE and item.kind == "contract":
+            elif not there and path not in SIMPLE and item.kind == "contract" and path not in item.params:
                 item.lost.append(path)
 
     def cite_contract(self, file, item):
@@ -386,6 +412,15 @@ class Tree:
         for text in item.clauses:
             text = plain(text)
             self.cite(file, item, tokens(text), item.bound | binders(text))
+
+
+    def cite_impl(self, file, item):
+        """A trait of the code is read with what its impls say."""
+        trait = self.declared(file, [item.trait])
+        if trait:
+            trait.cited.append(item)
+        for text in item.clauses:
+            self.cite(file, item, tokens(plain(text)), binders(plain(text)))
 
 
 # ---- what is reached
@@ -413,7 +448,7 @@ class Reach:
                 self.faults.append(f"no definition of '{name}': {self.chain(item)}")
             if item.file.room in ("Steps", "Laws"):
                 self.faults.append(f"a definition of {item.file.room}: {self.chain(item)}")
-            if item.private and item.kind in ("struct", "enum"):
+            if item.private and item.kind in ("struct", "enum", "trait"):
                 self.faults.append(f"a private {item.kind}: {self.chain(item)}")
             if item.kind == "contract" and not item.clauses:
                 self.faults.append(f"a public function without a contract: {item}")
