@@ -53,7 +53,7 @@ for name, raw in files():
     # 1
     for m in re.finditer(r'\benum (\w+) \{(.*?)\n\}', text, re.S):
         variants = [v.strip() for v in re.split(r',\n', m.group(2)) if v.strip()]
-        if any(re.match(r'Refused\b|None\b', v) for v in variants):
+        if any(re.match(r'Refused\b|None\b', v) for v in variants) and not m.group(1).endswith('Error'):
             add('1 own enums shaped as Option or Result', name, text, m.start(), m.group(1))
     for m in re.finditer(r'\bstruct (\w+)(?:<[^>]*>)? \{(.*?)\n\}', text, re.S):
         if re.search(r'\b(ok|short|answer|cause): ', m.group(2)) and not re.search(r'Flat', m.group(1)):
@@ -68,18 +68,21 @@ for name, raw in files():
             add('1 numbers for refusals', name, text, at, f)
         elif re.search(r'-> u32', head) and re.search(r'return \d+;', body) and '_cause' in f:
             add('1 numbers for refusals', name, text, at, f)
-    for m in re.finditer(r'Refused\((\d+|k|number|cause)\)', text):
+    for m in re.finditer(r'(?<!Error::)Refused\((\d+|k|number|cause)\)', text):
         if '=>' not in text[m.end():m.end() + 4]:
             add('1 numbers for refusals', name, text, m.start(), m.group(0))
+    for f, head, body, at in functions(text):
+        if re.search(r'\baction == \d|\basked\[0\] == 0', body):
+            add('1 numbers for kinds', name, text, at, f)
     # 3
     for f, head, body, at in functions(text):
         for m in re.finditer(r'\bwhile\b([^{]*)\{', body):
             add('3 loops by while', name, text, at + len(head) + m.start(), f + ': while' + m.group(1).rstrip())
     # 4
     for f, head, body, at in functions(text):
-        if re.fullmatch(r'wide|wide_mark|narrow|as_number|bit|indicator|copy|spot|spots|corners|flag', f):
+        if re.fullmatch(r'wide|wide_mark|narrow|as_number|bit|copy|corners|flag', f):
             add('4 conversions and copies by hand', name, text, at, f)
-        elif 'abi/src/flat' in name and re.search(r'-> (Flat|u32|StartValues|SettleValues)', head):
+        elif 'abi/src/flat' in name and f != 'from' and re.search(r'-> (Flat|u32|StartValues|SettleValues)', head):
             add('4 conversions and copies by hand', name, text, at, f)
         elif re.search(r'\b(lines?_|more|figures)', f) and 'Write' in head:
             add('4 printing by hand', name, text, at, f)
@@ -100,7 +103,8 @@ for name, raw in files():
         if re.search(r'widths: &\[usize\], zeros: &\[bool\]', head):
             add('6 parallel arrays', name, text, at, f)
     # 7
-    for m in re.finditer(r'match (vectors::word\(rest, 0\)|code|word_at\(words, k\)) \{', text):
+    plain = re.sub(r'\nimpl TryFrom.*?\n\}', lambda m: re.sub(r'[^\n]', ' ', m.group(0)), text, flags=re.S)
+    for m in re.finditer(r'match (vectors::word\(rest, 0\)|code|word_at\(words, k\)) \{', plain):
         add('7 switches by code', name, text, m.start(), m.group(0))
     for m in re.finditer(r'if asked\[0\] == 0', text):
         add('7 switches by code', name, text, m.start(), m.group(0))
@@ -114,6 +118,18 @@ def shape(head, body):
     s = re.sub(r'\b[A-Z][A-Z0-9_]+\b', 'C', s)
     return re.sub(r'\s+', ' ', s)
 
+
+# 2: structs of one set of field names
+fields = {}
+for name, raw in files():
+    text = code(raw)
+    for m in re.finditer(r'\bstruct (\w+)(?:<[^>]*>)? \{(.*?)\n\}', text, re.S):
+        key = tuple(re.findall(r'^    (?:pub(?:\([a-z]+\))? )?(\w+):', m.group(2), re.M))
+        fields.setdefault(key, []).append((name, text, m.start(), m.group(1)))
+for g in fields.values():
+    if len(g) > 1:
+        for name, text, at, f in g:
+            add('2 structs of one set of fields', name, text, at, f)
 
 # 2: functions that are alike once types, sizes and constants are blotted out; names of callees and locals are numbered by first use
 groups = {}
