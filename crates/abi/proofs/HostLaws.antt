@@ -28,7 +28,8 @@ use Rattle.run.specs.Grader.Numbers.{motions_from, force_from, forces_from, forc
 use Rattle.run.specs.declared.state.Setup.{Setup}
 use Rattle.run.specs.declared.state.Progress.{Progress}
 use Rattle.run.specs.declared.state.Pose.{Pose}
-use Rattle.run.specs.Grader.Start.{Settings, start_check}
+use Rattle.run.specs.declared.start.Settings.{Settings}
+use Rattle.run.specs.Grader.Start.{start_check}
 use Rattle.abi.specs.Grader.Flat.{flat_driven, flat_settled, run_of, flat_saved, flat_save, flat_restored}
 use Rattle.abi.specs.Grader.InPlace.{forces_after, drive_in_place, settle_in_place}
 use Rattle.abi.specs.Laws.Host.{Kept, kept_run, kept_state, kept_from, HostCall, value_call, drive_read, settle_read, HostReplied, host_reply, host_replies, host_kept, HostRequest, value_request, HostGoing, host_going, value_going, saves_kept, run_kept, HostWent, host_request, host_said, host_after}

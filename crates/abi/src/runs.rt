@@ -18,6 +18,7 @@ use course::cause;
 use run::numbers::{CAR_NUMBERS, FORCE_NUMBERS, MOTION_NUMBERS, POSE_NUMBERS};
 use run::reward::Weights;
 use run::settle::SettleValues;
+use run::start::Settings;
 use run::state::{Progress, Setup};
 use run::touch::Columns;
 use run::widths::{FULL_WORDS, WHEEL_WORDS};
@@ -57,13 +58,21 @@ pub extern "C" fn grader_start(
         (start_of full_words most_tiles (columns tiles.now offsets.now list.now)
         (record { n = n; fallback = fallback; seed = seed; share = share; limit = limit; poses = poses.wheels })) }
 {
+    let wheels = poses.wheels;
+    let settings = Settings {
+        n,
+        fallback,
+        seed,
+        share,
+        limit,
+        poses: wheels,
+    };
     let columns = Columns {
         tiles,
         offsets,
         list,
     };
-    let wheels = poses.wheels;
-    FlatStarted::from(start::start(columns, n, fallback, seed, share, limit, wheels))
+    FlatStarted::from(start::start(columns, settings))
 }
 
 // Forces for the host: the car is changed where it stands and the forces are written. A refusal changes nothing.

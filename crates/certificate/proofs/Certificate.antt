@@ -28,7 +28,8 @@ use Rattle.run.specs.Grader.State.{State, Columns, short_of, unfit}
 use Rattle.run.specs.Grader.Words.{member}
 use Rattle.run.specs.Grader.Contact.{wheel_part}
 use Rattle.run.specs.Grader.Touch.{sound_poses}
-use Rattle.run.specs.Grader.Start.{Settings, start_short, start_check, setup_of, first_progress, zero_state, Begun, started_by, start_at, start_of}
+use Rattle.run.specs.declared.start.Settings.{Settings}
+use Rattle.run.specs.Grader.Start.{start_short, start_check, setup_of, first_progress, zero_state, Begun, started_by, start_at, start_of}
 use Rattle.run.specs.Grader.Numbers.{pose_numbers}
 use Rattle.run.specs.Grader.Saved.{fields_of, saved_form}
 use Rattle.run.specs.Grader.Save.{save_check, save_at, save_of}

@@ -29,7 +29,8 @@ use Rattle.course.proofs.LayLaws.{roomy, lay-cause, lay-columns}
 use Rattle.run.specs.Rules.Arguments.{settings_ok, short_columns}
 use Rattle.run.specs.Grader.Widths.{full_words, most_tiles}
 use Rattle.run.specs.Grader.State.{State, Columns, columns, short_of, unfit}
-use Rattle.run.specs.Grader.Start.{Settings, start_short, start_check, setup_of, first_progress, zero_state, Begun, begun, start_at, start_of}
+use Rattle.run.specs.declared.start.Settings.{Settings}
+use Rattle.run.specs.Grader.Start.{start_short, start_check, setup_of, first_progress, zero_state, Begun, begun, start_at, start_of}
 use Rattle.run.specs.Grader.Sheet.{figures_of, sheet_of}
 use Rattle.certificate.specs.Grader.Calls.{Call, replies_of, state_after}
 use Rattle.certificate.specs.Rules.Answers.{Answer}

@@ -16,7 +16,7 @@ use course::cause::Cause;
 use course::points::{LaidCourse, LayError};
 use course::{lay, points};
 use run::sheet::RunSheet;
-use run::start::StartValues;
+use run::start::{Settings, StartValues};
 use run::state::{Pose, Run};
 use run::touch::Columns;
 use run::{drive, numbers, settle, sheet, start};
@@ -228,15 +228,15 @@ pub fn replay(
         offsets,
         list,
     };
-    let s = start::start(
-        columns,
-        course.n,
-        course.fallback,
+    let settings = Settings {
+        n: course.n,
+        fallback: course.fallback,
         seed,
         share,
         limit,
         poses,
-    );
+    };
+    let s = start::start(columns, settings);
     let begun = s.answer;
     let mut run = s.run;
     replies(

@@ -26,7 +26,8 @@ use Rattle.run.proofs.CheckLaws.{cause-by, none-number, met-none}
 use Rattle.run.proofs.CreditLaws.{few}
 use Rattle.run.specs.Grader.Numbers.{pose_numbers}
 use Rattle.run.specs.Rules.Lap.{lap_of, off_field}
-use Rattle.run.specs.Grader.Start.{Settings, start_short, start_check, setup_of, first_progress, zero_state, begun, first_contact, started_by, start_at, start_of}
+use Rattle.run.specs.declared.start.Settings.{Settings}
+use Rattle.run.specs.Grader.Start.{start_short, start_check, setup_of, first_progress, zero_state, begun, first_contact, started_by, start_at, start_of}
 use Rattle.run.specs.Rules.Pass.{still_car}
 use Rattle.run.specs.Grader.Settle.{settle_check, settled_progress, SettledParts, settled_parts, settled_by, settle_at, settle_parts_of, poses_after, SettledPoses, settled_poses, settle_poses_of, after_settle, settle_of}
 use Rattle.run.specs.declared.state.Setup.{Setup}

@@ -14,6 +14,17 @@ use crate::widths::{FULL_WORDS, MOST_TILES, WHEEL_WORDS};
 use crate::{contact, lap, numbers, state};
 use course::cause::Cause;
 
+// What start is told beside the lent columns.
+#[derive(Clone, Copy)]
+pub struct Settings {
+    pub n: u32,
+    pub fallback: bool,
+    pub seed: u64,
+    pub share: f64,
+    pub limit: u32,
+    pub poses: [Pose; 4],
+}
+
 // How many tiles are credited at the start, and the lap.
 #[derive(Clone, Copy)]
 pub struct StartValues {
@@ -41,24 +52,20 @@ pub(crate) fn settings_ok(share: f64, limit: u32) -> bool
 fn start_check(
     most: u32,
     columns: Columns<'_>,
-    n: u32,
-    fallback: bool,
-    seed: u64,
-    share: f64,
-    limit: u32,
+    settings: Settings,
     stance: &Stance,
 ) -> Result<(), Cause>
-    ensures { result
-        ≡ start_check most (lent_columns columns.entry)
-        (record { n = n; fallback = fallback; seed = seed; share = share; limit = limit; poses = stance.now.poses }) }
+    requires { stance.now.poses ≡ settings.poses }
+    ensures { result ≡ start_check most (lent_columns columns.entry) settings }
 {
-    if !settings_ok(share, limit) {
+    let n = settings.n;
+    if !settings_ok(settings.share, settings.limit) {
         return Err(Cause::Settings);
     }
     if state::is_short(n, columns.tiles.len(), columns.offsets.len()) | ((n < 1) | (most < n)) {
         return Err(Cause::Length);
     }
-    if !state::poses_ok(stance.poses) {
+    if !state::poses_ok(settings.poses) {
         return Err(Cause::Range);
     }
     if !columns.cells_sound(n as usize, &stance.cells) {
@@ -124,43 +131,33 @@ pub(crate) fn zero_run() -> Run
 }
 
 // A run on the lent course, or a cause with the state of zeros.
-pub fn start(
-    columns: Columns<'_>,
-    n: u32,
-    fallback: bool,
-    seed: u64,
-    share: f64,
-    limit: u32,
-    poses: [Pose; 4],
-) -> Started
+pub fn start(columns: Columns<'_>, settings: Settings) -> Started
     ensures { begun result.answer (view result.run)
-        ≡ start_of full_words most_tiles (lent_columns columns.entry)
-        (record { n = n; fallback = fallback; seed = seed; share = share; limit = limit; poses = poses }) }
+        ≡ start_of full_words most_tiles (lent_columns columns.entry) settings }
 {
-    let stance = Stance::at(poses);
-    let check = start_check(
-        MOST_TILES, columns, n, fallback, seed, share, limit, &stance,
-    );
+    let stance = Stance::at(settings.poses);
+    let check = start_check(MOST_TILES, columns, settings, &stance);
     if let Err(cause) = check {
         return Started {
             answer: Err(cause),
             run: zero_run(),
         };
     }
+    let n = settings.n;
     let mut credited = [0u64; FULL_WORDS];
     let mut wheels = [0u64; WHEEL_WORDS];
     let c = contact::full_contact(&stance, columns, n as usize, &mut credited, &mut wheels);
-    let lap = lap::update_lap(false, c.zero, c.fresh, n, share);
+    let lap = lap::update_lap(false, c.zero, c.fresh, n, settings.share);
     let setup = Setup {
         n,
-        tick_limit: limit,
-        lap_share: share,
-        fallback,
+        tick_limit: settings.limit,
+        lap_share: settings.share,
+        fallback: settings.fallback,
     };
     let progress = first_progress(c.fresh, lap);
     let car = still_car();
     let mut last = [0.0; POSE_NUMBERS];
-    numbers::put_poses(poses, &mut last);
+    numbers::put_poses(settings.poses, &mut last);
     let run = Run {
         setup,
         progress,
@@ -168,7 +165,7 @@ pub fn start(
         credited,
         wheels,
         poses: last,
-        seed,
+        seed: settings.seed,
     };
     let values = StartValues {
         count: c.fresh,

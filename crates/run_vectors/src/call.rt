@@ -31,15 +31,7 @@ pub fn replay_start<W: Write>(
     lent: &Lent,
     run: &mut Run,
 ) -> io::Result<()> {
-    let s = start::start(
-        lent.columns(record),
-        record.low(4),
-        record.flag(5),
-        record.word(6),
-        record.float(7),
-        record.low(8),
-        read::poses(record, 9),
-    );
+    let s = start::start(lent.columns(record), read::settings(record));
     match s.answer {
         Ok(v) => writeln!(out, "{}\n{}", v.count, Flag(v.lap))?,
         Err(cause) => line::refused(out, cause)?,

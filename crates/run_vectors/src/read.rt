@@ -1,6 +1,7 @@
 // What a record says, from its words.
 use run::dynamics::Motion;
 use run::numbers;
+use run::start::Settings;
 use run::state::{Car, Pose, Progress, Run, Setup};
 use vectors::record::Record;
 
@@ -18,6 +19,18 @@ pub fn poses(record: Record<'_>, k: usize) -> [Pose; 4] {
 // The four motions from word 2 on.
 pub fn motions(record: Record<'_>) -> [Motion; 4] {
     numbers::motions_from(&record.floats(2))
+}
+
+// What start is told, from word 4 on.
+pub fn settings(record: Record<'_>) -> Settings {
+    Settings {
+        n: record.low(4),
+        fallback: record.flag(5),
+        seed: record.word(6),
+        share: record.float(7),
+        limit: record.low(8),
+        poses: poses(record, 9),
+    }
 }
 
 // The quad from word k on.

@@ -17,7 +17,8 @@ use Rattle.run.specs.Grader.State.{State}
 use Rattle.run.specs.Grader.Words.{member}
 use Rattle.run.specs.Grader.Contact.{wheel_part}
 use Rattle.run.specs.Grader.Numbers.{pose_numbers}
-use Rattle.run.specs.Grader.Start.{Settings, setup_of, Begun, start_of, no_start}
+use Rattle.run.specs.declared.start.Settings.{Settings}
+use Rattle.run.specs.Grader.Start.{setup_of, Begun, start_of, no_start}
 use Rattle.certificate.specs.Rules.Answers.{Reply}
 use Rattle.certificate.specs.Grader.Calls.{going, requests_said, going_after}
 use Rattle.certificate.specs.Claim.Scorer.{Opening, History, kept_calls, drives, settles, last_poses, touch, touched, touched_count, lap_done, over, ended, passed, start_number, after_items}

@@ -1,6 +1,6 @@
 -- Document 01, "Start: the first contact" and "Refusals by cause": start 1, 2, 8, 10; document 02, order 1: the seed. For states whose sets have m words and take n up to
 -- `most`. Assumes nothing.
-use Rattle.std.specs.Prelude.{Bool, false, cond, not, ◌||◌, List, ℕ, ◌*◌, ltb, replicate, Float, Result, Ok, Err}
+use Rattle.std.specs.Prelude.{Bool, false, cond, not, ◌||◌, List, ℕ, ◌*◌, ltb, replicate, Result, Ok, Err}
 use Rattle.course.specs.declared.cause.Cause.{Cause}
 use Rattle.course.specs.Rules.Arithmetic.{nought}
 use Rattle.run.specs.Grader.State.{State, state_of, Columns, short_of}
@@ -15,15 +15,7 @@ use Rattle.run.specs.declared.state.Pose.{Pose}
 use Rattle.run.specs.declared.state.Setup.{Setup}
 use Rattle.run.specs.declared.state.Progress.{Progress}
 use Rattle.run.specs.declared.start.StartValues.{StartValues}
-
--- what start is told beside the lent columns
-pub record Settings : Type 0 where
-  pub n : ℕ
-  pub fallback : Bool
-  pub seed : ℕ
-  pub share : Float
-  pub limit : ℕ
-  pub poses : List Pose
+use Rattle.run.specs.declared.start.Settings.{Settings}
 
 -- ---- causes
 
