@@ -41,6 +41,7 @@ pub extern "C" fn grader_reward(weights: Weights, new_tiles: u32, n: u32, off: b
 }
 
 // A run on the lent course; the state of zeros where it is refused.
+// Kept as a parameter for each column: the C interface lends them one by one.
 #[unsafe(no_mangle)]
 pub extern "C" fn grader_start(
     tiles: &[f64],
@@ -106,6 +107,7 @@ pub extern "C" fn grader_drive_parts(
 }
 
 // The contact after physics: the sets and the last poses are changed where they stand. A refusal changes nothing.
+// Kept as a parameter for each column: the C interface lends them one by one.
 #[unsafe(no_mangle)]
 pub extern "C" fn grader_settle_parts(
     setup: Setup,

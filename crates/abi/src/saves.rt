@@ -22,6 +22,7 @@ pub extern "C" fn grader_save(run: Run, out: &mut [u8]) -> FlatSaved
 }
 
 // The run that was saved, on the lent course; the state of zeros where it is refused.
+// Kept as a parameter for each column: the C interface lends them one by one.
 #[unsafe(no_mangle)]
 pub extern "C" fn grader_restore(
     bytes: &[u8],

@@ -11,9 +11,6 @@ use Rattle.run.proofs.start.start.Goals as goal
 pub returns-in-Err : goal.returns-in-Err
 returns-in-Err c = start-refused full_words most_tiles (lent_columns c.args.columns) c.args.settings _ _ _ c.start_check-check.ensures c.in-Err.is c.zero_run.ensures
 
-pub start_check-check-requires : goal.start_check-check-requires
-start_check-check-requires c = c.at-stance.ensures
-
 pub full_contact-c-requires : goal.full_contact-c-requires
 full_contact-c-requires c =
     let a = c.args in
