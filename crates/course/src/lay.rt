@@ -10,14 +10,14 @@ ghost use Rattle.course.specs.Steps.Lay.{columns_of, SameColumns, InFront, tried
 
 use crate::checkpoints::Checkpoint;
 use crate::constants::{LAID_LENGTH, MAX_ATTEMPTS, TAU, TRACK_RAD};
-use crate::point_columns::PointColumns;
+use crate::walk_columns::WalkColumns;
 use crate::points::{LaidCourse, LayError};
 use crate::tiles::TrackPoint;
 use crate::{checkpoints, columns, points, track, trig, walk};
 use rng::SplitMix64;
 
 // An attempt with given checkpoints: the size of its track, which then stands in front, none where it is refused.
-fn attempt(cs: &[Checkpoint; 12], cols: &mut PointColumns) -> Option<usize>
+fn attempt(cs: &[Checkpoint; 12], cols: &mut WalkColumns) -> Option<usize>
     ensures same { SameColumns cols.old cols.new }
     ensures in_front { InFront (attempt_on cs.now) (columns_of cols.old) (columns_of cols.new) (unwrap_or result 0) }
     ensures some { IfSome result (λ n. 0 < n) }
@@ -31,7 +31,7 @@ fn attempt(cs: &[Checkpoint; 12], cols: &mut PointColumns) -> Option<usize>
 }
 
 // An attempt with the next 24 draws.
-fn try_generate(g: &mut SplitMix64, cols: &mut PointColumns) -> Option<usize>
+fn try_generate(g: &mut SplitMix64, cols: &mut WalkColumns) -> Option<usize>
     ensures same { SameColumns cols.old cols.new }
     ensures in_front { InFront (attempt_on (checkpoints_of 12 g.old)) (columns_of cols.old) (columns_of cols.new)
         (unwrap_or result 0) }
@@ -43,7 +43,7 @@ fn try_generate(g: &mut SplitMix64, cols: &mut PointColumns) -> Option<usize>
 }
 
 // The first of a seed's attempts that is not refused, of so many.
-fn first_attempt(attempts: u32, seed: u64, cols: &mut PointColumns) -> Option<usize>
+fn first_attempt(attempts: u32, seed: u64, cols: &mut WalkColumns) -> Option<usize>
     ensures same { SameColumns cols.old cols.new }
     ensures in_front { InFront (tried_within attempts seed) (columns_of cols.old) (columns_of cols.new)
         (unwrap_or result 0) }
@@ -72,7 +72,7 @@ fn ring_point(i: u32) -> TrackPoint
 }
 
 // The ring's 100 points stand in front.
-fn ring_points(cols: &mut PointColumns)
+fn ring_points(cols: &mut WalkColumns)
     ensures same { SameColumns cols.old cols.new }
     ensures ringed { Ringed (columns_of cols.old) (columns_of cols.new) }
 {
@@ -86,7 +86,7 @@ fn ring_points(cols: &mut PointColumns)
 }
 
 // How many points stand in front: those of the attempt that was made, the ring's where none was.
-fn or_ring(made: Option<usize>, cols: &mut PointColumns) -> usize
+fn or_ring(made: Option<usize>, cols: &mut WalkColumns) -> usize
     ensures same { SameColumns cols.old cols.new }
     ensures points { OrRing made (columns_of cols.old) (columns_of cols.new) result }
 {
@@ -116,7 +116,7 @@ pub fn lay_attempts(
         offsets.old list.old) }
 {
     points::room_check(LAID_LENGTH, alpha, beta, x, y, tiles, offsets)?;
-    let mut cols = PointColumns { alpha, beta, x, y };
+    let mut cols = WalkColumns { alpha, beta, x, y };
     let made = first_attempt(attempts, seed, &mut cols);
     let n = or_ring(made, &mut cols);
     points::finish(
@@ -173,7 +173,7 @@ pub fn lay_checkpoints(
         offsets.old list.old) }
 {
     points::room_check(LAID_LENGTH, alpha, beta, x, y, tiles, offsets)?;
-    let mut cols = PointColumns { alpha, beta, x, y };
+    let mut cols = WalkColumns { alpha, beta, x, y };
     let made = attempt(&cs, &mut cols);
     let n = or_ring(made, &mut cols);
     points::finish(

@@ -14,7 +14,7 @@ mod finder;
 pub mod index;
 pub mod lay;
 pub mod numeric;
-mod point_columns;
+mod walk_columns;
 pub mod points;
 mod rect;
 pub mod root;
