@@ -7,9 +7,9 @@ ghost use Rattle.certificate.specs.Grader.CallColumns.{answer_numbers, words_of,
 
 use course::cause::Cause;
 use run::dynamics::Force;
-use run::settle::SettleValues;
-use run::save::flags_of;
 use run::numbers;
+use run::save::flags_of;
+use run::settle::SettleValues;
 
 // An answer's four words.
 fn put_words(a: u32, b: u32, c: u32, d: u32, words: &mut [u32])

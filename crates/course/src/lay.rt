@@ -2,7 +2,7 @@
 ghost use Rattle.std.specs.Prelude.{◌≡◌, ◌<◌, IfSome, unwrap_or};
 ghost use Rattle.rng.specs.Rules.SplitMix.{after};
 ghost use Rattle.course.specs.Rules.Constants.{max_attempts};
-ghost use Rattle.course.specs.Grader.Outcome.{lent, outcome};
+ghost use Rattle.course.specs.Grader.Outcome.{lent, lent_to, left_by, outcome};
 ghost use Rattle.course.specs.Rules.Lay.{ring_point, attempt_on};
 ghost use Rattle.course.specs.Grader.LayCall.{lay_call, lay_on_call};
 ghost use Rattle.course.specs.Rules.Checkpoints.{checkpoints_of};
@@ -10,9 +10,10 @@ ghost use Rattle.course.specs.Steps.Lay.{columns_of, SameColumns, InFront, tried
 
 use crate::checkpoints::Checkpoint;
 use crate::constants::{LAID_LENGTH, MAX_ATTEMPTS, TAU, TRACK_RAD};
-use crate::walk_columns::WalkColumns;
+use crate::lent::LentColumns;
 use crate::points::{LaidCourse, LayError};
 use crate::tiles::TrackPoint;
+use crate::walk_columns::WalkColumns;
 use crate::{checkpoints, columns, points, track, trig, walk};
 use rng::SplitMix64;
 
@@ -134,22 +135,18 @@ pub fn lay_attempts(
 }
 
 // The course of a seed in the lent columns.
-pub fn lay(
-    seed: u64,
-    alpha: &mut [f64],
-    beta: &mut [f64],
-    x: &mut [f64],
-    y: &mut [f64],
-    tiles: &mut [f64],
-    offsets: &mut [u32],
-    list: &mut [u32],
-) -> Result<LaidCourse, LayError>
-    ensures { outcome result (lent alpha.new beta.new x.new y.new tiles.new
-        offsets.new list.new)
-        ≡ lay_call max_attempts seed
-        (lent alpha.old beta.old x.old y.old tiles.old
-        offsets.old list.old) }
+pub fn lay(seed: u64, cols: LentColumns<'_>) -> Result<LaidCourse, LayError>
+    ensures { outcome result (left_by cols.exit) ≡ lay_call max_attempts seed (lent_to cols.entry) }
 {
+    let LentColumns {
+        alpha,
+        beta,
+        x,
+        y,
+        tiles,
+        offsets,
+        list,
+    } = cols;
     lay_attempts(MAX_ATTEMPTS, seed, alpha, beta, x, y, tiles, offsets, list)
 }
 

@@ -5,8 +5,8 @@ ghost use Rattle.course.specs.Steps.Lay.{walk_as, columns_of, SameColumns, Trod}
 
 use crate::checkpoints::Checkpoint;
 use crate::constants::{FAR_RAD, STEP_LIMIT};
-use crate::walk_columns::WalkColumns;
 use crate::step::Walk;
+use crate::walk_columns::WalkColumns;
 use crate::{step, trig};
 
 // Where every walk starts.
