@@ -70,9 +70,16 @@ pub extern "C" fn grader_points(
         (lent alpha.old beta.old x.old y.old tiles.old
         offsets.old list.old)).lent }
 {
-    FlatLaid::from(points::points(
-        given_beta, given_x, given_y, count, alpha, beta, x, y, tiles, offsets, list,
-    ))
+    let cols = LentColumns {
+        alpha,
+        beta,
+        x,
+        y,
+        tiles,
+        offsets,
+        list,
+    };
+    FlatLaid::from(points::points(given_beta, given_x, given_y, count, cols))
 }
 
 // The curbs of the given points in the lent columns.

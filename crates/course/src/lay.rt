@@ -98,8 +98,9 @@ fn or_ring(made: Option<usize>, cols: &mut WalkColumns) -> usize
     100
 }
 
-// The course of a seed in the lent columns, with so many attempts.
-pub fn lay_attempts(
+// The course of a seed in columns, with so many attempts.
+// Kept as columns one by one: where a struct is handed on whole, what its columns hold afterwards is not known.
+fn lay_within(
     attempts: u32,
     seed: u64,
     alpha: &mut [f64],
@@ -110,16 +111,13 @@ pub fn lay_attempts(
     offsets: &mut [u32],
     list: &mut [u32],
 ) -> Result<LaidCourse, LayError>
-    ensures { outcome result (lent alpha.new beta.new x.new y.new tiles.new
-        offsets.new list.new)
-        ≡ lay_call attempts seed
-        (lent alpha.old beta.old x.old y.old tiles.old
-        offsets.old list.old) }
+    ensures { outcome result (lent alpha.new beta.new x.new y.new tiles.new offsets.new list.new)
+        ≡ lay_call attempts seed (lent alpha.old beta.old x.old y.old tiles.old offsets.old list.old) }
 {
     points::room_check(LAID_LENGTH, alpha, beta, x, y, tiles, offsets)?;
-    let mut cols = WalkColumns { alpha, beta, x, y };
-    let made = first_attempt(attempts, seed, &mut cols);
-    let n = or_ring(made, &mut cols);
+    let mut walked = WalkColumns { alpha, beta, x, y };
+    let made = first_attempt(attempts, seed, &mut walked);
+    let n = or_ring(made, &mut walked);
     points::finish(
         LAID_LENGTH,
         made.is_none(),
@@ -132,6 +130,22 @@ pub fn lay_attempts(
         offsets,
         list,
     )
+}
+
+// The course of a seed in the lent columns, with so many attempts.
+pub fn lay_attempts(attempts: u32, seed: u64, cols: LentColumns<'_>) -> Result<LaidCourse, LayError>
+    ensures { outcome result (left_by cols.exit) ≡ lay_call attempts seed (lent_to cols.entry) }
+{
+    let LentColumns {
+        alpha,
+        beta,
+        x,
+        y,
+        tiles,
+        offsets,
+        list,
+    } = cols;
+    lay_within(attempts, seed, alpha, beta, x, y, tiles, offsets, list)
 }
 
 // The course of a seed in the lent columns.
@@ -147,32 +161,28 @@ pub fn lay(seed: u64, cols: LentColumns<'_>) -> Result<LaidCourse, LayError>
         offsets,
         list,
     } = cols;
-    lay_attempts(MAX_ATTEMPTS, seed, alpha, beta, x, y, tiles, offsets, list)
+    lay_within(MAX_ATTEMPTS, seed, alpha, beta, x, y, tiles, offsets, list)
 }
 
 // The course of one attempt with given checkpoints in the lent columns, the ring where that attempt is refused. It lets
 // the limit on the search be met on purpose.
 // Kept beside `lay_attempts`: a closure in place of the one call that differs would need a contract over the lent columns.
-pub fn lay_checkpoints(
-    cs: [Checkpoint; 12],
-    alpha: &mut [f64],
-    beta: &mut [f64],
-    x: &mut [f64],
-    y: &mut [f64],
-    tiles: &mut [f64],
-    offsets: &mut [u32],
-    list: &mut [u32],
-) -> Result<LaidCourse, LayError>
-    ensures { outcome result (lent alpha.new beta.new x.new y.new tiles.new
-        offsets.new list.new)
-        ≡ lay_on_call cs
-        (lent alpha.old beta.old x.old y.old tiles.old
-        offsets.old list.old) }
+pub fn lay_checkpoints(cs: [Checkpoint; 12], cols: LentColumns<'_>) -> Result<LaidCourse, LayError>
+    ensures { outcome result (left_by cols.exit) ≡ lay_on_call cs (lent_to cols.entry) }
 {
+    let LentColumns {
+        alpha,
+        beta,
+        x,
+        y,
+        tiles,
+        offsets,
+        list,
+    } = cols;
     points::room_check(LAID_LENGTH, alpha, beta, x, y, tiles, offsets)?;
-    let mut cols = WalkColumns { alpha, beta, x, y };
-    let made = attempt(&cs, &mut cols);
-    let n = or_ring(made, &mut cols);
+    let mut walked = WalkColumns { alpha, beta, x, y };
+    let made = attempt(&cs, &mut walked);
+    let n = or_ring(made, &mut walked);
     points::finish(
         LAID_LENGTH,
         made.is_none(),
