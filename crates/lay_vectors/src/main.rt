@@ -57,7 +57,7 @@ fn checkpoints(record: Record<'_>) -> [Checkpoint; 12] {
         y: 0.0,
     }; 12];
     for (c, at) in cs.iter_mut().zip((8..44).step_by(3)) {
-        let [angle, x, y] = record.floats(at);
+        let [angle, x, y]: [f64; 3] = record.floats(at);
         *c = Checkpoint { angle, x, y };
     }
     cs

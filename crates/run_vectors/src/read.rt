@@ -6,7 +6,7 @@ use vectors::record::Record;
 
 // The pose from word k on.
 pub fn pose(record: Record<'_>, k: usize) -> Pose {
-    let [x, y, cos, sin] = record.floats(k);
+    let [x, y, cos, sin]: [f64; 4] = record.floats(k);
     Pose { x, y, cos, sin }
 }
 
@@ -16,7 +16,7 @@ pub fn poses(record: Record<'_>, k: usize) -> [Pose; 4] {
 }
 
 fn motion(record: Record<'_>, k: usize) -> Motion {
-    let [joint_angle, sin, cos, vx, vy] = record.floats(k);
+    let [joint_angle, sin, cos, vx, vy]: [f64; 5] = record.floats(k);
     Motion {
         joint_angle,
         sin,
@@ -33,7 +33,7 @@ pub fn motions(record: Record<'_>) -> [Motion; 4] {
 
 // The quad from word k on.
 pub fn quad(record: Record<'_>, k: usize) -> [[f64; 2]; 4] {
-    let [a, b, c, d, e, f, g, h] = record.floats(k);
+    let [a, b, c, d, e, f, g, h]: [f64; 8] = record.floats(k);
     [[a, b], [c, d], [e, f], [g, h]]
 }
 
