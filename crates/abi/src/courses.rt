@@ -8,6 +8,7 @@ ghost use Rattle.course.specs.Grader.Curbs.{curbs_call};
 ghost use Rattle.abi.specs.Grader.Flat.{flat_laid, flat_curbs};
 
 use crate::flat::{FlatCurbs, FlatLaid};
+use course::lent::LentColumns;
 use course::{curbs, lay, points};
 
 // The course of a seed in the lent columns.
@@ -32,7 +33,16 @@ pub extern "C" fn grader_lay(
         (lent alpha.old beta.old x.old y.old tiles.old
         offsets.old list.old)).lent }
 {
-    FlatLaid::from(lay::lay(seed, alpha, beta, x, y, tiles, offsets, list))
+    let cols = LentColumns {
+        alpha,
+        beta,
+        x,
+        y,
+        tiles,
+        offsets,
+        list,
+    };
+    FlatLaid::from(lay::lay(seed, cols))
 }
 
 // The course of the given points in the lent columns.
@@ -60,9 +70,16 @@ pub extern "C" fn grader_points(
         (lent alpha.old beta.old x.old y.old tiles.old
         offsets.old list.old)).lent }
 {
-    FlatLaid::from(points::points(
-        given_beta, given_x, given_y, count, alpha, beta, x, y, tiles, offsets, list,
-    ))
+    let cols = LentColumns {
+        alpha,
+        beta,
+        x,
+        y,
+        tiles,
+        offsets,
+        list,
+    };
+    FlatLaid::from(points::points(given_beta, given_x, given_y, count, cols))
 }
 
 // The curbs of the given points in the lent columns.

@@ -8,6 +8,7 @@ ghost use Rattle.abi.specs.Grader.Flat.{flat_laid, corners_from, pair_from, spot
 use crate::flat::{CheckpointList, Corner, FlatCheckpoint, FlatLaid, Quad};
 use course::checkpoints::Checkpoint;
 use course::lay;
+use course::lent::LentColumns;
 use run::quad;
 
 // The course of a seed with so many attempts.
@@ -33,7 +34,16 @@ pub extern "C" fn grader_lay_attempts(
         (lent alpha.old beta.old x.old y.old tiles.old
         offsets.old list.old)).lent }
 {
-    FlatLaid::from(lay::lay_attempts(attempts, seed, alpha, beta, x, y, tiles, offsets, list))
+    let cols = LentColumns {
+        alpha,
+        beta,
+        x,
+        y,
+        tiles,
+        offsets,
+        list,
+    };
+    FlatLaid::from(lay::lay_attempts(attempts, seed, cols))
 }
 
 // A checkpoint as the course has it.
@@ -81,7 +91,16 @@ pub extern "C" fn grader_lay_checkpoints(
 {
     let twelve = cs.checkpoints;
     let given = spots(twelve);
-    FlatLaid::from(lay::lay_checkpoints(given, alpha, beta, x, y, tiles, offsets, list))
+    let cols = LentColumns {
+        alpha,
+        beta,
+        x,
+        y,
+        tiles,
+        offsets,
+        list,
+    };
+    FlatLaid::from(lay::lay_checkpoints(given, cols))
 }
 
 // A corner as the contact has it: a pair.

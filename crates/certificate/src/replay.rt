@@ -13,6 +13,7 @@ ghost use Rattle.course.specs.Grader.Outcome.{lent};
 
 use crate::{answer, call};
 use course::cause::Cause;
+use course::lent::LentColumns;
 use course::points::{LaidCourse, LayError};
 use course::{lay, points};
 use run::sheet::RunSheet;
@@ -221,7 +222,18 @@ pub fn replay(
             sheet: Err(Cause::State),
         };
     }
-    let laid = lay::lay(seed, alpha, beta, x, y, tiles, offsets, list);
+    let laid = lay::lay(
+        seed,
+        LentColumns {
+            alpha,
+            beta,
+            x,
+            y,
+            tiles,
+            offsets,
+            list,
+        },
+    );
     let course = points::laid_values(laid);
     let columns = Columns {
         tiles,

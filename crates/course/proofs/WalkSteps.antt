@@ -9,7 +9,7 @@ use Rattle.course.specs.Rules.Track.{step_alphas, step_betas, step_xs, step_ys}
 use Rattle.course.specs.Rules.Walk.{Trail, follow, onward, walk_from, walk_start, walk_of}
 use Rattle.course.specs.Steps.Lay.{Columns, columns_of, SameColumns, Trod}
 use Rattle.course.specs.declared.checkpoints.Checkpoint.{Checkpoint}
-use Rattle.course.specs.declared.point_columns.PointColumns.{PointColumns}
+use Rattle.course.specs.declared.walk_columns.WalkColumns.{WalkColumns}
 use Rattle.course.proofs.ColumnLaws.{Grown, grown-none, grown-more}
 use Rattle.course.proofs.Turns.{suc-pred}
 
@@ -27,14 +27,14 @@ pub record Room (m : ℕ) (c : Columns) : Type 0 where
   pub x : m ≤ length c.x
   pub y : m ≤ length c.y
 
-pub room-of : (m : ℕ) (c : PointColumns) → m ≤ laid_length → Room m (columns_of c)
+pub room-of : (m : ℕ) (c : WalkColumns) → m ≤ laid_length → Room m (columns_of c)
 room-of m c h = record { alpha = omega (arith, c.room_alpha); beta = omega (arith, c.room_beta); x = omega (arith, c.room_x); y = omega (arith, c.room_y) }
 
 -- columns that are the ones that were lent, and stay so
-pub same-none : (c : PointColumns) → SameColumns c c
+pub same-none : (c : WalkColumns) → SameColumns c c
 same-none c = record { alpha = refl; beta = refl; x = refl; y = refl }
 
-pub same-then : {c c' c'' : PointColumns} → SameColumns c c' → SameColumns c' c'' → SameColumns c c''
+pub same-then : {c c' c'' : WalkColumns} → SameColumns c c' → SameColumns c' c'' → SameColumns c c''
 same-then s t = record { alpha = t.alpha ∙ s.alpha; beta = t.beta ∙ s.beta; x = t.x ∙ s.x; y = t.y ∙ s.y }
 
 -- one step is stored

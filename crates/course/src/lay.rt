@@ -2,7 +2,7 @@
 ghost use Rattle.std.specs.Prelude.{◌≡◌, ◌<◌, IfSome, unwrap_or};
 ghost use Rattle.rng.specs.Rules.SplitMix.{after};
 ghost use Rattle.course.specs.Rules.Constants.{max_attempts};
-ghost use Rattle.course.specs.Grader.Outcome.{lent, outcome};
+ghost use Rattle.course.specs.Grader.Outcome.{lent, lent_to, left_by, outcome};
 ghost use Rattle.course.specs.Rules.Lay.{ring_point, attempt_on};
 ghost use Rattle.course.specs.Grader.LayCall.{lay_call, lay_on_call};
 ghost use Rattle.course.specs.Rules.Checkpoints.{checkpoints_of};
@@ -10,14 +10,15 @@ ghost use Rattle.course.specs.Steps.Lay.{columns_of, SameColumns, InFront, tried
 
 use crate::checkpoints::Checkpoint;
 use crate::constants::{LAID_LENGTH, MAX_ATTEMPTS, TAU, TRACK_RAD};
-use crate::point_columns::PointColumns;
+use crate::lent::LentColumns;
 use crate::points::{LaidCourse, LayError};
 use crate::tiles::TrackPoint;
+use crate::walk_columns::WalkColumns;
 use crate::{checkpoints, columns, points, track, trig, walk};
 use rng::SplitMix64;
 
 // An attempt with given checkpoints: the size of its track, which then stands in front, none where it is refused.
-fn attempt(cs: &[Checkpoint; 12], cols: &mut PointColumns) -> Option<usize>
+fn attempt(cs: &[Checkpoint; 12], cols: &mut WalkColumns) -> Option<usize>
     ensures same { SameColumns cols.old cols.new }
     ensures in_front { InFront (attempt_on cs.now) (columns_of cols.old) (columns_of cols.new) (unwrap_or result 0) }
     ensures some { IfSome result (λ n. 0 < n) }
@@ -31,7 +32,7 @@ fn attempt(cs: &[Checkpoint; 12], cols: &mut PointColumns) -> Option<usize>
 }
 
 // An attempt with the next 24 draws.
-fn try_generate(g: &mut SplitMix64, cols: &mut PointColumns) -> Option<usize>
+fn try_generate(g: &mut SplitMix64, cols: &mut WalkColumns) -> Option<usize>
     ensures same { SameColumns cols.old cols.new }
     ensures in_front { InFront (attempt_on (checkpoints_of 12 g.old)) (columns_of cols.old) (columns_of cols.new)
         (unwrap_or result 0) }
@@ -43,7 +44,7 @@ fn try_generate(g: &mut SplitMix64, cols: &mut PointColumns) -> Option<usize>
 }
 
 // The first of a seed's attempts that is not refused, of so many.
-fn first_attempt(attempts: u32, seed: u64, cols: &mut PointColumns) -> Option<usize>
+fn first_attempt(attempts: u32, seed: u64, cols: &mut WalkColumns) -> Option<usize>
     ensures same { SameColumns cols.old cols.new }
     ensures in_front { InFront (tried_within attempts seed) (columns_of cols.old) (columns_of cols.new)
         (unwrap_or result 0) }
@@ -72,7 +73,7 @@ fn ring_point(i: u32) -> TrackPoint
 }
 
 // The ring's 100 points stand in front.
-fn ring_points(cols: &mut PointColumns)
+fn ring_points(cols: &mut WalkColumns)
     ensures same { SameColumns cols.old cols.new }
     ensures ringed { Ringed (columns_of cols.old) (columns_of cols.new) }
 {
@@ -86,7 +87,7 @@ fn ring_points(cols: &mut PointColumns)
 }
 
 // How many points stand in front: those of the attempt that was made, the ring's where none was.
-fn or_ring(made: Option<usize>, cols: &mut PointColumns) -> usize
+fn or_ring(made: Option<usize>, cols: &mut WalkColumns) -> usize
     ensures same { SameColumns cols.old cols.new }
     ensures points { OrRing made (columns_of cols.old) (columns_of cols.new) result }
 {
@@ -97,8 +98,9 @@ fn or_ring(made: Option<usize>, cols: &mut PointColumns) -> usize
     100
 }
 
-// The course of a seed in the lent columns, with so many attempts.
-pub fn lay_attempts(
+// The course of a seed in columns, with so many attempts.
+// Kept as columns one by one: where a struct is handed on whole, what its columns hold afterwards is not known.
+fn lay_within(
     attempts: u32,
     seed: u64,
     alpha: &mut [f64],
@@ -109,16 +111,13 @@ pub fn lay_attempts(
     offsets: &mut [u32],
     list: &mut [u32],
 ) -> Result<LaidCourse, LayError>
-    ensures { outcome result (lent alpha.new beta.new x.new y.new tiles.new
-        offsets.new list.new)
-        ≡ lay_call attempts seed
-        (lent alpha.old beta.old x.old y.old tiles.old
-        offsets.old list.old) }
+    ensures { outcome result (lent alpha.new beta.new x.new y.new tiles.new offsets.new list.new)
+        ≡ lay_call attempts seed (lent alpha.old beta.old x.old y.old tiles.old offsets.old list.old) }
 {
     points::room_check(LAID_LENGTH, alpha, beta, x, y, tiles, offsets)?;
-    let mut cols = PointColumns { alpha, beta, x, y };
-    let made = first_attempt(attempts, seed, &mut cols);
-    let n = or_ring(made, &mut cols);
+    let mut walked = WalkColumns { alpha, beta, x, y };
+    let made = first_attempt(attempts, seed, &mut walked);
+    let n = or_ring(made, &mut walked);
     points::finish(
         LAID_LENGTH,
         made.is_none(),
@@ -133,49 +132,57 @@ pub fn lay_attempts(
     )
 }
 
-// The course of a seed in the lent columns.
-pub fn lay(
-    seed: u64,
-    alpha: &mut [f64],
-    beta: &mut [f64],
-    x: &mut [f64],
-    y: &mut [f64],
-    tiles: &mut [f64],
-    offsets: &mut [u32],
-    list: &mut [u32],
-) -> Result<LaidCourse, LayError>
-    ensures { outcome result (lent alpha.new beta.new x.new y.new tiles.new
-        offsets.new list.new)
-        ≡ lay_call max_attempts seed
-        (lent alpha.old beta.old x.old y.old tiles.old
-        offsets.old list.old) }
+// The course of a seed in the lent columns, with so many attempts.
+pub fn lay_attempts(attempts: u32, seed: u64, cols: LentColumns<'_>) -> Result<LaidCourse, LayError>
+    ensures { outcome result (left_by cols.exit) ≡ lay_call attempts seed (lent_to cols.entry) }
 {
-    lay_attempts(MAX_ATTEMPTS, seed, alpha, beta, x, y, tiles, offsets, list)
+    let LentColumns {
+        alpha,
+        beta,
+        x,
+        y,
+        tiles,
+        offsets,
+        list,
+    } = cols;
+    lay_within(attempts, seed, alpha, beta, x, y, tiles, offsets, list)
+}
+
+// The course of a seed in the lent columns.
+pub fn lay(seed: u64, cols: LentColumns<'_>) -> Result<LaidCourse, LayError>
+    ensures { outcome result (left_by cols.exit) ≡ lay_call max_attempts seed (lent_to cols.entry) }
+{
+    let LentColumns {
+        alpha,
+        beta,
+        x,
+        y,
+        tiles,
+        offsets,
+        list,
+    } = cols;
+    lay_within(MAX_ATTEMPTS, seed, alpha, beta, x, y, tiles, offsets, list)
 }
 
 // The course of one attempt with given checkpoints in the lent columns, the ring where that attempt is refused. It lets
 // the limit on the search be met on purpose.
 // Kept beside `lay_attempts`: a closure in place of the one call that differs would need a contract over the lent columns.
-pub fn lay_checkpoints(
-    cs: [Checkpoint; 12],
-    alpha: &mut [f64],
-    beta: &mut [f64],
-    x: &mut [f64],
-    y: &mut [f64],
-    tiles: &mut [f64],
-    offsets: &mut [u32],
-    list: &mut [u32],
-) -> Result<LaidCourse, LayError>
-    ensures { outcome result (lent alpha.new beta.new x.new y.new tiles.new
-        offsets.new list.new)
-        ≡ lay_on_call cs
-        (lent alpha.old beta.old x.old y.old tiles.old
-        offsets.old list.old) }
+pub fn lay_checkpoints(cs: [Checkpoint; 12], cols: LentColumns<'_>) -> Result<LaidCourse, LayError>
+    ensures { outcome result (left_by cols.exit) ≡ lay_on_call cs (lent_to cols.entry) }
 {
+    let LentColumns {
+        alpha,
+        beta,
+        x,
+        y,
+        tiles,
+        offsets,
+        list,
+    } = cols;
     points::room_check(LAID_LENGTH, alpha, beta, x, y, tiles, offsets)?;
-    let mut cols = PointColumns { alpha, beta, x, y };
-    let made = attempt(&cs, &mut cols);
-    let n = or_ring(made, &mut cols);
+    let mut walked = WalkColumns { alpha, beta, x, y };
+    let made = attempt(&cs, &mut walked);
+    let n = or_ring(made, &mut walked);
     points::finish(
         LAID_LENGTH,
         made.is_none(),

@@ -3,7 +3,7 @@ ghost use Rattle.std.specs.Prelude.{◌≡◌, ◌+◌, ◌-◌, ◌*◌, ◌<�
 ghost use Rattle.course.specs.Rules.Lengths.{most_points};
 ghost use Rattle.course.specs.Rules.Tiles.{points_of};
 ghost use Rattle.course.specs.Grader.Cause.{check};
-ghost use Rattle.course.specs.Grader.Outcome.{lent, outcome, roomy_of, lay_into, no_course, error_number, error_entries, laid_cause_of, laid_values_of};
+ghost use Rattle.course.specs.Grader.Outcome.{lent, lent_to, left_by, outcome, roomy_of, lay_into, no_course, error_number, error_entries, laid_cause_of, laid_values_of};
 ghost use Rattle.course.specs.Grader.Points.{good_point, all_good, given_of, count_cause, columns_cause, points_call};
 ghost use Rattle.course.specs.declared.cause.Cause.TheVariants.{Length};
 ghost use Rattle.course.specs.declared.points.LayError.TheVariants.{Refused};
@@ -11,6 +11,7 @@ ghost use Rattle.course.specs.Steps.Tiles.{Roomy};
 
 use crate::cause::Cause;
 use crate::constants::{MOST_POINTS, OFFSET_COUNT};
+use crate::lent::LentColumns;
 use crate::tiles::{PointColumns, TrackPoint};
 use crate::{columns, constants, index, numeric, tiles};
 
@@ -126,6 +127,7 @@ pub(crate) fn all_good(points: &PointColumns) -> bool
 }
 
 // Cause 2 of lent columns: each has its length, those of points m entries.
+// Kept as columns one by one: of a struct that is lent whole, what it holds afterwards did not prove to be the same.
 #[tactic(auto, unfolding(crate::specs::Grader::Cause::check, crate::specs::Grader::Outcome::roomy_of))]
 pub(crate) fn room_check(
     m: usize,
@@ -180,6 +182,7 @@ pub(crate) fn given_check(b: &[f64], x: &[f64], y: &[f64], count: usize) -> Resu
 }
 
 // Zeros, tiles and index, once the columns, of m points, begin with the n points.
+// Kept as columns one by one: lay lends four of them to its walk, and those taken out of a struct cannot be lent in one again.
 pub(crate) fn finish(
     m: usize,
     fallback: bool,
@@ -245,20 +248,20 @@ pub fn points(
     px: &[f64],
     py: &[f64],
     count: u32,
-    alpha: &mut [f64],
-    beta: &mut [f64],
-    x: &mut [f64],
-    y: &mut [f64],
-    tiles: &mut [f64],
-    offsets: &mut [u32],
-    list: &mut [u32],
+    cols: LentColumns<'_>,
 ) -> Result<LaidCourse, LayError>
-    ensures { outcome result (lent alpha.new beta.new x.new y.new tiles.new
-        offsets.new list.new)
-        ≡ points_call pbeta.now px.now py.now count
-        (lent alpha.old beta.old x.old y.old tiles.old
-        offsets.old list.old) }
+    ensures { outcome result (left_by cols.exit)
+        ≡ points_call pbeta.now px.now py.now count (lent_to cols.entry) }
 {
+    let LentColumns {
+        alpha,
+        beta,
+        x,
+        y,
+        tiles,
+        offsets,
+        list,
+    } = cols;
     let n = count as usize;
     let m = constants::column_length(n);
     count_check(n)?;

@@ -6,7 +6,7 @@ ghost use Rattle.course.specs.Steps.Lay.{columns_of, Front, Cut};
 ghost use Rattle.course.specs.Rules.Step.{TrackStep};
 
 use crate::constants::{TAU, TRACK_DETAIL_STEP};
-use crate::point_columns::PointColumns;
+use crate::walk_columns::WalkColumns;
 use crate::{root, trig};
 
 const START_ALPHA: f64 = TAU * -0.5 / 12.0;
@@ -51,7 +51,7 @@ fn well_glued(beta: f64, x0: f64, y0: f64, x1: f64, y1: f64) -> bool
 }
 
 // The part of a walk of `len` steps that is its track.
-pub(crate) fn cut(cols: &PointColumns, len: usize) -> Option<Part>
+pub(crate) fn cut(cols: &WalkColumns, len: usize) -> Option<Part>
     requires { (0 < len) × (len ≤ step_limit) }
     ensures cut { (ps : List TrackStep)
         → length ps ≡ len

@@ -5,8 +5,8 @@ ghost use Rattle.course.specs.Steps.Lay.{walk_as, columns_of, SameColumns, Trod}
 
 use crate::checkpoints::Checkpoint;
 use crate::constants::{FAR_RAD, STEP_LIMIT};
-use crate::point_columns::PointColumns;
 use crate::step::Walk;
+use crate::walk_columns::WalkColumns;
 use crate::{step, trig};
 
 // Where every walk starts.
@@ -24,7 +24,7 @@ fn start() -> Walk
 }
 
 // At most STEP_LIMIT steps, until the fifth lap is done: how many were stored, none where one was refused.
-pub(crate) fn walk_round(cs: &[Checkpoint; 12], cols: &mut PointColumns) -> Option<usize>
+pub(crate) fn walk_round(cs: &[Checkpoint; 12], cols: &mut WalkColumns) -> Option<usize>
     ensures same { SameColumns cols.old cols.new }
     ensures trod { Trod cs.now (columns_of cols.old) (columns_of cols.new) result }
 {

@@ -75,13 +75,7 @@ fn call_points(
         front(&given.x, record.word(3)),
         front(&given.y, record.word(4)),
         record.low(1),
-        front_mut(&mut columns.alpha, record.word(5)),
-        front_mut(&mut columns.beta, record.word(6)),
-        front_mut(&mut columns.x, record.word(7)),
-        front_mut(&mut columns.y, record.word(8)),
-        front_mut(&mut columns.tiles, record.word(9)),
-        front_mut(&mut columns.offsets, record.word(10)),
-        front_mut(&mut columns.list, record.word(11)),
+        columns.lend(record, 5),
     )
 }
 

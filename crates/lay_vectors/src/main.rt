@@ -12,7 +12,7 @@ use course::lay;
 use course::points::{LaidCourse, LayError};
 use std::io;
 use std::io::{BufWriter, Read, Write};
-use vectors::columns::{Columns, front_mut};
+use vectors::columns::Columns;
 use vectors::line;
 use vectors::record::{Kind, Record, Records, UnknownCode};
 
@@ -69,32 +69,11 @@ fn call(
     record: Record<'_>,
     columns: &mut Columns,
 ) -> Result<LaidCourse, LayError> {
-    let alpha = front_mut(&mut columns.alpha, record.word(1));
-    let beta = front_mut(&mut columns.beta, record.word(2));
-    let x = front_mut(&mut columns.x, record.word(3));
-    let y = front_mut(&mut columns.y, record.word(4));
-    let tiles = front_mut(&mut columns.tiles, record.word(5));
-    let offsets = front_mut(&mut columns.offsets, record.word(6));
-    let list = front_mut(&mut columns.list, record.word(7));
+    let cols = columns.lend(record, 1);
     match request {
-        Request::Lay => lay::lay(record.word(8), alpha, beta, x, y, tiles, offsets, list),
-        Request::Attempts => {
-            let attempts = record.low(8);
-            lay::lay_attempts(
-                attempts,
-                record.word(9),
-                alpha,
-                beta,
-                x,
-                y,
-                tiles,
-                offsets,
-                list,
-            )
-        }
-        Request::Checkpoints => {
-            lay::lay_checkpoints(checkpoints(record), alpha, beta, x, y, tiles, offsets, list)
-        }
+        Request::Lay => lay::lay(record.word(8), cols),
+        Request::Attempts => lay::lay_attempts(record.low(8), record.word(9), cols),
+        Request::Checkpoints => lay::lay_checkpoints(checkpoints(record), cols),
     }
 }
 

@@ -15,6 +15,7 @@ mod read;
 
 use certificate::replay;
 use certificate::replay::Replayed;
+use course::lent::LentColumns;
 use read::Log;
 use run::numbers;
 use std::alloc::{AllocError, Global};
@@ -54,15 +55,24 @@ impl Calls {
 
 // The record's call on parts of the columns, of the record's lengths.
 fn call(record: Record<'_>, columns: &mut Columns, c: &mut Calls) -> Replayed {
+    let LentColumns {
+        alpha,
+        beta,
+        x,
+        y,
+        tiles,
+        offsets,
+        list,
+    } = columns.lend(record, 2);
     replay::replay(
         record.word(1),
-        front_mut(&mut columns.alpha, record.word(2)),
-        front_mut(&mut columns.beta, record.word(3)),
-        front_mut(&mut columns.x, record.word(4)),
-        front_mut(&mut columns.y, record.word(5)),
-        front_mut(&mut columns.tiles, record.word(6)),
-        front_mut(&mut columns.offsets, record.word(7)),
-        front_mut(&mut columns.list, record.word(8)),
+        alpha,
+        beta,
+        x,
+        y,
+        tiles,
+        offsets,
+        list,
         record.float(9),
         record.low(10),
         numbers::poses_from(&record.floats(11)),

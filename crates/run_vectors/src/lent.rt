@@ -2,6 +2,7 @@
 // it, damaged.
 use crate::kind;
 use course::constants::{LAID_LENGTH, MOST_POINTS};
+use course::lent::LentColumns;
 use course::points;
 use course::points::{LaidCourse, LayError};
 use run::touch::Columns;
@@ -50,18 +51,21 @@ impl Lent {
         let mut beta = [0.0; LAID_LENGTH];
         let mut x = [0.0; LAID_LENGTH];
         let mut y = [0.0; LAID_LENGTH];
+        let cols = LentColumns {
+            alpha: &mut alpha,
+            beta: &mut beta,
+            x: &mut x,
+            y: &mut y,
+            tiles: &mut self.tiles,
+            offsets: &mut self.offsets,
+            list: &mut self.list,
+        };
         points::points(
             &given_column(record, 2),
             &given_column(record, 3),
             &given_column(record, 4),
             record.low(1),
-            &mut alpha,
-            &mut beta,
-            &mut x,
-            &mut y,
-            &mut self.tiles,
-            &mut self.offsets,
-            &mut self.list,
+            cols,
         )
     }
 

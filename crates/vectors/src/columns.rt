@@ -1,7 +1,9 @@
 // The columns that a test program lends: of its own length each, of which a call is lent a part.
-ghost use Rattle.std.specs.Prelude.{◌≡◌, length, take};
+ghost use Rattle.std.specs.Prelude.{◌≡◌, length, take, ◌≤◌};
 
+use crate::record::Record;
 use crate::{hash, line};
+use course::lent::LentColumns;
 use std::alloc::{AllocError, Global};
 use std::io;
 use std::io::Write;
@@ -72,6 +74,21 @@ impl Columns {
         self.tiles.fill(UNTOUCHED);
         self.offsets.fill(UNTOUCHED_ID);
         self.list.fill(UNTOUCHED_ID);
+    }
+
+    // Their parts, of the lengths that stand in the record from `at` on.
+    pub fn lend(&mut self, record: Record<'_>, at: usize) -> LentColumns<'_>
+        requires { at ≤ 64 }
+    {
+        LentColumns {
+            alpha: front_mut(&mut self.alpha, record.word(at)),
+            beta: front_mut(&mut self.beta, record.word(at + 1)),
+            x: front_mut(&mut self.x, record.word(at + 2)),
+            y: front_mut(&mut self.y, record.word(at + 3)),
+            tiles: front_mut(&mut self.tiles, record.word(at + 4)),
+            offsets: front_mut(&mut self.offsets, record.word(at + 5)),
+            list: front_mut(&mut self.list, record.word(at + 6)),
+        }
     }
 
     // The columns' hashes, a line each.

@@ -1,11 +1,13 @@
 -- Document 01, "Lay" (Lent) and "Refusals by cause": what a course leaves in the lent columns, and what is answered. Assumes nothing.
 use Rattle.std.specs.Prelude.{ℕ, ◌-◌, Bool, false, cond, ◌&&◌, List, [], ◌++◌, length, drop, replicate, nat_le, nat_lt, slice_index_or, Result, Ok, Err, Float}
+use Rattle.std.specs.Borrow.{MutBor}
 use Rattle.course.specs.Rules.Arithmetic.{nought}
 use Rattle.course.specs.Rules.Lengths.{quad_numbers, offset_count}
 use Rattle.course.specs.Rules.Tiles.{no_point}
 use Rattle.course.specs.Grader.Course.{Course, from_points, cells_of}
 use Rattle.course.specs.Grader.Cause.{number_of}
 use Rattle.course.specs.declared.tiles.TrackPoint.{TrackPoint}
+use Rattle.course.specs.declared.lent.LentColumns.{LentColumns}
 use Rattle.course.specs.declared.points.LaidCourse.{LaidCourse}
 use Rattle.course.specs.declared.points.LayError.{LayError}
 use Rattle.course.specs.declared.points.LayError.TheVariants.{Short, Refused}
@@ -22,6 +24,19 @@ pub record CourseColumns : Type 0 where
 
 abbrev pub lent : List Float → List Float → List Float → List Float → List Float → List ℕ → List ℕ → CourseColumns
 lent a b x y t o l = record { alpha = a; beta = b; x = x; y = y; tiles = t; offsets = o; list = l }
+
+-- the lent columns of a call, and what stands in them after it: its fields in pairs, in their order
+abbrev pub lent_to : LentColumns → CourseColumns
+lent_to c = lent c.alpha.now c.beta.now c.x.now c.y.now c.tiles.now c.offsets.now c.list.now
+
+abbrev pub Numbers : Type 0
+Numbers = MutBor (List Float)
+
+abbrev pub Counts : Type 0
+Counts = MutBor (List ℕ)
+
+abbrev pub left_by : Numbers × (Numbers × (Numbers × (Numbers × (Numbers × (Counts × (Counts × Unit {0})))))) → CourseColumns
+left_by c = lent c.0.now c.1.0.now c.1.1.0.now c.1.1.1.0.now c.1.1.1.1.0.now c.1.1.1.1.1.0.now c.1.1.1.1.1.1.0.now
 
 -- an answer, and the lent columns after the call
 pub record Outcome : Type 0 where

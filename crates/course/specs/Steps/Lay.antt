@@ -18,7 +18,7 @@ use Rattle.course.specs.declared.step.TrackStep.{TrackStep as CodeTrackStep}
 use Rattle.course.specs.declared.step.Sight.{Sight as CodeSight}
 use Rattle.course.specs.declared.tiles.TrackPoint.{TrackPoint}
 use Rattle.course.specs.declared.track.Part.{Part}
-use Rattle.course.specs.declared.point_columns.PointColumns.{PointColumns}
+use Rattle.course.specs.declared.walk_columns.WalkColumns.{WalkColumns}
 
 -- ---- the code's structs as the definitions' own
 abbrev pub dest_as : Dest → Destination
@@ -47,11 +47,11 @@ pub record Columns : Type 0 where
   pub x : List Float
   pub y : List Float
 
-abbrev pub columns_of : PointColumns → Columns
+abbrev pub columns_of : WalkColumns → Columns
 columns_of c = record { alpha = c.alpha.now; beta = c.beta.now; x = c.x.now; y = c.y.now }
 
 -- the columns are the ones that were lent
-pub record SameColumns (c c' : PointColumns) : Type 0 where
+pub record SameColumns (c c' : WalkColumns) : Type 0 where
   pub alpha : c'.alpha.ghost_name ≡ c.alpha.ghost_name
   pub beta : c'.beta.ghost_name ≡ c.beta.ghost_name
   pub x : c'.x.ghost_name ≡ c.x.ghost_name

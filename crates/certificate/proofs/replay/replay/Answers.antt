@@ -14,27 +14,6 @@ replies-requires c =
     let r = room-each (sym c.room_for.ensures ∙ c.if-not-room_for.false) in
     record { many_in_bounds = r.calls; many_in_bounds_2 = r.given; many_in_bounds_3 = r.words; many_in_bounds_4 = r.numbers }
 
-pub shape_of-alpha : goal.shape_of-alpha
-shape_of-alpha c = c.lay-laid.auto.alpha
-
-pub shape_of-beta : goal.shape_of-beta
-shape_of-beta c = c.lay-laid.auto.beta
-
-pub shape_of-x : goal.shape_of-x
-shape_of-x c = c.lay-laid.auto.x
-
-pub shape_of-y : goal.shape_of-y
-shape_of-y c = c.lay-laid.auto.y
-
-pub shape_of-tiles : goal.shape_of-tiles
-shape_of-tiles c = c.lay-laid.auto.tiles
-
-pub shape_of-offsets : goal.shape_of-offsets
-shape_of-offsets c = c.lay-laid.auto.offsets
-
-pub shape_of-list : goal.shape_of-list
-shape_of-list c = c.lay-laid.auto.list
-
 pub returns : goal.returns
 unfolding view
 returns c =
@@ -42,8 +21,8 @@ returns c =
     (record {
       room = sym c.room_for.ensures ∙ c.if-not-room_for.false;
       laid = c.lay-laid.ensures;
-      tiles = c.lay-laid.auto.tiles;
-      offsets = c.lay-laid.auto.offsets;
+      tiles = c.lay-laid.auto.cols.1.1.1.1.0;
+      offsets = c.lay-laid.auto.cols.1.1.1.1.1.0;
       values = c.laid_values-course.ensures;
       start = c.start-s.ensures;
       state = c.replies.ensures.run_after;

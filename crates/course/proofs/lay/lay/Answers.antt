@@ -4,4 +4,4 @@ use Rattle.course.proofs.lay.lay.Goals as goal
 
 pub returns : goal.returns
 unfolding max_attempts
-returns c = c.lay_attempts.ensures
+returns c = c.lay_within.ensures

@@ -1,7 +1,7 @@
 -- `course::lay::lay_checkpoints` meets its contract: where the columns have room, `finish` is called when all is ready for it. Assumes nothing.
 use Rattle.std.proofs.Common.{rules}
 use Rattle.std.proofs.lemmas.Result.{err_from_is_err_and}
-use Rattle.course.specs.Grader.Outcome.{lent}
+use Rattle.course.specs.Grader.Outcome.{lent_to}
 use Rattle.course.specs.Grader.LayCall.{lay_on_call}
 use Rattle.course.specs.Rules.Lay.{course_on}
 use Rattle.course.specs.Steps.Lay.{columns_of}
@@ -14,7 +14,7 @@ use Rattle.course.proofs.lay.lay_checkpoints.Goals.{After-is_none}
 
 -- the points are made
 ready : (c : After-is_none) →
-    Made (course_on c.args.cs) (points_lent (lent c.args.alpha.now c.args.beta.now c.args.x.now c.args.y.now c.args.tiles.now c.args.offsets.now c.args.list.now))
+    Made (course_on c.args.cs) (points_lent (lent_to c.args.cols))
     (columns_of c.or_ring-n.new.cols) c.or_ring-n.result c.is_none.result
 ready c =
     let m = c.attempt-made in
@@ -26,8 +26,8 @@ returns-in_err-room_check c =
     let p = err_from_is_err_and c.from_residual.result c.from_residual.ensures.1 in
     refused-short _ (rw (p.1, p.2)) c.in_err-room_check.ensures
 
-pub invariant_of-cols : goal.invariant_of-cols
-invariant_of-cols c =
+pub invariant_of-walked : goal.invariant_of-walked
+invariant_of-walked c =
     let r = room (check-passed _ _ c.in_ok-room_check.ensures) in
     record { room_alpha = r.alpha; room_beta = r.beta; room_x = r.x; room_y = r.y }
 
@@ -43,5 +43,5 @@ finish-requires-clause-roomy c =
 pub returns : goal.returns
 unfolding lay_on_call
 returns c =
-    laid (lent c.args.alpha.now c.args.beta.now c.args.x.now c.args.y.now c.args.tiles.now c.args.offsets.now c.args.list.now)
+    laid (lent_to c.args.cols)
     (check-passed _ _ c.in_ok-room_check.ensures) (ready (goal.at.returns c).After-is_none) (search rules) (search rules) (search rules) (search rules) c.finish.ensures

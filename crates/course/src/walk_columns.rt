@@ -4,7 +4,7 @@ ghost use Rattle.course.specs.Rules.Lengths.{laid_length};
 
 // The columns of angles, headings and places, each with the length that lay is lent.
 #[derive(Drop)]
-pub(crate) struct PointColumns<'a> {
+pub(crate) struct WalkColumns<'a> {
     pub alpha: &'a mut [f64],
     pub beta: &'a mut [f64],
     pub x: &'a mut [f64],

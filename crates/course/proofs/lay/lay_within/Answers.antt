@@ -1,4 +1,4 @@
--- `course::lay::lay_attempts` meets its contract: where the columns have room, `finish` is called when all is ready for it. Assumes nothing.
+-- `course::lay::lay_within` meets its contract: where the columns have room, `finish` is called when all is ready for it. Assumes nothing.
 use Rattle.std.proofs.Common.{rules}
 use Rattle.std.proofs.lemmas.Result.{err_from_is_err_and}
 use Rattle.course.specs.Grader.Outcome.{lent}
@@ -9,8 +9,8 @@ use Rattle.course.proofs.CourseSizes.{within-sized}
 use Rattle.course.proofs.Generating.{Made, made-or-ring, within-tried}
 use Rattle.course.proofs.LaidColumns.{room, check-passed}
 use Rattle.course.proofs.LayLaws.{points_lent, refused-short, finish-size, laid}
-use Rattle.course.proofs.lay.lay_attempts.Goals as goal
-use Rattle.course.proofs.lay.lay_attempts.Goals.{After-is_none}
+use Rattle.course.proofs.lay.lay_within.Goals as goal
+use Rattle.course.proofs.lay.lay_within.Goals.{After-is_none}
 
 -- the points are made
 ready : (c : After-is_none) →
@@ -26,8 +26,8 @@ returns-in_err-room_check c =
     let p = err_from_is_err_and c.from_residual.result c.from_residual.ensures.1 in
     refused-short _ (rw (p.1, p.2)) c.in_err-room_check.ensures
 
-pub invariant_of-cols : goal.invariant_of-cols
-invariant_of-cols c =
+pub invariant_of-walked : goal.invariant_of-walked
+invariant_of-walked c =
     let r = room (check-passed _ _ c.in_ok-room_check.ensures) in
     record { room_alpha = r.alpha; room_beta = r.beta; room_x = r.x; room_y = r.y }
 
