@@ -11,10 +11,10 @@ use certificate::replay::Replayed;
 use course::cause::Cause;
 use course::points::{LaidCourse, LayError};
 use course::{cause, points};
-use run::restore::{Restoration, SavedFor};
+use run::restore::SavedFor;
 use run::sheet::RunSheet;
-use run::start::{StartValues, Started};
-use run::state::{Pose, Progress, Run};
+use run::start::StartValues;
+use run::state::{Answered, Pose, Progress, Run};
 
 // What lay and points answer: n, the list's length (at cause 3 the length needed), and the first point.
 #[repr(C)]
@@ -216,11 +216,11 @@ fn start_values(answer: Result<StartValues, Cause>) -> StartValues
 }
 
 // The answer of start, and the state.
-impl From<Started> for FlatStarted {
+impl From<Answered<StartValues>> for FlatStarted {
     ghost from_gives = { λ s f. f ≡ flat_started (begun s.answer (view s.run)) };
 
     #[tactic(auto, unfolding(crate::specs::Grader::Flat::flat_started, crate::specs::Grader::Flat::run_of, run::specs::Grader::State::view))]
-    fn from(s: Started) -> FlatStarted {
+    fn from(s: Answered<StartValues>) -> FlatStarted {
         let v = start_values(s.answer);
         FlatStarted {
             cause: cause::cause_number(&s.answer),
@@ -273,11 +273,11 @@ impl From<Result<u32, Cause>> for FlatSaved {
 }
 
 // The answer of restore, and the state.
-impl From<Restoration> for FlatRestored {
+impl From<Answered<()>> for FlatRestored {
     ghost from_gives = { λ r f. f ≡ flat_restored (after_restore r.answer (view r.run)) };
 
     #[tactic(auto, unfolding(crate::specs::Grader::Flat::flat_restored, crate::specs::Grader::Flat::run_of, run::specs::Grader::State::view))]
-    fn from(r: Restoration) -> FlatRestored {
+    fn from(r: Answered<()>) -> FlatRestored {
         FlatRestored {
             cause: cause::cause_number(&r.answer),
             run: r.run,

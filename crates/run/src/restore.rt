@@ -8,19 +8,11 @@ ghost use Rattle.run.specs.Steps.Load.{fields_as, restored_as};
 
 use crate::load::Fields;
 use crate::quad::Stance;
-use crate::state::{Progress, Run, Setup};
+use crate::state::{Answered, Progress, Run, Setup};
 use crate::touch::Columns;
 use crate::widths::{FULL_WORDS, WHEEL_WORDS};
 use crate::{contact, load, numbers, start, state, words};
 use course::cause::Cause;
-
-// The answer, and the state beside it: the state of zeros where it is refused.
-// Kept as a pair: a refused restore gives a state too, which an `Err` with a cause alone would not hand on.
-#[derive(Clone, Copy)]
-pub struct Restoration {
-    pub answer: Result<(), Cause>,
-    pub run: Run,
-}
 
 // A course's seed and its tile count.
 #[derive(Clone, Copy)]
@@ -97,17 +89,17 @@ fn restored(bytes: &[u8], columns: Columns<'_>, n: u32) -> Result<Run, Cause>
 }
 
 // The run that was saved, on the lent course, or a cause with the state of zeros.
-pub fn restore(bytes: &[u8], columns: Columns<'_>, n: u32) -> Restoration
+pub fn restore(bytes: &[u8], columns: Columns<'_>, n: u32) -> Answered<()>
     ensures { after_restore result.answer (view result.run)
         ≡ restore_of full_words most_tiles bytes.now
         (lent_columns columns.entry) n }
 {
     match restored(bytes, columns, n) {
-        Ok(run) => Restoration {
+        Ok(run) => Answered {
             answer: Ok(()),
             run,
         },
-        Err(cause) => Restoration {
+        Err(cause) => Answered {
             answer: Err(cause),
             run: start::zero_run(),
         },

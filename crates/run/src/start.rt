@@ -8,7 +8,7 @@ ghost use Rattle.run.specs.Rules.Arguments.{settings_ok};
 
 use crate::numbers::POSE_NUMBERS;
 use crate::quad::Stance;
-use crate::state::{Car, Pose, Progress, Run, Setup, WheelCtl};
+use crate::state::{Answered, Car, Pose, Progress, Run, Setup, WheelCtl};
 use crate::touch::Columns;
 use crate::widths::{FULL_WORDS, MOST_TILES, WHEEL_WORDS};
 use crate::{contact, lap, numbers, state};
@@ -30,14 +30,6 @@ pub struct Settings {
 pub struct StartValues {
     pub count: u32,
     pub lap: bool,
-}
-
-// The answer, and the state beside it: the state of zeros where it is refused.
-// Kept as a pair: a refused start gives a state too, which an `Err` with a cause alone would not hand on.
-#[derive(Clone, Copy)]
-pub struct Started {
-    pub answer: Result<StartValues, Cause>,
-    pub run: Run,
 }
 
 // Lap share and tick limit are in range (cause 1).
@@ -131,14 +123,14 @@ pub(crate) fn zero_run() -> Run
 }
 
 // A run on the lent course, or a cause with the state of zeros.
-pub fn start(columns: Columns<'_>, settings: Settings) -> Started
+pub fn start(columns: Columns<'_>, settings: Settings) -> Answered<StartValues>
     ensures { begun result.answer (view result.run)
         ≡ start_of full_words most_tiles (lent_columns columns.entry) settings }
 {
     let stance = Stance::at(settings.poses);
     let check = start_check(MOST_TILES, columns, settings, &stance);
     if let Err(cause) = check {
-        return Started {
+        return Answered {
             answer: Err(cause),
             run: zero_run(),
         };
@@ -171,7 +163,7 @@ pub fn start(columns: Columns<'_>, settings: Settings) -> Started
         count: c.fresh,
         lap,
     };
-    Started {
+    Answered {
         answer: Ok(values),
         run,
     }

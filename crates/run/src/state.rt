@@ -6,6 +6,7 @@ ghost use Rattle.run.specs.Rules.Arguments.{in_range, pose_ok, poses_ok, short_c
 
 use crate::numbers::POSE_NUMBERS;
 use crate::widths::{FULL_WORDS, WHEEL_WORDS};
+use course::cause::Cause;
 use course::constants::OFFSET_COUNT;
 use course::{constants, numeric};
 
@@ -76,6 +77,14 @@ pub struct Run {
     pub poses: [f64; POSE_NUMBERS],
     // The course's seed, as start was told it.
     pub seed: u64,
+}
+
+// A call's answer, and the state beside it: the state of zeros where the call is refused.
+// Kept as a pair: a refused start or restore gives a state too, which an `Err` with a cause alone would not hand on.
+#[derive(Clone, Copy)]
+pub struct Answered<T> {
+    pub answer: Result<T, Cause>,
+    pub run: Run,
 }
 
 // Finite and within a million of 0 (cause 8).

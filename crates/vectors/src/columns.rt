@@ -1,5 +1,5 @@
 // The columns that a test program lends: of its own length each, of which a call is lent a part.
-ghost use Rattle.std.specs.Prelude.{◌≡◌, length, take, ◌≤◌};
+ghost use Rattle.std.specs.Prelude.{◌≡◌, length, take};
 
 use crate::record::Record;
 use crate::{hash, line};
@@ -76,18 +76,17 @@ impl Columns {
         self.list.fill(UNTOUCHED_ID);
     }
 
-    // Their parts, of the lengths that stand in the record from `at` on.
-    pub fn lend(&mut self, record: Record<'_>, at: usize) -> LentColumns<'_>
-        requires { at ≤ 64 }
-    {
+    // Their parts, of the lengths that stand in the record from word `at` on.
+    pub fn lend(&mut self, record: Record<'_>, at: usize) -> LentColumns<'_> {
+        let [alpha, beta, x, y, tiles, offsets, list]: [u64; 7] = record.words(at);
         LentColumns {
-            alpha: front_mut(&mut self.alpha, record.word(at)),
-            beta: front_mut(&mut self.beta, record.word(at + 1)),
-            x: front_mut(&mut self.x, record.word(at + 2)),
-            y: front_mut(&mut self.y, record.word(at + 3)),
-            tiles: front_mut(&mut self.tiles, record.word(at + 4)),
-            offsets: front_mut(&mut self.offsets, record.word(at + 5)),
-            list: front_mut(&mut self.list, record.word(at + 6)),
+            alpha: front_mut(&mut self.alpha, alpha),
+            beta: front_mut(&mut self.beta, beta),
+            x: front_mut(&mut self.x, x),
+            y: front_mut(&mut self.y, y),
+            tiles: front_mut(&mut self.tiles, tiles),
+            offsets: front_mut(&mut self.offsets, offsets),
+            list: front_mut(&mut self.list, list),
         }
     }
 

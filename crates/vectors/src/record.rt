@@ -74,6 +74,15 @@ impl<'a> Record<'a> {
         }
     }
 
+    // The N words from word `from` on.
+    pub fn words<const N: usize>(self, from: usize) -> [u64; N] {
+        let mut words = [0; N];
+        for (i, place) in words.iter_mut().enumerate() {
+            *place = self.word(i.saturating_add(from));
+        }
+        words
+    }
+
     // The N floats from word `from` on.
     pub fn floats<const N: usize>(self, from: usize) -> [f64; N] {
         let mut numbers = [0.0; N];
