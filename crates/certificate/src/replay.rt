@@ -189,6 +189,7 @@ fn room_for(many: u32, calls: usize, given: usize, words: usize, numbers: usize)
 
 // Lays the seed's course, starts a run on it with its n, and answers so many calls. Refused by 2, before anything is laid, where a
 // column of calls or answers is short. Where lay is refused, so is the start, and after a refused start every call.
+// Kept as columns one by one: the run reads tiles, offsets and list after lay, and a struct that is handed on is gone.
 pub fn replay(
     seed: u64,
     alpha: &mut [f64],

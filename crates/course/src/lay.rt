@@ -99,7 +99,7 @@ fn or_ring(made: Option<usize>, cols: &mut WalkColumns) -> usize
 }
 
 // The course of a seed in columns, with so many attempts.
-// Kept as columns one by one: where a struct is handed on whole, what its columns hold afterwards is not known.
+// Kept as columns one by one: where `lay` handed its struct on whole, what the columns hold afterwards did not prove.
 fn lay_within(
     attempts: u32,
     seed: u64,

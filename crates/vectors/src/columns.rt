@@ -1,5 +1,5 @@
 // The columns that a test program lends: of its own length each, of which a call is lent a part.
-ghost use Rattle.std.specs.Prelude.{◌≡◌, length, take};
+ghost use Rattle.std.specs.Prelude.{◌≡◌, ◌≤◌, length, take};
 
 use crate::record::Record;
 use crate::{hash, line};
@@ -77,7 +77,14 @@ impl Columns {
     }
 
     // Their parts, of the lengths that stand in the record from word `at` on.
-    pub fn lend(&mut self, record: Record<'_>, at: usize) -> LentColumns<'_> {
+    pub fn lend(&mut self, record: Record<'_>, at: usize) -> LentColumns<'_>
+        ensures points { (length result.alpha.now ≤ length self.old.alpha.items)
+            × (length result.beta.now ≤ length self.old.beta.items) × (length result.x.now ≤ length self.old.x.items)
+            × (length result.y.now ≤ length self.old.y.items) }
+        ensures tiles { (length result.tiles.now ≤ length self.old.tiles.items)
+            × (length result.offsets.now ≤ length self.old.offsets.items)
+            × (length result.list.now ≤ length self.old.list.items) }
+    {
         let [alpha, beta, x, y, tiles, offsets, list]: [u64; 7] = record.words(at);
         LentColumns {
             alpha: front_mut(&mut self.alpha, alpha),

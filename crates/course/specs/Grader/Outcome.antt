@@ -25,14 +25,14 @@ pub record CourseColumns : Type 0 where
 abbrev pub lent : List Float → List Float → List Float → List Float → List Float → List ℕ → List ℕ → CourseColumns
 lent a b x y t o l = record { alpha = a; beta = b; x = x; y = y; tiles = t; offsets = o; list = l }
 
--- the lent columns of a call, and what stands in them after it: its fields in pairs, in their order
+-- the columns that a call is lent together, and those that it leaves: at its exit the fields stand in pairs, in their order
 abbrev pub lent_to : LentColumns → CourseColumns
 lent_to c = lent c.alpha.now c.beta.now c.x.now c.y.now c.tiles.now c.offsets.now c.list.now
 
-abbrev pub Numbers : Type 0
+abbrev Numbers : Type 0
 Numbers = MutBor (List Float)
 
-abbrev pub Counts : Type 0
+abbrev Counts : Type 0
 Counts = MutBor (List ℕ)
 
 abbrev pub left_by : Numbers × (Numbers × (Numbers × (Numbers × (Numbers × (Counts × (Counts × Unit {0})))))) → CourseColumns
