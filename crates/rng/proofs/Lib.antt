@@ -1,3 +1,5 @@
+pub mod Product
+pub mod Halves
 pub mod Units
 pub mod Draws
 pub mod Examples

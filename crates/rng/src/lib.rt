@@ -14,11 +14,19 @@ pub struct SplitMix64 {
     state: u64,
 }
 
-// The low 64 bits of a * b.
+// The low 64 bits of a * b, by halves of 32 bits: of the four products of halves the highest adds
+// nothing below 2^64, and of the two middle ones only the low half of their sum counts.
+// Kept beside `u64::wrapping_mul`: document 01 names an own wrapping multiply, proved modulo 2^64.
 pub fn wrapping_mul64(a: u64, b: u64) -> u64
     ensures { result ≡ product64 a b }
 {
-    a.wrapping_mul(b)
+    let a0 = a % 0x1_0000_0000;
+    let a1 = a / 0x1_0000_0000;
+    let b0 = b % 0x1_0000_0000;
+    let b1 = b / 0x1_0000_0000;
+    let middle = (a1 * b0).wrapping_add(a0 * b1);
+    let high = (middle % 0x1_0000_0000) * 0x1_0000_0000;
+    (a0 * b0).wrapping_add(high)
 }
 
 // The draw shifted right 11, over 2^53: times 2^-53, which is the same number and takes no division.
@@ -65,8 +73,8 @@ impl SplitMix64 {
     {
         self.state = self.state.wrapping_add(0x9E37_79B9_7F4A_7C15);
         let s = self.state;
-        let y = (s ^ (s >> 30)).wrapping_mul(0xBF58_476D_1CE4_E5B9);
-        let z = (y ^ (y >> 27)).wrapping_mul(0x94D0_49BB_1331_11EB);
+        let y = wrapping_mul64(s ^ (s >> 30), 0xBF58_476D_1CE4_E5B9);
+        let z = wrapping_mul64(y ^ (y >> 27), 0x94D0_49BB_1331_11EB);
         z ^ (z >> 31)
     }
 
