@@ -1,22 +1,23 @@
 -- The search for the next checkpoint, a step of the code at a time. Assumes nothing.
-use Rattle.std.proofs.Common.{◌≡◌, ℕ, ◌+◌, ◌<◌, ◌≤◌, true, false, List, [], ◌∷◌, length, get_or, drop, Option, Some, None, MatchOption, refl, ap, ◌∙◌, add-one, arith, length-drop, drop-cons}
+use Rattle.std.proofs.Common.{◌≡◌, ℕ, zero, suc, ◌+◌, ◌-◌, ◌<◌, ◌≤◌, true, false, List, [], ◌∷◌, length, get_or, drop, Option, Some, None, refl, sym, ap, add-one, arith, length-drop, drop-cons}
 use lib.Ieee.{Float, le}
 use Rattle.course.specs.Rules.Arithmetic.{◌⊖◌}
 use Rattle.course.specs.declared.checkpoints.Checkpoint.{Checkpoint}
-use Rattle.course.specs.Rules.Finder.{scan, or_again, dest_of}
-use Rattle.course.specs.Steps.Lay.{found_as}
-use Rattle.course.specs.declared.finder.Dest.{Dest}
+use Rattle.course.specs.Rules.Finder.{Destination, scan, or_again, dest_of}
+use Rattle.course.specs.Rules.Constants.{tau}
 use Rattle.course.proofs.Literals.{tau-bits}
 use Rattle.course.proofs.Turns.{tau_b}
 
--- a pass from place i on goes on from the next place where alpha is above the angle there, and finds place i where it is not
-pub scan-past : (l : List Checkpoint) (i : ℕ) (a : Float) (d : Checkpoint) → i < length l → le a (get_or l i d).angle ≡ false → scan (drop i l) i a ≡ scan (drop (i + 1) l) (i + 1) a
+-- a pass from place i on, before whatever is searched again, goes on from the next place where alpha is above the angle there, and finds place i where it is not
+pub scan-past : (l : List Checkpoint) (i : ℕ) (a : Float) (d : Checkpoint) (again : Option Destination) → i < length l → le a (get_or l i d).angle ≡ false
+    → or_again (scan (drop i l) i a) again ≡ or_again (scan (drop (i + 1) l) (i + 1) a) again
 unfolding scan
-scan-past l i a d h e = rw (add-one, drop-cons l i d, e)
+scan-past l i a d again h e = rw (add-one, drop-cons l i d, e)
 
-pub scan-at : (l : List Checkpoint) (i : ℕ) (a : Float) (d : Checkpoint) → i < length l → le a (get_or l i d).angle ≡ true → scan (drop i l) i a ≡ Some (record { place = i; alpha = a; checkpoint = get_or l i d })
-unfolding scan
-scan-at l i a d h e = rw (drop-cons l i d, e)
+pub scan-at : (l : List Checkpoint) (i : ℕ) (a : Float) (d : Checkpoint) (again : Option Destination) → i < length l → le a (get_or l i d).angle ≡ true
+    → or_again (scan (drop i l) i a) again ≡ Some (record { place = i; alpha = a; checkpoint = get_or l i d })
+unfolding scan or_again
+scan-at l i a d again h e = rw (drop-cons l i d, e)
 
 -- past the last place
 drop_past : (l : List Checkpoint) (i : ℕ) → length l ≤ i → drop i l ≡ []
@@ -26,13 +27,36 @@ drop_past l i h = length-zero (drop i l) (omega (arith, length-drop i l))
     length-zero [] e = refl
     length-zero (y ∷ k) e = absurd (omega (arith, e))
 
-pub scan-end : (l : List Checkpoint) (i : ℕ) (a : Float) → length l ≤ i → scan (drop i l) i a ≡ None
+scan-end : (l : List Checkpoint) (i : ℕ) (a : Float) → length l ≤ i → scan (drop i l) i a ≡ None
 unfolding scan
 scan-end l i a h = rw (drop_past l i h)
 
--- two passes are the search; tau as the compiled code has it
-pub two-passes : {P : Type 0} (l : List Checkpoint) (i : ℕ) (a : Float) (r o : Option Dest) → (P → found_as r ≡ scan l 0 (a ⊖ tau_b)) → found_as o ≡ scan (drop i l) i a → MatchOption o P (λ d. r ≡ Some d)
-    → found_as r ≡ dest_of l i a
-unfolding dest_of or_again
-two-passes l i a r None p e m = p m ∙ rw (← e, tau-bits)
-two-passes l i a r (Some d) p e m = ap found_as m ∙ rw (← e)
+-- what n passes find, the first from place i on
+unfoldable pub searched : ℕ → List Checkpoint → ℕ → Float → Option Destination
+searched zero l i a = None
+searched (suc n) l i a = or_again (scan (drop i l) i a) (searched n l 0 (a ⊖ tau))
+
+-- two of them are the search
+pub searched-two : (l : List Checkpoint) (i : ℕ) (a : Float) → dest_of l i a ≡ searched 2 l i a
+unfolding dest_of searched or_again
+searched-two l i a = ap (or_again (scan (drop i l) i a)) (sym (or-none (scan l 0 (a ⊖ tau))))
+  where
+    or-none : (o : Option Destination) → or_again o None ≡ o
+    or-none None = refl
+    or-none (Some d) = refl
+
+-- a pass begins where p of the two are over
+pub pass-begun : (p : ℕ) (l : List Checkpoint) (i : ℕ) (a : Float) → p < 2 → searched (2 - p) l i a ≡ or_again (scan (drop i l) i a) (searched (1 - p) l 0 (a ⊖ tau))
+unfolding searched
+pass-begun p l i a h = let e : 2 - p ≡ suc (1 - p) = omega arith in rw e
+
+-- it ends past the last place, and the next begins at place 0; tau as the compiled code has it
+pub pass-over : (p : ℕ) (l : List Checkpoint) (i : ℕ) (a : Float) → p < 2 → length l ≤ i
+    → or_again (scan (drop i l) i a) (searched (1 - p) l 0 (a ⊖ tau)) ≡ searched (2 - (p + 1)) l 0 (a ⊖ tau_b)
+unfolding or_again
+pass-over p l i a h e = let k : 1 - p ≡ 2 - (p + 1) = omega arith in rw (scan-end l i a e, k, tau-bits)
+
+-- no pass is left
+pub passes-over : (p : ℕ) (l : List Checkpoint) (i : ℕ) (a : Float) → 2 ≤ p → searched (2 - p) l i a ≡ None
+unfolding searched
+passes-over p l i a h = let e : 2 - p ≡ 0 = omega arith in rw e

@@ -1,10 +1,13 @@
 // The search for the next checkpoint (document 01, "Lay": `try_generate`).
-ghost use Rattle.std.specs.Prelude.{◌≡◌, drop};
-ghost use Rattle.course.specs.Rules.Finder.{scan, dest_of};
+ghost use Rattle.std.specs.Prelude.{◌≡◌};
+ghost use Rattle.course.specs.Rules.Finder.{dest_of};
 ghost use Rattle.course.specs.Steps.Lay.{found_as};
 
 use crate::checkpoints::Checkpoint;
 use crate::constants::TAU;
+
+// A search passes over the checkpoints at most so often: from the place of the walk, and once more from the first.
+const PASS_LIMIT: usize = 2;
 
 // A checkpoint that was found, with its place, and alpha less the turns that the search took.
 #[derive(Clone, Copy)]
@@ -14,27 +17,29 @@ pub(crate) struct Dest {
     pub checkpoint: Checkpoint,
 }
 
-// One pass over the checkpoints from place `from` on: the first whose angle alpha is not above.
-fn scan(cs: &[Checkpoint; 12], from: usize, alpha: f64) -> Option<Dest>
-    ensures { found_as result ≡ scan (drop from cs.now) from alpha }
-{
-    for index in from..cs.len() {
-        let checkpoint = cs[index];
-        if alpha <= checkpoint.angle {
-            return Some(Dest {
-                index,
-                alpha,
-                checkpoint,
-            });
-        }
-    }
-    None
-}
-
 // The first checkpoint from place `from` on whose angle alpha is not above. Past the last the search goes on from the
-// first, with alpha one tau less; a third pass refuses.
-pub(crate) fn find(cs: &[Checkpoint; 12], from: usize, alpha: f64) -> Option<Dest>
+// first, with alpha one tau less; a third pass refuses. Document 01 names the form of the search: it "leaves both search
+// loops the moment a checkpoint is found".
+pub(crate) fn find(cs: &[Checkpoint], from: usize, alpha: f64) -> Option<Dest>
     ensures { found_as result ≡ dest_of cs.now from alpha }
 {
-    scan(cs, from, alpha).or_else(|| scan(cs, 0, alpha - TAU))
+    let mut found = None;
+    let mut first = from;
+    let mut a = alpha;
+    'search: for _pass in 0..PASS_LIMIT {
+        for index in first..cs.len() {
+            let checkpoint = cs[index];
+            if a <= checkpoint.angle {
+                found = Some(Dest {
+                    index,
+                    alpha: a,
+                    checkpoint,
+                });
+                break 'search;
+            }
+        }
+        first = 0;
+        a = a - TAU;
+    }
+    found
 }
