@@ -1,4 +1,5 @@
 // The calls that make a course: lay, points and curbs. The columns are lent by the caller.
+// Kept as a parameter for each column: the C interface lends them one by one.
 ghost use Rattle.std.specs.Prelude.{◌≡◌};
 ghost use Rattle.course.specs.Rules.Constants.{max_attempts};
 ghost use Rattle.course.specs.Grader.Outcome.{lent};

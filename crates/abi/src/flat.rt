@@ -1,5 +1,6 @@
 // What crosses the boundary: each answer as a struct of numbers, 0 and false where a case has none, and structs around
 // the arrays that C cannot pass by value.
+// Kept as numbers beside values: the C interface has no enum that holds a value.
 ghost use Rattle.std.specs.Prelude.{◌≡◌};
 ghost use Rattle.std.specs.Result.{result_unwrap_or};
 ghost use Rattle.run.specs.Grader.State.{view};

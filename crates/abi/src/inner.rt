@@ -1,4 +1,5 @@
 // Inner steps of the grader, for comparisons with the reference only.
+// Kept as a parameter for each column: the C interface lends them one by one.
 ghost use Rattle.std.specs.Prelude.{◌≡◌};
 ghost use Rattle.course.specs.Grader.Outcome.{lent};
 ghost use Rattle.course.specs.Grader.LayCall.{lay_call, lay_on_call};

@@ -15,6 +15,7 @@ use crate::flat;
 use crate::flat::{FlatDriven, FlatReplayed, FlatSettled, FlatSheet, FlatStarted, Poses};
 use certificate::replay;
 use course::cause;
+use course::lent::LentColumns;
 use run::numbers::{CAR_NUMBERS, FORCE_NUMBERS, MOTION_NUMBERS, POSE_NUMBERS};
 use run::reward::Weights;
 use run::settle::SettleValues;
@@ -157,6 +158,7 @@ pub extern "C" fn grader_settle_parts(
 }
 
 // A seed's course, a start on it and a whole list of calls, every answer written to the lent words and numbers.
+// Kept as a parameter for each column: the C interface lends them one by one.
 #[unsafe(no_mangle)]
 #[tactic(auto, unfolding(crate::specs::Grader::Flat::flat_replayed, crate::specs::Grader::Flat::columns_after))]
 pub extern "C" fn grader_replay(
@@ -190,8 +192,16 @@ pub extern "C" fn grader_replay(
         many calls.now given.now words.old numbers.old) }
 {
     let wheels = poses.wheels;
+    let cols = LentColumns {
+        alpha,
+        beta,
+        x,
+        y,
+        tiles,
+        offsets,
+        list,
+    };
     FlatReplayed::from(replay::replay(
-        seed, alpha, beta, x, y, tiles, offsets, list, share, limit, wheels, many, calls, given,
-        words, numbers,
+        seed, cols, share, limit, wheels, many, calls, given, words, numbers,
     ))
 }

@@ -1,4 +1,5 @@
 // An answer written into its columns: four words and twelve numbers, a value of its own for every answer.
+// Kept as numbers: what an answer is, its first word says in a column that a host lends.
 ghost use Rattle.std.specs.Prelude.{◌≡◌, [], ◌∷◌, ◌+◌, ◌≤◌, length, set, replicate};
 ghost use Rattle.course.specs.Rules.Arithmetic.{nought};
 ghost use Rattle.certificate.specs.Grader.Calls.{drive_said, settle_said};

@@ -9,7 +9,7 @@ ghost use Rattle.run.specs.Grader.Numbers.{motions_from, poses_from};
 ghost use Rattle.certificate.specs.Grader.CallColumns.{call_words, call_numbers, answer_words, answer_numbers, words_of, numbers_of, all_words, all_numbers};
 ghost use Rattle.certificate.specs.Steps.Replay.{call_from, calls_to};
 ghost use Rattle.certificate.specs.Grader.Replay.{room_for, replay, replay_of};
-ghost use Rattle.course.specs.Grader.Outcome.{lent};
+ghost use Rattle.course.specs.Grader.Outcome.{lent_to, left_by};
 
 use crate::{answer, call};
 use course::cause::Cause;
@@ -96,6 +96,7 @@ fn reply_settle(
 }
 
 // The call that four words and twenty numbers hold, and its answer.
+// Kept as a number: the first word of a call is one of a column of numbers that a host lends.
 fn reply(
     run: &mut Run,
     columns: Columns<'_>,
@@ -189,16 +190,9 @@ fn room_for(many: u32, calls: usize, given: usize, words: usize, numbers: usize)
 
 // Lays the seed's course, starts a run on it with its n, and answers so many calls. Refused by 2, before anything is laid, where a
 // column of calls or answers is short. Where lay is refused, so is the start, and after a refused start every call.
-// Kept as columns one by one: the run reads tiles, offsets and list after lay, and a struct that is handed on is gone.
 pub fn replay(
     seed: u64,
-    alpha: &mut [f64],
-    beta: &mut [f64],
-    x: &mut [f64],
-    y: &mut [f64],
-    tiles: &mut [f64],
-    offsets: &mut [u32],
-    list: &mut [u32],
+    cols: LentColumns<'_>,
     share: f64,
     limit: u32,
     poses: [Pose; 4],
@@ -209,13 +203,20 @@ pub fn replay(
     numbers: &mut [f64],
 ) -> Replayed
     ensures { replay result.laid result.start result.sheet
-        (lent alpha.new beta.new x.new y.new tiles.new
-        offsets.new list.new) words.new numbers.new
+        (left_by cols.exit) words.new numbers.new
         ≡ replay_of seed
-        (lent alpha.old beta.old x.old y.old tiles.old
-        offsets.old list.old) (record { share = share; limit = limit; poses = poses }) many
+        (lent_to cols.entry) (record { share = share; limit = limit; poses = poses }) many
         calls.now given.now words.old numbers.old }
 {
+    let LentColumns {
+        alpha,
+        beta,
+        x,
+        y,
+        tiles,
+        offsets,
+        list,
+    } = cols;
     if !room_for(many, calls.len(), given.len(), words.len(), numbers.len()) {
         return Replayed {
             laid: Err(LayError::Refused(Cause::Length)),

@@ -15,7 +15,6 @@ mod read;
 
 use certificate::replay;
 use certificate::replay::Replayed;
-use course::lent::LentColumns;
 use read::Log;
 use run::numbers;
 use std::alloc::{AllocError, Global};
@@ -55,24 +54,9 @@ impl Calls {
 
 // The record's call on parts of the columns, of the record's lengths.
 fn call(record: Record<'_>, columns: &mut Columns, c: &mut Calls) -> Replayed {
-    let LentColumns {
-        alpha,
-        beta,
-        x,
-        y,
-        tiles,
-        offsets,
-        list,
-    } = columns.lend(record, 2);
     replay::replay(
         record.word(1),
-        alpha,
-        beta,
-        x,
-        y,
-        tiles,
-        offsets,
-        list,
+        columns.lend(record, 2),
         record.float(9),
         record.low(10),
         numbers::poses_from(&record.floats(11)),

@@ -95,8 +95,8 @@ fn motion_ok(m: Motion) -> bool
         & state::in_range(m.vy)
 }
 
-// Whether one of `count` words from `from` on is not 0. It reads them all: a loop of known length the compiler unrolls,
-// and it reads several words at a time.
+// Whether one of `count` words from `from` on is not 0.
+// Kept as a loop that reads them all: one of known length the compiler unrolls, and it reads several words at a time.
 fn any_stands(wheels: &[u64], from: usize, count: usize) -> bool
     requires { from + count ≤ length wheels.now }
     ensures { result ≡ any_stands count wheels.now from }
@@ -126,7 +126,8 @@ fn on_road(wheels: &[u64], words: usize, w: usize) -> bool
     any_stands(wheels, from, first) || any_stands(wheels, from + first, words - first)
 }
 
-// Which wheels touched a tile at the last contact. One place that calls the test, so that it is compiled into it.
+// Which wheels touched a tile at the last contact.
+// Kept as a loop: it is the one place that calls the test, so that this is compiled into it.
 fn roads_of(wheels: &[u64], words: usize) -> [bool; 4]
     requires { 4 * words ≤ length wheels.now }
     ensures { result ≡ roads_of words wheels.now }

@@ -73,8 +73,7 @@ fn float_at(full: &[u8], at: usize) -> f64
 }
 
 // The credited tiles, field 4.
-fn credited_in(full: &[u8]) -> [u64; FULL_WORDS]
-    requires { length full.now ≡ sum (field_bytes full_words) }
+fn credited_in(full: &[u8; ALL_BYTES]) -> [u64; FULL_WORDS]
     ensures { result ≡ words_from full_words (saved_field full.now 4) }
 {
     let mut set = [0u64; FULL_WORDS];
@@ -83,8 +82,7 @@ fn credited_in(full: &[u8]) -> [u64; FULL_WORDS]
 }
 
 // The car's numbers: the controls, field 7, then the fuel, field 6.
-fn car_in(full: &[u8]) -> [f64; CAR_NUMBERS]
-    requires { length full.now ≡ sum (field_bytes full_words) }
+fn car_in(full: &[u8; ALL_BYTES]) -> [f64; CAR_NUMBERS]
     ensures { result
         ≡ floats_from control_count (saved_field full.now 7)
         ++ (float_in (saved_field full.now 6) ∷ []) }
@@ -96,8 +94,7 @@ fn car_in(full: &[u8]) -> [f64; CAR_NUMBERS]
 }
 
 // The last poses' numbers, field 8.
-fn poses_in(full: &[u8]) -> [f64; POSE_NUMBERS]
-    requires { length full.now ≡ sum (field_bytes full_words) }
+fn poses_in(full: &[u8; ALL_BYTES]) -> [f64; POSE_NUMBERS]
     ensures { result ≡ floats_from pose_count (saved_field full.now 8) }
 {
     let mut poses = [0.0; POSE_NUMBERS];
@@ -115,8 +112,7 @@ fn seeds_in(full: &[u8]) -> SeedParts
 }
 
 // The fields as they lie end to end, of a run with this seed.
-fn fields_in(seed: u64, full: &[u8]) -> Fields
-    requires { length full.now ≡ sum (field_bytes full_words) }
+fn fields_in(seed: u64, full: &[u8; ALL_BYTES]) -> Fields
     ensures { fields_as result ≡ fields_with seed full_words (cut (field_bytes full_words) full.now) }
 {
     let share = float_at(full, SHARE_AT);

@@ -80,7 +80,7 @@ pub struct Run {
 }
 
 // A call's answer, and the state beside it: the state of zeros where the call is refused.
-// Kept as a pair: a refused start or restore gives a state too, which an `Err` with a cause alone would not hand on.
+// Kept as a pair: document 01 gives a refused start the state of zeros, and document 02 a refused restore, which an `Err` would not hand on.
 #[derive(Clone, Copy)]
 pub struct Answered<T> {
     pub answer: Result<T, Cause>,

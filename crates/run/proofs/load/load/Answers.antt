@@ -13,13 +13,6 @@ use borrow.Author.Rules.{rules}
 use native.Mathlib.Omega.{arith}
 use Rattle.run.proofs.load.load.Goals as goal
 
-pub fields_in-fields-requires : goal.fields_in-fields-requires
-fields_in-fields-requires c =
-    let full-long : length c.unpack-map.new.full ≡ sum (field_bytes full_words) =
-    let e : length c.unpack-map.new.full ≡ all_bytes = search rules in e ∙ sym all-bytes
-    in
-    full-long
-
 pub returns : goal.returns
 returns c =
     let full-long : length c.unpack-map.new.full ≡ sum (field_bytes full_words) =
