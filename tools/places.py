@@ -1,7 +1,7 @@
 #!/usr/bin/env python3
 """Counts, in crates/*/src, the places of each point of docs/DESIGN-PASS.md.
 
-usage: tools/places.py [COMMIT]
+usage: tools/places.py [-v] [COMMIT]
 Without a commit it reads the files as they stand; with one, those of the commit. With -v it lists the places, one a line.
 """
 import re
@@ -30,7 +30,26 @@ def code(text):
     return re.sub(r'//[^\n]*', '', text)
 
 
+def loops(body):
+    # (number, text) of each `for` over a range of numbers
+    for m in re.finditer(r'^( *)(?:\'\w+: )?for (\w+) in [^\n]*\.\.[^\n]*\{$', body, re.M):
+        end = re.search(r'^' + m.group(1) + r'\}', body[m.end():], re.M)
+        yield m.group(2), body[m.end():m.end() + end.end()] if end else body[m.end():]
+
+
+def facts(head):
+    # the facts that a function asks for or promises of what it is lent, each between its braces, spaces made one
+    for m in re.finditer(r'\b(?:requires|ensures)\b[^{]*\{', head):
+        depth, i = 1, m.end()
+        while depth:
+            depth += {'{': 1, '}': -1}.get(head[i], 0)
+            i += 1
+        for fact in head[m.end():i - 1].split(' × '):
+            yield re.sub(r'\.(?:now|old)\b', '', re.sub(r'\s+', ' ', fact)).strip(' ()')
+
+
 found = {}
+asked = {}
 
 
 def add(point, name, text, at, what):
@@ -74,7 +93,17 @@ for name, raw in files():
     for f, head, body, at in functions(text):
         if re.search(r'\baction == \d|\basked\[0\] == 0', body):
             add('1 numbers for kinds', name, text, at, f)
+    for f, head, body, at in functions(text):
+        if '&mut' in head and re.search(r'\) -> bool\b', head):
+            add('1 bools that tell of a refusal', name, text, at, f)
     # 3
+    for f, head, body, at in functions(text):
+        for k, whole in loops(body):
+            if re.search(r'\[' + k + r'\]|\[[^\]\n]*\b' + k + r'\b[^\]\n]*\]', whole):
+                add('3 loops by for that find places by a number', name, text, at, f + ': ' + k)
+        for m in re.finditer(r'\blet mut (\w+)(?:: \w+)? = 0\w*;', body):
+            if re.search(r'\b(?:for|while|loop)\b.*\b' + m.group(1) + r' \+= 1;', body[m.end():], re.S) and re.search(r'\[[^\]\n]*\b' + m.group(1) + r'\b', body[m.end():]):
+                add('3 counters stepped by hand', name, text, at + len(head) + m.start(), f + ': ' + m.group(1))
     for f, head, body, at in functions(text):
         for m in re.finditer(r'\bwhile\b([^{]*)\{', body):
             add('3 loops by while', name, text, at + len(head) + m.start(), f + ': while' + m.group(1).rstrip())
@@ -86,7 +115,14 @@ for name, raw in files():
             add('4 conversions and copies by hand', name, text, at, f)
         elif re.search(r'\b(lines?_|more|figures)', f) and 'Write' in head:
             add('4 printing by hand', name, text, at, f)
+        zeros = r'(?:\w+: (?:0(?:\.0)?|false|\[0(?:\.0)?; \w+\]),? ?\s*){3,}'
+        for m in re.finditer(r'\b[A-Z]\w+ \{\s*' + zeros, body):
+            add('4 zeros written out', name, text, at + len(head) + m.start(), f)
     # 5
+    for f, head, body, at in functions(text):
+        for fact in set(facts(head)) if 'extern' not in head else ():
+            if 'result' not in fact and re.search(r'[≤<≡∈]|[A-Z]', fact):
+                asked.setdefault((name.split('/')[1], fact), []).append((name, text, at, f))
     for f, head, body, at in functions(text):
         params = re.findall(r'\b(alpha|beta|x|y|tiles|offsets|list): &(?:\'a )?(?:mut )?\[', head)
         if len(params) >= 3:
@@ -148,6 +184,12 @@ for s, g in groups.items():
     if len(g) > 1 and len(s) > 60:
         for name, text, at, f in g:
             add('2 functions of one shape', name, text, at, f + ' ~ ' + ', '.join(x[3] for x in g if x[3] != f or x[0] != name))
+
+# 5: a fact in the contracts of three functions of a crate or more
+for (crate, fact), places in asked.items():
+    if len(places) > 2:
+        name, text, at, f = places[0]
+        add('5 facts in three contracts or more', name, text, at, fact + ': ' + ', '.join(x[3] for x in places))
 
 for point in sorted(found):
     places = found[point]
