@@ -117,8 +117,6 @@ pub record RectsIn (rects : List Float) : Type 0 where
   pub few : length rects ≤ most_points
   pub each : (i : ℕ) → i < length rects → Packed (slice_index_or rects i nan)
 
--- the rectangles of the tiles below i are packed, and the entries from n on are as before
-pub record RectsPacked (tiles : List Float) (n i : ℕ) (rects rects' : List Float) : Type 0 where
-  pub same : length rects' ≡ length rects
-  pub past : drop n rects' ≡ drop n rects
-  pub each : (k : ℕ) → k < i → Packs (slice_index_or rects' k nan) (rect_of tiles k)
+-- the rectangles of the tiles below n are packed
+pub record RectsPacked (tiles : List Float) (n : ℕ) (rects : List Float) : Type 0 where
+  pub each : (k : ℕ) → k < n → Packs (slice_index_or rects k nan) (rect_of tiles k)
