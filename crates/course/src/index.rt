@@ -2,13 +2,13 @@
 // Built in two passes over the rectangles, count and then fill by ascending id, in the lent columns alone.
 // While it is filled, place c + 1 of the offsets is the cursor of cell c: it starts where the part of cell c starts, and ends where the
 // part of cell c + 1 does. So cell c is counted at place c + 2, and the last cell, which no part follows, is not counted.
-ghost use Rattle.std.specs.Prelude.{◌≡◌, ℕ, ◌+◌, ◌*◌, ◌<◌, ◌≤◌, true, false, ◌++◌, length, drop, slice_index, MatchOption};
+ghost use Rattle.std.specs.Prelude.{◌≡◌, ℕ, ◌+◌, ◌*◌, ◌<◌, ◌≤◌, true, false, length, drop, slice_index, MatchOption};
 ghost use Rattle.course.specs.Rules.Lengths.{cell_count, most_points, offset_count};
 ghost use Rattle.course.specs.Rules.Cell.{cell_at};
 ghost use Rattle.course.specs.Rules.Rect.{holds, needed};
 ghost use Rattle.course.specs.Grader.Index.{start, index_of, offsets_of, part_ok, lookup};
 ghost use Rattle.course.specs.Grader.Rect.{rect_as};
-ghost use Rattle.course.specs.Steps.Index.{Built, is_short, length_needed, Inside, RunCounted, RectCounted, Counts, Summed, RunPlaced, RectPlaced, Placed, held_in, RectsPacked, RectsIn};
+ghost use Rattle.course.specs.Steps.Index.{Built, is_short, length_needed, RunCounted, RectCounted, Counts, Summed, RunPlaced, RectPlaced, Placed, held_in, RectsPacked, RectsIn};
 
 use crate::cell::cell_at;
 use crate::constants::{GRID_DIM, OFFSET_COUNT};

@@ -1,6 +1,5 @@
 // The quads of a course's tiles (document 01, "Tiles and index").
-ghost use Rattle.std.specs.Prelude.{◌≡◌, ◌+◌, ◌-◌, ◌*◌, ◌<◌, ◌≤◌, ◌++◌, length, drop, slice_index_or, slice_set};
-ghost use Rattle.std.specs.Float.{nan};
+ghost use Rattle.std.specs.Prelude.{◌≡◌, ◌+◌, ◌-◌, ◌*◌, ◌<◌, ◌≤◌, ◌++◌, length, drop};
 ghost use Rattle.course.specs.Rules.Tiles.{point_at, points_of, before_of, eight, tile_of, tiles_to};
 ghost use Rattle.course.specs.Steps.Tiles.{puts, edges_at, quad_between};
 
