@@ -1,6 +1,9 @@
 -- The loops over a run of places, one turn at a time. Assumes nothing.
-use Rattle.std.proofs.Common.{◌≡◌, ℕ, zero, suc, ◌+◌, ◌*◌, ◌<◌, ◌≤◌, max, ◌⊎◌, List, length, get_or, set, sym, refl, ap, ◌∙◌, subst, inl, inr, ⊎_elim, mul-suc, add-one, arith, length-set, get_or-set_other, get_or-set_same}
+use Rattle.std.proofs.Common.{◌≡◌, ℕ, zero, suc, ◌+◌, ◌-◌, ◌*◌, ◌<◌, ◌≤◌, max, ◌⊎◌, List, ◌++◌, length, get_or, take, drop, set, get_or-take, length-append, length-drop, length-take-le, sym, refl, ap, ◌∙◌, subst, inl, inr, ⊎_elim, mul-suc, add-one, arith, length-set, get_or-set_other, get_or-set_same}
 use native.Mathlib.Decide.{ℕ_discrete}
+use Rattle.std.proofs.lemmas.List.{get_or-drop, get_or-append_right}
+use lib.ListN.{get_or-append}
+use Rattle.course.proofs.IndexLaws.{order}
 use Rattle.course.specs.Steps.Index.{Inside, RunCounted, RunPlaced, sum_below}
 
 -- two numbers are equal or not
@@ -74,6 +77,118 @@ module _ (o₀ l₀ o l : List ℕ) (id a c : ℕ) where
     where
       below : (d : ℕ) → Inside a (c + 1) d → (get_or o₀ d 0 ≡ at → ⊥) → at ≡ get_or o₀ c 0 → d < c
       below d w ne e₀ = ⊎_elim (λ p. absurd (ne (ap (λ (z : ℕ). get_or o₀ z 0) p ∙ sym e₀))) (λ p. omega arith) (same? d c)
+
+-- ---- a run as a part of its column, which is lent alone
+abbrev pub part_of : List ℕ → ℕ → ℕ → List ℕ
+part_of o a m = take (m - a) (drop a o)
+
+-- the column after p came in the part's place
+abbrev pub joined_of : List ℕ → List ℕ → ℕ → ℕ → List ℕ
+joined_of o p a m = take a o ++ (p ++ drop (m - a) (drop a o))
+
+module _ (o : List ℕ) (a b m : ℕ) (is : m ≡ max a b) (room : m ≤ length o) where
+  part-long : length (part_of o a m) ≡ m - a
+  part-long = length-take-le (m - a) (drop a o) (omega (arith, length-drop a o))
+
+  part-read : (k : ℕ) → k < m - a → get_or (part_of o a m) k 0 ≡ get_or o (a + k) 0
+  part-read k h = get_or-take (m - a) (drop a o) k 0 h ∙ get_or-drop a o k 0
+
+  -- a place of the part, as one of the run
+  part-inside : (k : ℕ) → k < m - a → Inside a b (a + k)
+  part-inside k h = record { from = omega arith; below = omega arith }
+
+  -- what holds at each place of the run holds at each of the part
+  pub part-each : (n : ℕ) → ((k : ℕ) → Inside a b k → get_or o k 0 < n) → (k : ℕ) → k < length (part_of o a m) → get_or (part_of o a m) k 0 < n
+  part-each n f k h =
+      let l : k < m - a = omega (arith, part-long) in
+      omega (arith, part-read k l, f (a + k) (part-inside k l))
+
+module _ (o p : List ℕ) (a b m : ℕ) (is : m ≡ max a b) (room : m ≤ length o) (long : length p ≡ length (part_of o a m)) where
+  abbrev part : List ℕ
+  part = part_of o a m
+
+  abbrev joined : List ℕ
+  joined = joined_of o p a m
+
+  front-long : length (take a o) ≡ a
+  front-long = length-take-le a o (omega arith)
+
+  joined-long : length joined ≡ length o
+  joined-long =
+      omega (
+        arith,
+        length-append (take a o) (p ++ drop (m - a) (drop a o)),
+        length-append p (drop (m - a) (drop a o)),
+        length-drop (m - a) (drop a o),
+        length-drop a o,
+        front-long,
+        part-long o a b m is room,
+        long,
+      )
+
+  before : (k : ℕ) → k < a → get_or joined k 0 ≡ get_or o k 0
+  before k h = get_or-append (take a o) _ 0 k (omega (arith, front-long)) ∙ get_or-take a o k 0 h
+
+  within : (k : ℕ) → k < m - a → get_or joined (a + k) 0 ≡ get_or p k 0
+  within k h =
+      get_or-append_right (take a o) _ a (a + k) 0 front-long (omega arith)
+      ∙ ap (λ (j : ℕ). get_or (p ++ drop (m - a) (drop a o)) j 0) (step a k)
+      ∙ get_or-append p _ 0 k (omega (arith, long, part-long o a b m is room))
+    where
+      step : (a k : ℕ) → a + k - a ≡ k
+      step a k = omega arith
+
+  behind : (k : ℕ) → m ≤ k → get_or joined k 0 ≡ get_or o k 0
+  behind k h =
+      get_or-append_right (take a o) _ a k 0 front-long (omega arith)
+      ∙ get_or-append_right p _ (m - a) (k - a) 0 (long ∙ part-long o a b m is room) (omega arith)
+      ∙ get_or-drop (m - a) (drop a o) (k - a - (m - a)) 0
+      ∙ get_or-drop a o (m - a + (k - a - (m - a))) 0
+      ∙ ap (λ (j : ℕ). get_or o j 0) (back a m k (omega arith) h)
+    where
+      back : (a m k : ℕ) → a ≤ m → m ≤ k → a + (m - a + (k - a - (m - a))) ≡ k
+      back a m k f g = omega arith
+
+  -- a place of the run, as a place of the part
+  place : (k : ℕ) → Inside a b k → k - a < m - a
+  place k w = omega arith
+
+  here : (k : ℕ) → Inside a b k → k ≡ a + (k - a)
+  here k w = omega arith
+
+  inside : (k : ℕ) → k < m - a → Inside 0 (length part) k
+  inside k h = omega (arith, part-long o a b m is room)
+
+  outside : (k : ℕ) → (Inside a b k → ⊥) → a ≤ k → m ≤ k
+  outside k w h = ⊎_elim (λ l. absurd (w (record { from = h; below = l }))) (λ l. omega arith) (order k b)
+
+  pub run-counted : RunCounted part p 0 (length part) → RunCounted o joined a b
+  run-counted r =
+      record {
+        same = joined-long;
+        hit = λ k w.
+            let e = here k w in
+            let h = place k w in
+            ap (λ (j : ℕ). get_or joined j 0) e ∙ within (k - a) h ∙ r.hit (k - a) (inside (k - a) h)
+            ∙ ap (λ (j : ℕ). j + 1) (part-read o a b m is room (k - a) h ∙ sym (ap (λ (j : ℕ). get_or o j 0) e));
+        kept = λ k w. ⊎_elim (before k) (λ h. behind k (outside k w h)) (order k a);
+      }
+
+  pub run-placed : (l l' : List ℕ) (id : ℕ) → RunPlaced part l p l' id 0 (length part) → RunPlaced o l joined l' id a b
+  run-placed l l' id r =
+      record {
+        cursors = run-counted r.cursors;
+        same-list = r.same-list;
+        placed = λ k w.
+            let e = here k w in
+            let h = place k w in
+            ap (λ (j : ℕ). get_or l' j 0) (ap (λ (j : ℕ). get_or o j 0) e ∙ sym (part-read o a b m is room (k - a) h)) ∙ r.placed (k - a) (inside (k - a) h);
+        other = λ j f. r.other j (λ k w e. f (a + k) (part-inside o a b m is room k (below k w)) (e ∙ part-read o a b m is room k (below k w)));
+        either = r.either;
+      }
+    where
+      below : (k : ℕ) → Inside 0 (length part) k → k < m - a
+      below k w = omega (arith, part-long o a b m is room)
 
 -- the sums up to below c are stored, and the elements from c on are still as they were
 pub record SummedTo (o₀ o : List ℕ) (c : ℕ) : Type 0 where

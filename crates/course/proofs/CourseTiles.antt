@@ -1,5 +1,7 @@
 -- The points and tiles of columns. Assumes nothing.
-use Rattle.std.proofs.Common.{◌≡◌, ℕ, zero, suc, ◌+◌, ◌-◌, ◌*◌, ◌<◌, ◌≤◌, Bool, true, ◌&&◌, List, [], ◌∷◌, ◌++◌, length, get_or, take, sym, refl, ap, ◌∙◌, subst, ap₂, add-one, sub-one, arith, length-append, length-take-le, get_or-take, take-suc, ext_get_or}
+use Rattle.std.proofs.Common.{◌≡◌, ℕ, zero, suc, ◌+◌, ◌-◌, ◌*◌, ◌<◌, ◌≤◌, Bool, true, ◌&&◌, List, [], ◌∷◌, ◌++◌, map, length, get_or, take, sym, refl, ap, ◌∙◌, subst, ap₂, add-one, zero-add, sub-one, arith, length-append, length-take-le, get_or-take, take-suc, ext_get_or}
+use Rattle.std.specs.List.{list_all, range_with_len}
+use Rattle.std.proofs.lemmas.List.FromFn.{map-range_with_len_more}
 use mathlib.Core.List.{map-append}
 use lib.ListN.{get_or-append}
 use lib.Seq.{get_or_at}
@@ -68,6 +70,23 @@ points-front b e n p q r m (suc k) hb he hn h =
     rw (points-front b e n p q r m k hb he hn (omega arith), front_read b p m k hb h, front_read e q m k he h, front_read n r m k hn h)
 
 -- ---- refusals
+points-each : (b e n : List Float) (k : ℕ) → points_of b e n k ≡ map (point_at b e n) (range_with_len 0 k)
+unfolding points_of
+points-each b e n zero = refl
+points-each b e n (suc k) =
+    ap (λ (ps : List TrackPoint). ps ++ (point_at b e n k ∷ [])) (points-each b e n k)
+    ∙ sym (map-range_with_len_more (point_at b e n) 0 k k (zero-add k))
+    ∙ ap (λ (m : ℕ). map (point_at b e n) (range_with_len 0 m)) (add-one k)
+
+good-list : (f : ℕ → TrackPoint) (is : List ℕ) → list_all (λ i. good_point (f i)) is ≡ all_good (map f is)
+unfolding all_good
+good-list f [] = refl
+good-list f (i ∷ is) = ap (λ (z : Bool). good_point (f i) && z) (good-list f is)
+
+-- each number's point passes
+pub good-each : (b e n : List Float) (k : ℕ) → list_all (λ i. good_point (point_at b e n i)) (range_with_len 0 k) ≡ all_good (points_of b e n k)
+good-each b e n k = good-list (point_at b e n) (range_with_len 0 k) ∙ sym (ap all_good (points-each b e n k))
+
 pub good_none : (b e n : List Float) → all_good (points_of b e n 0) ≡ true
 unfolding all_good points_of
 good_none b e n = refl

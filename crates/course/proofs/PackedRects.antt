@@ -1,5 +1,5 @@
 -- Rectangles packed in a column: what is read is what was packed, and the index of the rectangles is that of their tiles. Assumes nothing.
-use Rattle.std.proofs.Common.{◌≡◌, ℕ, zero, suc, ◌+◌, ◌-◌, ◌*◌, ◌/◌, ◌%◌, ◌<◌, ◌≤◌, Bool, false, not, T, List, [], ◌∷◌, ◌++◌, length, get_or, take, drop, set, replicate, get_or-take, sym, refl, ap, ◌∙◌, subst, ap₂, ⊎_elim, le_of_suc-le-suc, eq-or-lt_of_le, add-one, arith, length-set, get_or-set_other, get_or-set_same, drop-drop, drop-set-lt}
+use Rattle.std.proofs.Common.{◌≡◌, ℕ, zero, suc, ◌+◌, ◌-◌, ◌*◌, ◌/◌, ◌%◌, ◌<◌, ◌≤◌, Bool, false, not, T, List, [], ◌∷◌, ◌++◌, length, get_or, take, drop, set, replicate, sym, refl, ap, ◌∙◌, subst, ap₂, ⊎_elim, le_of_suc-le-suc, eq-or-lt_of_le, add-one, arith, get_or-set_other, get_or-set_same, drop-drop}
 use lib.Ieee.{Float, nan, is_nan, nan_bits, binary64, of_bits, to_bits}
 use lib.Ieee.Bits.{to_bits-of_bits, nan_bits_is}
 use Rattle.course.specs.Rules.Constants.{grid_dim}
@@ -64,46 +64,31 @@ packs r s =
     }
 
 -- ---- the column
-module _ (tiles : List Float) (n : ℕ) where
-  pub packed_none : (rects : List Float) → RectsPacked tiles n 0 rects rects
-  packed_none rects = record { same = refl; past = refl; each = λ k l. absurd (none k l) }
-    where
-      none : (k : ℕ) → k < 0 → ⊥
-      none k l = omega arith
+module _ (tiles : List Float) where
+  pub packed_none : (rects : List Float) → RectsPacked tiles 0 rects
+  packed_none rects = record { each = λ k l. absurd (omega (arith, l)) }
 
   -- one more rectangle
-  pub packed_more : (i : ℕ) (rects rects' : List Float) (v : Float) → i < n → i < length rects' → Packs v (rect_of tiles i) → RectsPacked tiles n i rects rects' → RectsPacked tiles n (i + 1) rects (set rects' i v)
-  packed_more i rects rects' v few room p t = record {
-    same = length-set rects' i v ∙ t.same;
-    past = drop-set-lt n rects' i v few ∙ t.past;
-    each = λ k l. ⊎_elim (here k) (λ m. there k m (t.each k m)) (eq-or-lt_of_le (le_of_suc-le-suc (rw add-one at l)));
-  }
+  pub packed_more : (i : ℕ) (rects : List Float) (v : Float) → i < length rects → Packs v (rect_of tiles i) → RectsPacked tiles i rects → RectsPacked tiles (i + 1) (set rects i v)
+  packed_more i rects v room p t = record { each = λ k l. ⊎_elim (here k) (λ m. there k m (t.each k m)) (eq-or-lt_of_le (le_of_suc-le-suc (rw add-one at l))) }
     where
-      here : (k : ℕ) → k ≡ i → Packs (get_or (set rects' i v) k nan) (rect_of tiles k)
-      here k e = subst (λ (z : ℕ). Packs (get_or (set rects' i v) z nan) (rect_of tiles z)) (sym e) (subst (λ (w : Float). Packs w (rect_of tiles i)) (sym (get_or-set_same rects' i v nan room)) p)
+      here : (k : ℕ) → k ≡ i → Packs (get_or (set rects i v) k nan) (rect_of tiles k)
+      here k e = subst (λ (z : ℕ). Packs (get_or (set rects i v) z nan) (rect_of tiles z)) (sym e) (subst (λ (w : Float). Packs w (rect_of tiles i)) (sym (get_or-set_same rects i v nan room)) p)
 
-      there : (k : ℕ) → k < i → Packs (get_or rects' k nan) (rect_of tiles k) → Packs (get_or (set rects' i v) k nan) (rect_of tiles k)
-      there k m q = subst (λ (w : Float). Packs w (rect_of tiles k)) (sym (get_or-set_other rects' i k v nan (λ e. apart k m e))) q
+      there : (k : ℕ) → k < i → Packs (get_or rects k nan) (rect_of tiles k) → Packs (get_or (set rects i v) k nan) (rect_of tiles k)
+      there k m q = subst (λ (w : Float). Packs w (rect_of tiles k)) (sym (get_or-set_other rects i k v nan (λ e. apart k m e))) q
         where
           apart : (k : ℕ) → k < i → k ≡ i → ⊥
           apart k m e = omega arith
 
-  -- the part that is read afterwards
-  pub front-packed : {rects rects' : List Float} → n ≤ length rects → RectsPacked tiles n n rects rects' → RectsPacked tiles n n (take n rects') (take n rects')
-  front-packed {rects} {rects'} room t = record {
-    same = refl;
-    past = refl;
-    each = λ k l. subst (λ (w : Float). Packs w (rect_of tiles k)) (sym (get_or-take n rects' k nan l)) (t.each k l);
-  }
-
-  pub rects-in : {rects rects' : List Float} → n ≤ most_points → length rects' ≡ n → RectsPacked tiles n n rects rects' → RectsIn rects'
-  rects-in few long t = record {
+  pub rects-in : (n : ℕ) {rects : List Float} → n ≤ most_points → length rects ≡ n → RectsPacked tiles n rects → RectsIn rects
+  rects-in n few long t = record {
     few = omega (arith, long);
     each = λ i l.
         let p = t.each i (omega (arith, l, long)) in record { number = p.number; small = subst Small (sym p.same) (rect-small tiles i) };
   }
 
-  held_same : {rects rects' : List Float} → RectsPacked tiles n n rects rects' → (i c : ℕ) → i < n → held_in rects' i c ≡ holds_of tiles i c
+  held_same : {n : ℕ} {rects : List Float} → RectsPacked tiles n rects → (i c : ℕ) → i < n → held_in rects i c ≡ holds_of tiles i c
   held_same t i c l = ap (λ (r : Rect). holds r c) (t.each i l).same
 
 -- ---- two tests that agree below n
@@ -139,14 +124,14 @@ module _ {h g : ℕ → ℕ → Bool} where
     offsets-same cells = table_same (cells + 1)
 
 -- the cells summed are the length of the rectangles' index
-pub needed-packed : {tiles : List Float} {n : ℕ} {rects rects' : List Float} → RectsPacked tiles n n rects rects' → needed tiles n ≡ start (held_in rects') n cell_count
-needed-packed {tiles} {n} t = needed-start tiles n ∙ sym (start-same n (held_same tiles n t) cell_count)
+pub needed-packed : {tiles : List Float} {n : ℕ} {rects : List Float} → RectsPacked tiles n rects → needed tiles n ≡ start (held_in rects) n cell_count
+needed-packed {tiles} {n} t = needed-start tiles n ∙ sym (start-same n (held_same tiles t) cell_count)
 
 -- the index laid by the rectangles is that of the tiles
-pub packed-laid : {tiles : List Float} {n : ℕ} {rects rects' : List Float} {o l : List ℕ} {need : ℕ} {o' l' : List ℕ} → RectsPacked tiles n n rects rects' → need ≡ needed tiles n → need ≤ length l
-    → o' ≡ offsets_of (held_in rects') n cell_count → l' ≡ index_of (held_in rects') n cell_count → Built tiles n o l (o' ++ drop offset_count o) (l' ++ drop need l) false need
+pub packed-laid : {tiles : List Float} {n : ℕ} {rects : List Float} {o l : List ℕ} {need : ℕ} {o' l' : List ℕ} → RectsPacked tiles n rects → need ≡ needed tiles n → need ≤ length l
+    → o' ≡ offsets_of (held_in rects) n cell_count → l' ≡ index_of (held_in rects) n cell_count → Built tiles n o l (o' ++ drop offset_count o) (l' ++ drop need l) false need
 packed-laid {tiles} {n} {l = l} t is room eo el =
-    let e = held_same tiles n t in
+    let e = held_same tiles t in
     built-laid tiles is (subst (λ (z : ℕ). z ≤ length l) is room) (eo ∙ offsets-same n e cell_count) (el ∙ index_same n e cell_count)
 
 -- ---- the scratch is cleared

@@ -7,5 +7,7 @@ pub mod Root
 pub mod Index
 -- of tiles, points and curbs
 pub mod Tiles
+-- of given points
+pub mod Points
 -- of checkpoints, walk, track and lay
 pub mod Lay

@@ -1,5 +1,5 @@
 // Copies, moves and zeros in one lent column.
-ghost use Rattle.std.specs.Prelude.{◌≡◌, ◌+◌, ◌-◌, ◌<◌, ◌≤◌, ◌++◌, length, take, drop, replicate};
+ghost use Rattle.std.specs.Prelude.{◌≡◌, ◌+◌, ◌-◌, ◌≤◌, ◌++◌, length, take, drop, replicate};
 ghost use Rattle.course.specs.Rules.Arithmetic.{nought};
 
 // The first n entries of `from` go to the front of the column.

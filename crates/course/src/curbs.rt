@@ -1,6 +1,6 @@
 // Curbs of the caller's own points (document 01, "Beside the run": Curbs). A point's mark is worked out
 // from the given angles whenever it is asked for, so no mark is taken after another was spread.
-ghost use Rattle.std.specs.Prelude.{◌≡◌, ◌+◌, ◌-◌, ◌*◌, ◌<◌, ◌≤◌, Bool, ◌++◌, length, slice_set};
+ghost use Rattle.std.specs.Prelude.{◌≡◌, ◌+◌, ◌-◌, ◌*◌, ◌<◌, ◌≤◌, length};
 ghost use Rattle.course.specs.Rules.Lengths.{most_points, quad_numbers};
 ghost use Rattle.course.specs.Rules.Tiles.{point_at, before_of};
 ghost use Rattle.course.specs.Rules.Trig.{sin_cos_of};
@@ -194,13 +194,7 @@ pub fn curbs(
     let m = constants::column_length(n);
     points::count_check(n)?;
     room_check(m, quads, white)?;
-    points::given_check(pbeta, px, py, n)?;
-    let points = PointColumns {
-        beta: pbeta,
-        x: px,
-        y: py,
-        count: n,
-    };
+    let points = points::given_check(pbeta, px, py, n)?;
     let found = write_curbs(&points, quads, white);
     columns::clear_from(quads, found * 8, 8 * m);
     white[found..m].fill(0);

@@ -2,41 +2,47 @@
 // Built in two passes over the rectangles, count and then fill by ascending id, in the lent columns alone.
 // While it is filled, place c + 1 of the offsets is the cursor of cell c: it starts where the part of cell c starts, and ends where the
 // part of cell c + 1 does. So cell c is counted at place c + 2, and the last cell, which no part follows, is not counted.
-ghost use Rattle.std.specs.Prelude.{◌≡◌, ℕ, ◌+◌, ◌*◌, ◌<◌, ◌≤◌, true, false, ◌++◌, length, drop, slice_index, MatchOption};
+ghost use Rattle.std.specs.Prelude.{◌≡◌, ℕ, ◌+◌, ◌*◌, ◌<◌, ◌≤◌, true, false, length, drop, slice_index, MatchOption};
 ghost use Rattle.course.specs.Rules.Lengths.{cell_count, most_points, offset_count};
 ghost use Rattle.course.specs.Rules.Cell.{cell_at};
 ghost use Rattle.course.specs.Rules.Rect.{holds, needed};
 ghost use Rattle.course.specs.Grader.Index.{start, index_of, offsets_of, part_ok, lookup};
-ghost use Rattle.course.specs.Steps.Index.{rect_as, Built, is_short, length_needed, Inside, RunCounted, RectCounted, Counts, Summed, RunPlaced, RectPlaced, Placed, held_in, RectsPacked, RectsIn};
+ghost use Rattle.course.specs.Grader.Rect.{rect_as};
+ghost use Rattle.course.specs.Steps.Index.{Built, is_short, length_needed, RunCounted, RectCounted, Counts, Summed, RunPlaced, RectPlaced, Placed, held_in, RectsPacked, RectsIn};
 
 use crate::cell::cell_at;
 use crate::constants::{GRID_DIM, OFFSET_COUNT};
 use crate::rect::Rect;
 
+// Rectangles within the grid, packed one to a number.
+#[derive(Clone, Copy)]
+struct PackedRects<'a> {
+    numbers: &'a [f64],
+    ghost rects_in: { RectsIn numbers.now },
+}
+
 // The rectangles, packed, and their cells summed.
-fn total(tiles: &[f64], n: usize, rects: &mut [f64]) -> usize
-    requires n_le_most_points { (n ≤ most_points) × (n * 8 ≤ length tiles.now) }
-    requires n_in_bounds { n ≤ length rects.old }
-    ensures value { result ≡ needed tiles.now n }
-    ensures rects_packed { RectsPacked tiles.now n n rects.old rects.new }
+fn total(tiles: &[f64], rects: &mut [f64]) -> usize
+    requires { (length rects.old ≤ most_points) × (length rects.old * 8 ≤ length tiles.now) }
+    ensures value { result ≡ needed tiles.now (length rects.old) }
+    ensures rects_packed { RectsPacked tiles.now (length rects.old) rects.new }
 {
     let mut sum: usize = 0;
-    for i in 0..n {
+    for (i, rect) in rects.iter_mut().enumerate() {
         let r = Rect::of_tile(tiles, i);
-        rects[i] = r.pack();
+        *rect = r.pack();
         sum += r.area();
     }
     sum
 }
 
 // One more at each place of a run.
-fn count_run(o: &mut [u32], a: usize, b: usize)
-    requires b_in_bounds { b ≤ length o.old }
-    requires by_index { (k : ℕ) → Inside a b k → slice_index o.old k < most_points }
-    ensures { RunCounted o.old o.new a b }
+fn count_run(run: &mut [u32])
+    requires { (k : ℕ) → k < length run.old → slice_index run.old k < most_points }
+    ensures { RunCounted run.old run.new 0 (length run.old) }
 {
-    for k in a..b {
-        o[k] += 1;
+    for count in run.iter_mut() {
+        *count += 1;
     }
 }
 
@@ -47,17 +53,17 @@ fn count_rect(o: &mut [u32; OFFSET_COUNT], r: Rect)
 {
     for y in r.y0..=r.y1 {
         let end = usize::min(y * GRID_DIM + r.x1 + 3, OFFSET_COUNT);
-        count_run(o, y * GRID_DIM + r.x0 + 2, end);
+        let from = y * GRID_DIM + r.x0 + 2;
+        count_run(&mut o[from..usize::max(from, end)]);
     }
 }
 
 // How many tiles each cell but the last lists.
-fn count_all(rects: &[f64], o: &mut [u32; OFFSET_COUNT])
-    requires rects_in { RectsIn rects.now }
-    requires counts { Counts (held_in rects.now) 0 o.old }
-    ensures { Counts (held_in rects.now) (length rects.now) o.new }
+fn count_all(rects: &PackedRects, o: &mut [u32; OFFSET_COUNT])
+    requires { Counts (held_in rects.now.numbers.now) 0 o.old }
+    ensures { Counts (held_in rects.now.numbers.now) (length rects.now.numbers.now) o.new }
 {
-    for v in rects {
+    for v in rects.numbers {
         count_rect(o, Rect::unpack(*v));
     }
 }
@@ -75,15 +81,14 @@ fn sum_up(o: &mut [u32; OFFSET_COUNT])
 }
 
 // The id goes where each cursor of a run points, and the cursor one further.
-fn place_run(o: &mut [u32], l: &mut [u32], id: u32, a: usize, b: usize)
-    requires b_in_bounds { b ≤ length o.old }
+fn place_run(run: &mut [u32], l: &mut [u32], id: u32)
     requires l_len_bound { length l.old ≤ most_points * cell_count }
-    requires by_index { (k : ℕ) → Inside a b k → slice_index o.old k < length l.old }
-    ensures { RunPlaced o.old l.old o.new l.new id a b }
+    requires by_index { (k : ℕ) → k < length run.old → slice_index run.old k < length l.old }
+    ensures { RunPlaced run.old l.old run.new l.new id 0 (length run.old) }
 {
-    for k in a..b {
-        l[o[k] as usize] = id;
-        o[k] += 1;
+    for cursor in run.iter_mut() {
+        l[*cursor as usize] = id;
+        *cursor += 1;
     }
 }
 
@@ -95,27 +100,27 @@ fn place_rect(o: &mut [u32; OFFSET_COUNT], l: &mut [u32], id: u32, r: Rect)
     ensures { RectPlaced o.old l.old o.new l.new id (rect_as r) }
 {
     for y in r.y0..=r.y1 {
-        place_run(o, l, id, y * GRID_DIM + r.x0 + 1, y * GRID_DIM + r.x1 + 2);
+        let from = y * GRID_DIM + r.x0 + 1;
+        let end = y * GRID_DIM + r.x1 + 2;
+        place_run(&mut o[from..usize::max(from, end)], l, id);
     }
 }
 
 // All ids, ascending: each cursor ends where the next cell's part starts.
-fn place_all(rects: &[f64], o: &mut [u32; OFFSET_COUNT], l: &mut [u32])
-    requires rects_in { RectsIn rects.now }
-    requires placed { Placed (held_in rects.now) (length rects.now) 0 o.old l.old }
-    ensures { Placed (held_in rects.now) (length rects.now) (length rects.now) o.new l.new }
+fn place_all(rects: &PackedRects, o: &mut [u32; OFFSET_COUNT], l: &mut [u32])
+    requires { Placed (held_in rects.now.numbers.now) (length rects.now.numbers.now) 0 o.old l.old }
+    ensures { Placed (held_in rects.now.numbers.now) (length rects.now.numbers.now) (length rects.now.numbers.now) o.new l.new }
 {
-    for (i, v) in rects.iter().enumerate() {
+    for (i, v) in rects.numbers.iter().enumerate() {
         place_rect(o, l, i as u32, Rect::unpack(*v));
     }
 }
 
 // The index of the rectangles, in columns of just the lengths that it has.
-fn lay_index(rects: &[f64], o: &mut [u32; OFFSET_COUNT], l: &mut [u32])
-    requires rects_in { RectsIn rects.now }
-    requires l_len { length l.old ≡ start (held_in rects.now) (length rects.now) cell_count }
-    ensures o_after { o.new ≡ offsets_of (held_in rects.now) (length rects.now) cell_count }
-    ensures l_after { l.new ≡ index_of (held_in rects.now) (length rects.now) cell_count }
+fn lay_index(rects: &PackedRects, o: &mut [u32; OFFSET_COUNT], l: &mut [u32])
+    requires { length l.old ≡ start (held_in rects.now.numbers.now) (length rects.now.numbers.now) cell_count }
+    ensures o_after { o.new ≡ offsets_of (held_in rects.now.numbers.now) (length rects.now.numbers.now) cell_count }
+    ensures l_after { l.new ≡ index_of (held_in rects.now.numbers.now) (length rects.now.numbers.now) cell_count }
 {
     o.fill(0);
     count_all(rects, o);
@@ -139,12 +144,13 @@ pub(crate) fn build_index(
         list.new (is_short result) (length_needed result) }
     ensures rects_unchanged { drop n rects.new ≡ drop n rects.old }
 {
-    let need = total(tiles, n, rects);
+    let numbers = &mut rects[..n];
+    let need = total(tiles, numbers);
     if list.len() < need {
         return Err(need);
     }
     let o = offsets.first_chunk_mut::<OFFSET_COUNT>().unwrap();
-    lay_index(&rects[..n], o, &mut list[..need]);
+    lay_index(&PackedRects { numbers }, o, &mut list[..need]);
     Ok(need)
 }
 

@@ -1,5 +1,5 @@
 // A course from the caller's own points (document 01, "Beside the run": Points), and what lay shares with it.
-ghost use Rattle.std.specs.Prelude.{◌≡◌, ◌+◌, ◌-◌, ◌*◌, ◌<◌, ◌≤◌, Bool, ◌++◌, length, take, drop};
+ghost use Rattle.std.specs.Prelude.{◌≡◌, ◌+◌, ◌-◌, ◌*◌, ◌<◌, ◌≤◌, ◌++◌, length, take, drop, Err, MatchResult};
 ghost use Rattle.course.specs.Rules.Lengths.{most_points};
 ghost use Rattle.course.specs.Rules.Tiles.{points_of};
 ghost use Rattle.course.specs.Grader.Cause.{check};
@@ -7,6 +7,7 @@ ghost use Rattle.course.specs.Grader.Outcome.{lent, lent_to, left_by, outcome, r
 ghost use Rattle.course.specs.Grader.Points.{good_point, all_good, given_of, count_cause, columns_cause, points_call};
 ghost use Rattle.course.specs.declared.cause.Cause.TheVariants.{Length};
 ghost use Rattle.course.specs.declared.points.LayError.TheVariants.{Refused};
+ghost use Rattle.course.specs.Steps.Points.{Given};
 ghost use Rattle.course.specs.Steps.Tiles.{Roomy};
 
 use crate::cause::Cause;
@@ -16,7 +17,7 @@ use crate::tiles::{PointColumns, TrackPoint};
 use crate::{columns, constants, index, numeric, tiles};
 
 // The values of a course's answer.
-#[derive(Clone, Copy)]
+#[derive(Clone, Copy, Default)]
 pub struct LaidCourse {
     // how many points and tiles the course has
     pub n: u32,
@@ -84,16 +85,9 @@ pub fn laid_cause(answer: &Result<LaidCourse, LayError>) -> u32
 fn no_course(entries: u32) -> LaidCourse
     ensures { result ≡ no_course entries }
 {
-    let first = TrackPoint {
-        beta: 0.0,
-        x: 0.0,
-        y: 0.0,
-    };
     LaidCourse {
-        n: 0,
-        fallback: false,
         entries,
-        first,
+        ..LaidCourse::default()
     }
 }
 
@@ -119,11 +113,7 @@ fn good_point(p: TrackPoint) -> bool
 pub(crate) fn all_good(points: &PointColumns) -> bool
     ensures { result ≡ all_good (points_of points.now.beta.now points.now.x.now points.now.y.now points.now.count) }
 {
-    let mut ok = true;
-    for i in 0..points.count {
-        ok &= good_point(points.point_at(i));
-    }
-    ok
+    (0..points.count).all(|i| good_point(points.point_at(i)))
 }
 
 // Cause 2 of lent columns: each has its length, those of points m entries.
@@ -161,24 +151,24 @@ pub(crate) fn count_check(count: usize) -> Result<(), Cause>
     Ok(())
 }
 
-// Causes 2 and 8 of given points: their columns have the count given with them, and each point is within its range.
+// The given points, once their columns have the count given with them (cause 2) and each point is within its range (8).
 #[tactic(auto, unfolding(crate::specs::Grader::Points::columns_cause, crate::specs::Grader::Points::given_of))]
-pub(crate) fn given_check(b: &[f64], x: &[f64], y: &[f64], count: usize) -> Result<(), Cause>
-    ensures { result ≡ columns_cause b.now x.now y.now count }
+pub(crate) fn given_check<'a>(
+    beta: &'a [f64],
+    x: &'a [f64],
+    y: &'a [f64],
+    count: usize,
+) -> Result<PointColumns<'a>, Cause>
+    ensures { MatchResult result (Given beta.now x.now y.now count) (λ e. Err e ≡ columns_cause beta.now x.now y.now count) }
 {
-    if b.len() < count || x.len() < count || y.len() < count {
+    if beta.len() < count || x.len() < count || y.len() < count {
         return Err(Cause::Length);
     }
-    let points = PointColumns {
-        beta: b,
-        x,
-        y,
-        count,
-    };
+    let points = PointColumns { beta, x, y, count };
     if !all_good(&points) {
         return Err(Cause::Range);
     }
-    Ok(())
+    Ok(points)
 }
 
 // Zeros, tiles and index, once the columns, of m points, begin with the n points.
@@ -267,13 +257,7 @@ pub fn points(
     let m = constants::column_length(n);
     count_check(n)?;
     room_check(m, alpha, beta, x, y, tiles, offsets)?;
-    given_check(pbeta, px, py, n)?;
-    let points = PointColumns {
-        beta: pbeta,
-        x: px,
-        y: py,
-        count: n,
-    };
+    let points = given_check(pbeta, px, py, n)?;
     copy_points(&points, beta, x, y);
     finish(m, false, n, alpha, beta, x, y, tiles, offsets, list)
 }

@@ -6,11 +6,6 @@ use Rattle.course.specs.Rules.Lengths.{cell_count, most_points, offset_count}
 use Rattle.course.specs.Rules.Counting.{digit}
 use Rattle.course.specs.Grader.Index.{listed, start, offsets_of, index_of}
 use Rattle.course.specs.Rules.Rect.{Rect, rect_of, holds, holds_of, needed}
-use Rattle.course.specs.declared.rect.Rect.{Rect as CodeRect}
-
--- the code's struct as the definitions' own
-abbrev pub rect_as : CodeRect → Rect
-rect_as r = record { x0 = r.x0; x1 = r.x1; y0 = r.y0; y1 = r.y1 }
 
 -- a test on places: whether k is from a up to below b
 pub record Inside (a b k : ℕ) : Type 0 where
@@ -122,8 +117,6 @@ pub record RectsIn (rects : List Float) : Type 0 where
   pub few : length rects ≤ most_points
   pub each : (i : ℕ) → i < length rects → Packed (slice_index_or rects i nan)
 
--- the rectangles of the tiles below i are packed, and the entries from n on are as before
-pub record RectsPacked (tiles : List Float) (n i : ℕ) (rects rects' : List Float) : Type 0 where
-  pub same : length rects' ≡ length rects
-  pub past : drop n rects' ≡ drop n rects
-  pub each : (k : ℕ) → k < i → Packs (slice_index_or rects' k nan) (rect_of tiles k)
+-- the rectangles of the tiles below n are packed
+pub record RectsPacked (tiles : List Float) (n : ℕ) (rects : List Float) : Type 0 where
+  pub each : (k : ℕ) → k < n → Packs (slice_index_or rects k nan) (rect_of tiles k)

@@ -1,10 +1,14 @@
 -- `course::curbs::curbs` meets its contract. Assumes nothing.
 use Rattle.course.proofs.CurbLaws.{fits, turned-down, all-edged}
 use Rattle.course.proofs.ColumnLaws.{part-filled}
-use Rattle.std.proofs.Common.{◌≤◌, length, arith, rules}
+use Rattle.std.proofs.Common.{ℕ, ◌≤◌, List, length, arith, rules}
+use lib.Ieee.{Float}
+use Rattle.course.specs.Grader.Curbs.{curb_room}
+use Rattle.course.specs.Steps.Tiles.{CurbsTo}
 use Rattle.std.proofs.lemmas.Result.{err_from_is_err_and}
-use Rattle.course.proofs.LaidColumns.{passed, by-count, by-room, by-columns}
+use Rattle.course.proofs.LaidColumns.{Passed, passed, by-count, by-room, by-columns}
 use Rattle.course.proofs.curbs.curbs.Goals as goal
+use Rattle.course.proofs.curbs.curbs.Goals.{After-write_curbs-found}
 
 pub returns-in_err-count_check : goal.returns-in_err-count_check
 returns-in_err-count_check c =
@@ -16,44 +20,50 @@ returns-in_err-room_check c =
     let p = err_from_is_err_and c.from_residual-in_err-room_check.result c.from_residual-in_err-room_check.ensures.1 in
     turned-down _ _ _ _ c.column_length-m.ensures.value (rw (p.1, p.2)) (by-room _ _ _ _ _ c.in_ok-count_check.ensures c.in_err-room_check.ensures)
 
-pub returns-in_err-given_check : goal.returns-in_err-given_check
-returns-in_err-given_check c =
-    let p = err_from_is_err_and c.from_residual-in_err-given_check.result c.from_residual-in_err-given_check.ensures.1 in
+pub returns-in_err-points : goal.returns-in_err-points
+returns-in_err-points c =
+    let p = err_from_is_err_and c.from_residual-in_err-points.result c.from_residual-in_err-points.ensures.1 in
     turned-down _ _ _ _ c.column_length-m.ensures.value (rw (p.1, p.2))
-    (by-columns _ _ _ _ _ c.in_ok-count_check.ensures c.in_ok-room_check.ensures c.in_err-given_check.ensures)
+    (by-columns _ _ _ _ _ c.in_ok-count_check.ensures c.in_ok-room_check.ensures c.in_err-points.ensures)
 
 pub write_curbs-found-requires : goal.write_curbs-found-requires
 write_curbs-found-requires c =
-    let p = passed _ _ _ _ _ c.in_ok-count_check.ensures c.in_ok-room_check.ensures c.in_ok-given_check.ensures in
+    let p = passed _ _ _ _ _ c.in_ok-count_check.ensures c.in_ok-room_check.ensures c.in_ok-points.ensures.passed in
     let f = fits c.column_length-m.ensures.value p in
-    (omega (arith, f.few, f.small), omega (arith, f.few, f.quads), omega (arith, f.few, f.white))
-
-pub invariant_of-points : goal.invariant_of-points
-invariant_of-points c =
-    let p = passed _ _ _ _ _ c.in_ok-count_check.ensures c.in_ok-room_check.ensures c.in_ok-given_check.ensures in
-    record { beta_long = p.given.beta; x_long = p.given.x; y_long = p.given.y }
+    rw c.in_ok-points.ensures.count (omega (arith, f.few, f.small), omega (arith, f.few, f.quads), omega (arith, f.few, f.white))
 
 pub overflow_mul-m : goal.overflow_mul-m
 overflow_mul-m c = omega (arith, c.column_length-m.ensures.upper_bound)
 
+-- what the code did
+record Written (b e n : List Float) (k m : ℕ) (q : List Float) (w : List ℕ) (found : ℕ) (q' : List Float) (w' : List ℕ) : Type 0 where
+  passed : Passed b e n k (curb_room m q w)
+  curbs : CurbsTo b e n k k found q w q' w'
+  few : found ≤ m
+  room : m ≤ length w'
+
+written : (c : After-write_curbs-found) → Written c.args.pbeta.now c.args.px.now c.args.py.now c.args.count c.column_length-m.result c.args.quads.now c.args.white.now c.write_curbs-found.result c.write_curbs-found.new.quads c.write_curbs-found.new.white
+written c =
+    let g = c.in_ok-points.ensures in
+    let p = passed _ _ _ _ _ c.in_ok-count_check.ensures c.in_ok-room_check.ensures g.passed in
+    let f = fits c.column_length-m.ensures.value p in
+    let t = rw (g.count, g.beta, g.x, g.y) at c.write_curbs-found.ensures in
+    record { passed = p; curbs = t; few = omega (arith, t.few, f.few); room = omega (arith, t.same-white, f.white) }
+
 pub clear_from-requires : goal.clear_from-requires
 clear_from-requires c =
-    let p = passed _ _ _ _ _ c.in_ok-count_check.ensures c.in_ok-room_check.ensures c.in_ok-given_check.ensures in
-    let f = fits c.column_length-m.ensures.value p in
-    (omega (arith, c.write_curbs-found.ensures.few, f.few), omega (arith, c.write_curbs-found.ensures.same-quads, f.quads))
+    let t = written (goal.at.clear_from-requires c).After-write_curbs-found in
+    let f = fits c.column_length-m.ensures.value t.passed in
+    (omega (arith, t.few), omega (arith, t.curbs.same-quads, f.quads))
 
 pub slice_bounds-fill-end : goal.slice_bounds-fill-end
 slice_bounds-fill-end c =
-    let p = passed _ _ _ _ _ c.in_ok-count_check.ensures c.in_ok-room_check.ensures c.in_ok-given_check.ensures in
-    let f = fits c.column_length-m.ensures.value p in
-    let few : c.write_curbs-found.result ≤ c.column_length-m.result = omega (arith, c.write_curbs-found.ensures.few, f.few) in
-    let room : c.column_length-m.result ≤ length c.write_curbs-found.new.white = omega (arith, c.write_curbs-found.ensures.same-white, f.white) in
+    let t = written (goal.at.slice_bounds-fill-end c).After-write_curbs-found in
+    let few = t.few in
+    let room = t.room in
     search rules
 
 pub returns : goal.returns
 returns c =
-    let p = passed _ _ _ _ _ c.in_ok-count_check.ensures c.in_ok-room_check.ensures c.in_ok-given_check.ensures in
-    let f = fits c.column_length-m.ensures.value p in
-    let few : c.write_curbs-found.result ≤ c.column_length-m.result = omega (arith, c.write_curbs-found.ensures.few, f.few) in
-    let room : c.column_length-m.result ≤ length c.write_curbs-found.new.white = omega (arith, c.write_curbs-found.ensures.same-white, f.white) in
-    all-edged _ _ _ _ _ _ _ _ _ _ _ _ c.column_length-m.ensures.value p c.write_curbs-found.ensures c.clear_from.ensures (part-filled _ _ _ _ 0 few room (c.fill.ensures.after (λ y h. h)))
+    let t = written (goal.at.returns c).After-write_curbs-found in
+    all-edged _ _ _ _ _ _ _ _ _ _ _ _ c.column_length-m.ensures.value t.passed t.curbs c.clear_from.ensures (part-filled _ _ _ _ 0 t.few t.room (c.fill.ensures.after (λ y h. h)))

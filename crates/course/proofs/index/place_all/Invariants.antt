@@ -4,4 +4,4 @@ use Rattle.course.specs.Steps.Index.{Placed, held_in}
 use Rattle.course.proofs.index.place_all.Given as goal
 
 abbrev pub invariant-loop-i : goal.invariant-loop-i
-invariant-loop-i l = Placed (held_in l.rects) (length l.rects) l.i l.o l.l
+invariant-loop-i l = Placed (held_in l.rects.numbers.now) (length l.rects.numbers.now) l.i l.o l.l

@@ -7,7 +7,7 @@ use Rattle.course.proofs.PackedRects.{packed_none, packed_more}
 use Rattle.course.proofs.index.total.Goals as goal
 
 pub loop-i-init : goal.loop-i-init
-loop-i-init c = (sym (needed-none _), packed_none _ _ _)
+loop-i-init c = (sym (needed-none _), packed_none _ _)
 
 pub overflow_add-sum : goal.overflow_add-sum
 overflow_add-sum c =
@@ -25,5 +25,5 @@ loop-i-preserved c =
     let l = c.loop-i in
     let p = subst (λ (r : Rect). Packs c.pack.result r) c.of_tile-r.ensures c.pack.ensures in (
       omega (arith, needed-more c.args.tiles.now l.i, l.invariant.0, c.area-sum.ensures, ap area_of c.of_tile-r.ensures),
-      packed_more c.args.tiles.now c.args.n l.i c.args.rects.now l.rects c.pack.result (omega arith) (omega (arith, l.invariant.1.same, c.requires.n_in_bounds)) p l.invariant.1,
+      packed_more c.args.tiles.now l.i l.rects c.pack.result (omega arith) p l.invariant.1,
     )

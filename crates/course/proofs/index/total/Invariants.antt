@@ -5,4 +5,4 @@ use Rattle.course.specs.Rules.Rect.{needed}
 use Rattle.course.proofs.index.total.Given as goal
 
 abbrev pub invariant-loop-i : goal.invariant-loop-i
-invariant-loop-i l = (l.sum ≡ needed l.tiles l.i) × RectsPacked l.tiles l.n l.i l.initial.rects l.rects
+invariant-loop-i l = (l.sum ≡ needed l.tiles l.i) × RectsPacked l.tiles l.i l.rects

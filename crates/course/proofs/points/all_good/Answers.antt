@@ -1,14 +1,15 @@
 -- `course::points::all_good` meets its contract. Assumes nothing.
-use Rattle.course.proofs.CourseTiles.{good_none, good_more}
+use Rattle.std.proofs.Common.{ℕ, ◌∙◌, refl, arith, rules}
+use Rattle.std.proofs.lemmas.Iterator.{YieldsList-from_range}
+use Rattle.std.proofs.lemmas.Iterator.Search.{all_from_yields_List}
+use Rattle.course.specs.Rules.Tiles.{point_at}
 use Rattle.course.specs.Grader.Points.{good_point}
-use Rattle.std.proofs.Common.{◌&&◌, sym, ap, ◌∙◌, ap₂}
-use Rattle.std.proofs.Math.Bool.{and_comm}
+use Rattle.course.proofs.CourseTiles.{good-each}
 use Rattle.course.proofs.points.all_good.Goals as goal
 
-pub loop-i-init : goal.loop-i-init
-loop-i-init c = sym (good_none _ _ _)
-
-pub loop-i-preserved : goal.loop-i-preserved
-loop-i-preserved c =
-    let l = c.loop-i in
-    and_comm l.ok c.good_point-ok.result ∙ ap₂ ◌&&◌ (c.good_point-ok.ensures ∙ ap good_point c.point_at.ensures) l.invariant ∙ sym (good_more _ _ _ l.i)
+pub returns : goal.returns
+returns c =
+    let p = c.args.points.now in
+    all_from_yields_List (λ (i : ℕ). good_point (point_at p.beta.now p.x.now p.y.now i)) _ _ _ c.all.ensures.ran
+    (YieldsList-from_range 0 p.count p.count refl (omega arith)) (λ x b q k. search rules)
+    ∙ good-each p.beta.now p.x.now p.y.now p.count

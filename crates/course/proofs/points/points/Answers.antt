@@ -14,26 +14,21 @@ returns-in_err-room_check c =
     let p = err_from_is_err_and c.from_residual-in_err-room_check.result c.from_residual-in_err-room_check.ensures.1 in
     refused _ _ _ _ c.column_length-m.ensures.value (rw (p.1, p.2)) (by-room _ _ _ _ _ c.in_ok-count_check.ensures c.in_err-room_check.ensures)
 
-pub returns-in_err-given_check : goal.returns-in_err-given_check
-returns-in_err-given_check c =
-    let p = err_from_is_err_and c.from_residual-in_err-given_check.result c.from_residual-in_err-given_check.ensures.1 in
+pub returns-in_err-points : goal.returns-in_err-points
+returns-in_err-points c =
+    let p = err_from_is_err_and c.from_residual-in_err-points.result c.from_residual-in_err-points.ensures.1 in
     refused _ _ _ _ c.column_length-m.ensures.value (rw (p.1, p.2))
-    (by-columns _ _ _ _ _ c.in_ok-count_check.ensures c.in_ok-room_check.ensures c.in_err-given_check.ensures)
-
-pub invariant_of-points : goal.invariant_of-points
-invariant_of-points c =
-    let p = passed _ _ _ _ _ c.in_ok-count_check.ensures c.in_ok-room_check.ensures c.in_ok-given_check.ensures in
-    record { beta_long = p.given.beta; x_long = p.given.x; y_long = p.given.y }
+    (by-columns _ _ _ _ _ c.in_ok-count_check.ensures c.in_ok-room_check.ensures c.in_err-points.ensures)
 
 pub copy_points-requires : goal.copy_points-requires
 copy_points-requires c =
-    let p = passed _ _ _ _ _ c.in_ok-count_check.ensures c.in_ok-room_check.ensures c.in_ok-given_check.ensures in
+    let p = passed _ _ _ _ _ c.in_ok-count_check.ensures c.in_ok-room_check.ensures c.in_ok-points.ensures.passed in
     let f = fit c.column_length-m.ensures.value p in
-    (omega (arith, f.room.beta, f.few), omega (arith, f.room.x, f.few), omega (arith, f.room.y, f.few))
+    rw c.in_ok-points.ensures.count (omega (arith, f.room.beta, f.few), omega (arith, f.room.x, f.few), omega (arith, f.room.y, f.few))
 
 pub finish-requires : goal.finish-requires
 finish-requires c =
-    let p = passed _ _ _ _ _ c.in_ok-count_check.ensures c.in_ok-room_check.ensures c.in_ok-given_check.ensures in
+    let p = passed _ _ _ _ _ c.in_ok-count_check.ensures c.in_ok-room_check.ensures c.in_ok-points.ensures.passed in
     let f = fit c.column_length-m.ensures.value p in
     record {
       n_nonzero = (p.some, f.few, f.small);
@@ -49,6 +44,8 @@ finish-requires c =
 
 pub returns : goal.returns
 returns c =
-    let p = passed _ _ _ _ _ c.in_ok-count_check.ensures c.in_ok-room_check.ensures c.in_ok-given_check.ensures in
+    let p = passed _ _ _ _ _ c.in_ok-count_check.ensures c.in_ok-room_check.ensures c.in_ok-points.ensures.passed in
+    let g = c.in_ok-points.ensures in
+    let t = c.copy_points.ensures in
     accepted _ _ _ _ _ _ _ _ _ _ _ _ _ _ _ _ c.column_length-m.ensures.value p
-    c.copy_points.ensures.beta_after c.copy_points.ensures.x_after c.copy_points.ensures.y_after c.finish.ensures
+    (rw (g.count, g.beta) at t.beta_after) (rw (g.count, g.x) at t.x_after) (rw (g.count, g.y) at t.y_after) c.finish.ensures
