@@ -9,9 +9,9 @@ ghost use Rattle.abi.specs.Grader.Flat.{flat_laid, flat_curbs, flat_started, fla
 ghost use Rattle.run.specs.Grader.Restore.{after_restore};
 
 use certificate::replay::Replayed;
+use course::cause;
 use course::cause::Cause;
 use course::points::{LaidCourse, LayError};
-use course::{cause, points};
 use run::restore::SavedFor;
 use run::sheet::RunSheet;
 use run::start::StartValues;
@@ -177,18 +177,20 @@ impl From<Result<LaidCourse, LayError>> for FlatLaid {
     ghost from_gives = { λ answer flat. flat ≡ flat_laid answer };
 
     // The answer of lay or points.
-    #[tactic(auto, unfolding(crate::specs::Grader::Flat::flat_laid))]
+    #[tactic(auto, unfolding(crate::specs::Grader::Flat::flat_laid, course::specs::Grader::Outcome::laid_cause_of, course::specs::Grader::Outcome::laid_values_of, course::specs::Grader::Outcome::error_entries))]
     fn from(answer: Result<LaidCourse, LayError>) -> FlatLaid {
-        let v = points::laid_values(answer);
-        let first = v.first;
+        let v = answer.unwrap_or_else(|error| LaidCourse {
+            entries: error.entries(),
+            ..LaidCourse::default()
+        });
         FlatLaid {
-            cause: points::laid_cause(&answer),
+            cause: cause::cause_number(&answer),
             n: v.n,
             entries: v.entries,
             fallback: v.fallback,
-            beta: first.beta,
-            x: first.x,
-            y: first.y,
+            beta: v.first.beta,
+            x: v.first.x,
+            y: v.first.y,
         }
     }
 }
@@ -197,7 +199,7 @@ impl From<Result<u32, Cause>> for FlatCurbs {
     ghost from_gives = { λ answer flat. flat ≡ flat_curbs answer };
 
     // The answer of curbs.
-    #[tactic(auto, unfolding(crate::specs::Grader::Flat::flat_curbs, course::specs::Grader::Curbs::curb_cause_of, course::specs::Grader::Curbs::curb_count_of))]
+    #[tactic(auto, unfolding(crate::specs::Grader::Flat::flat_curbs, course::specs::Grader::Curbs::curb_cause_of, course::specs::Grader::Curbs::curb_count_of, course::specs::Grader::Cause::cause_number))]
     fn from(answer: Result<u32, Cause>) -> FlatCurbs {
         FlatCurbs {
             cause: cause::cause_number(&answer),
@@ -220,7 +222,7 @@ fn start_values(answer: Result<StartValues, Cause>) -> StartValues
 impl From<Answered<StartValues>> for FlatStarted {
     ghost from_gives = { λ s f. f ≡ flat_started (begun s.answer (view s.run)) };
 
-    #[tactic(auto, unfolding(crate::specs::Grader::Flat::flat_started, crate::specs::Grader::Flat::run_of, run::specs::Grader::State::view))]
+    #[tactic(auto, unfolding(crate::specs::Grader::Flat::flat_started, crate::specs::Grader::Flat::run_of, run::specs::Grader::State::view, course::specs::Grader::Cause::cause_number))]
     fn from(s: Answered<StartValues>) -> FlatStarted {
         let v = start_values(s.answer);
         FlatStarted {
@@ -236,7 +238,7 @@ impl From<Answered<StartValues>> for FlatStarted {
 impl From<Result<RunSheet, Cause>> for FlatSheet {
     ghost from_gives = { λ a f. f ≡ flat_sheet a };
 
-    #[tactic(auto, unfolding(crate::specs::Grader::Flat::flat_sheet))]
+    #[tactic(auto, unfolding(crate::specs::Grader::Flat::flat_sheet, course::specs::Grader::Cause::cause_number))]
     fn from(answer: Result<RunSheet, Cause>) -> FlatSheet {
         let f = answer.unwrap_or(RunSheet {
             tick: 0,
@@ -264,7 +266,7 @@ impl From<Result<RunSheet, Cause>> for FlatSheet {
 impl From<Result<u32, Cause>> for FlatSaved {
     ghost from_gives = { λ a f. f ≡ flat_saved a };
 
-    #[tactic(auto, unfolding(crate::specs::Grader::Flat::flat_saved))]
+    #[tactic(auto, unfolding(crate::specs::Grader::Flat::flat_saved, course::specs::Grader::Cause::cause_number))]
     fn from(answer: Result<u32, Cause>) -> FlatSaved {
         FlatSaved {
             cause: cause::cause_number(&answer),
@@ -277,7 +279,7 @@ impl From<Result<u32, Cause>> for FlatSaved {
 impl From<Answered<()>> for FlatRestored {
     ghost from_gives = { λ r f. f ≡ flat_restored (after_restore r.answer (view r.run)) };
 
-    #[tactic(auto, unfolding(crate::specs::Grader::Flat::flat_restored, crate::specs::Grader::Flat::run_of, run::specs::Grader::State::view))]
+    #[tactic(auto, unfolding(crate::specs::Grader::Flat::flat_restored, crate::specs::Grader::Flat::run_of, run::specs::Grader::State::view, course::specs::Grader::Cause::cause_number))]
     fn from(r: Answered<()>) -> FlatRestored {
         FlatRestored {
             cause: cause::cause_number(&r.answer),
@@ -290,7 +292,7 @@ impl From<Answered<()>> for FlatRestored {
 impl From<Result<SavedFor, Cause>> for FlatSavedFor {
     ghost from_gives = { λ a f. f ≡ flat_saved_for a };
 
-    #[tactic(auto, unfolding(crate::specs::Grader::Flat::flat_saved_for))]
+    #[tactic(auto, unfolding(crate::specs::Grader::Flat::flat_saved_for, course::specs::Grader::Cause::cause_number))]
     fn from(answer: Result<SavedFor, Cause>) -> FlatSavedFor {
         let v = answer.unwrap_or(SavedFor { seed: 0, n: 0 });
         FlatSavedFor {
@@ -317,7 +319,7 @@ impl From<Result<f64, Cause>> for FlatAngle {
 impl From<Replayed> for FlatReplayed {
     ghost from_gives = { λ r f. f ≡ flat_answers r.laid r.start r.sheet };
 
-    #[tactic(auto, unfolding(crate::specs::Grader::Flat::flat_answers))]
+    #[tactic(auto, unfolding(crate::specs::Grader::Flat::flat_answers, course::specs::Grader::Cause::cause_number))]
     fn from(r: Replayed) -> FlatReplayed {
         let v = start_values(r.start);
         FlatReplayed {

@@ -14,7 +14,7 @@ const SIGN: u64 = 1 << 63;
 // The bits of the infinity: those of a finite number are below it, and those of a negative one above.
 const INFINITY: u64 = f64::to_bits(f64::INFINITY);
 
-// 2^32, which both factors of a product are below.
+// 2^32, which a number of 32 digits is below.
 const WORD: u64 = 1 << 32;
 
 // What the start of a guess is taken from: a little less than 2^54.
@@ -24,69 +24,53 @@ const START: u64 = 4 * LEAD - 0x400_0000_0000;
 #[cold]
 #[inline(never)]
 fn bisected(n: u64) -> u64
-    requires { n < 18014398509481984 }
     ensures { IsRoot (n * 18014398509481984) result }
 {
     (u128::from(n) * 0x40_0000_0000_0000).isqrt() as u64
 }
 
 // The product of two numbers of 32 digits.
-fn product(a: u64, b: u64) -> u64
-    requires { (a < 4294967296) × (b < 4294967296) }
+fn product(a: u32, b: u32) -> u64
     ensures { result ≡ a * b }
 {
-    a * b
+    u64::from(a) * u64::from(b)
 }
 
 // 32 digits of a product, from digit CUT on.
-fn from_digit<const CUT: u32>(a: u64, b: u64) -> u64
-    requires { (a < 4294967296) × (b < 4294967296) × (CUT < 64) }
-    ensures { result < 4294967296 }
+fn from_digit<const CUT: u32>(a: u32, b: u32) -> u32
+    requires { CUT < 64 }
 {
-    (product(a, b) >> CUT) % WORD
-}
-
-// a less b, modulo 2^32.
-fn less(a: u64, b: u64) -> u64
-    ensures { result < 4294967296 }
-{
-    a.wrapping_sub(b) % WORD
+    ((product(a, b) >> CUT) % WORD) as u32
 }
 
 // A root and its inverse, in units of 2^-31.
 #[derive(Clone, Copy)]
 struct Estimate {
-    root: u64,
-    inverse: u64,
+    root: u32,
+    inverse: u32,
 }
 
 // A guess at the root of a, which is from 1 to 4 in units of 2^-30, from a y near the inverse of the root, in units of 2^-32.
-// Nothing but the size is promised: `tested` decides. In units of 2^-31, q is a * y * y, near 1, and t is f * g * h / 2, a polynomial
+// Nothing is promised: `tested` decides. In units of 2^-31, q is a * y * y, near 1, and t is f * g * h / 2, a polynomial
 // of degree 6 near the inverse root of q. It is worked out in factors, since none of them waits for another, and its highest
-// coefficient is 1/8, which needs no product. The 8 makes up for the digits that were cut off.
-fn guess(a: u64, y: u64) -> Estimate
-    requires { (a < 4294967296) × (y < 4294967288) }
-    ensures { (result.root < 4294967296) × (result.inverse < 4294967296) }
-{
+// coefficient is 1/8, which needs no product. The 8 makes up for the digits that were cut off. All of it is modulo 2^32.
+fn guess(a: u32, y: u32) -> Estimate {
     let w = from_digit::<31>(a, y);
     let q = from_digit::<32>(w, y);
-    let f = less(
-        0x1_87b9_d99d,
-        from_digit::<31>(less(0x1_319b_78ab, q / 2), q),
-    );
-    let g = (0x7d7b_7ebe + from_digit::<31>(less(q, 0x29c7_620b), q)) % WORD;
-    let h = less(0xef5e_28d9, from_digit::<32>(less(0x1_56c8_48b2, q), q));
+    let f = 0x87b9_d99d_u32.wrapping_sub(from_digit::<31>(0x319b_78ab_u32.wrapping_sub(q / 2), q));
+    let g = 0x7d7b_7ebe_u32.wrapping_add(from_digit::<31>(q.wrapping_sub(0x29c7_620b), q));
+    let h = 0xef5e_28d9_u32.wrapping_sub(from_digit::<32>(0x56c8_48b2_u32.wrapping_sub(q), q));
     let t = from_digit::<32>(g, from_digit::<31>(f, h));
     Estimate {
         root: from_digit::<31>(w, t),
-        inverse: from_digit::<32>(y + 8, t),
+        inverse: from_digit::<32>(y.wrapping_add(8), t),
     }
 }
 
 // s * 2^22 + d where it is the whole root of a * 2^44, for an a that is the square of s and e more. What it leaves is
 // (e * 2^21 - s * d) * 2^23 - d^2. A difference below zero wraps to one that is far too large.
-fn tested(s: u64, e: u64, d: u64) -> Option<u64>
-    requires { (s < 4294967296) × (e < 137438953472) × (d ≤ 268435456) }
+fn tested(s: u32, e: u64, d: u32) -> Option<u64>
+    requires { (e < 137438953472) × (d ≤ 268435456) }
     ensures { IfSome result (λ w. IsRoot ((s * s + e) * 17592186044416) w) }
 {
     let t = (e * 0x20_0000).wrapping_sub(product(s, d));
@@ -94,17 +78,16 @@ fn tested(s: u64, e: u64, d: u64) -> Option<u64>
         return None;
     }
     let left = (t * 0x80_0000).wrapping_sub(product(d, d));
-    if left <= s * 0x80_0000 + d * 2 {
-        Some(s * 0x40_0000 + d)
+    if left <= u64::from(s) * 0x80_0000 + u64::from(d) * 2 {
+        Some(u64::from(s) * 0x40_0000 + u64::from(d))
     } else {
         None
     }
 }
 
 // The root of n * 4^27 where s * 2^22 + d is not it: one of the neighbours, or else by bisection.
-fn mended(n: u64, s: u64, e: u64, d: u64) -> u64
-    requires { (n < 18014398509481984) × (s * s + e ≡ n * 1024) × (s < 4294967296)
-        × (e < 137438953472) × (d < 268435456) }
+fn mended(n: u64, s: u32, e: u64, d: u32) -> u64
+    requires { (s * s + e ≡ n * 1024) × (e < 137438953472) × (d < 268435456) }
     ensures { IsRoot (n * 18014398509481984) result }
 {
     if let Some(w) = tested(s, e, d.wrapping_sub(1) % 0x1000_0000) {
@@ -124,13 +107,13 @@ fn whole_root(n: u64, l: u64) -> u64
     ensures { IsRoot (n * 18014398509481984) result }
 {
     let a = n * 1024;
-    let g = guess(a / WORD, (START - l) / 0x40_0000);
+    let g = guess((a / WORD) as u32, ((START - l) / 0x40_0000) as u32);
     let s = g.root;
     let e = a.wrapping_sub(product(s, s));
     if 0x20_0000_0000 <= e {
         return bisected(n);
     }
-    let d = product(e / 32, g.inverse) / 0x10_0000_0000;
+    let d = (product((e / 32) as u32, g.inverse) / 0x10_0000_0000) as u32;
     if let Some(w) = tested(s, e, d) {
         return w;
     }

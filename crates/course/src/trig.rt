@@ -1,10 +1,11 @@
 // The stand-ins for sine, cosine and atan2 (document 01, "Stand-ins"). The public calls refuse by
 // cause 8; what the course itself uses takes any float and is not public.
 ghost use Rattle.std.specs.Prelude.{◌≡◌, ◌^◌, true, false, T, pos};
+ghost use Rattle.std.specs.Result.{result_map_both};
 ghost use Rattle.std.specs.Float.{fin};
 ghost use Rattle.std.specs.Float.Ieee.{lt, to_unsigned};
 ghost use Rattle.course.specs.Rules.Trig.{sine_poly, cosine_poly, atan_poly, floor, whole_below, turns_of, sin_cos_of, arc, arc_of, ratio_of, steep_of, leftward, downward, direction_of, atan2_of};
-ghost use Rattle.course.specs.Grader.Angle.{angle_cause, sine_call, cosine_call, atan2_call};
+ghost use Rattle.course.specs.Grader.Angle.{sine_call, cosine_call, atan2_call};
 ghost use Rattle.course.specs.Steps.Numbers.{Bounded, whole_at, turns_at, OfAngle, sin_cos_as};
 
 use crate::cause::Cause;
@@ -205,12 +206,13 @@ pub(crate) fn sin_cos(a: f64) -> SinCos
     turned(a, quarter_turns(a))
 }
 
-// Cause 8 of an angle: |a| is at most 16.
-fn angle_check(a: f64) -> Result<(), Cause>
-    ensures { result ≡ angle_cause a }
+// Cosine and sine of a, |a| at most 16, else cause 8.
+fn checked_sin_cos(a: f64) -> Result<SinCos, Cause>
+    ensures cosine { result_map_both (λ t. t.cos) (λ e. e) result ≡ cosine_call a }
+    ensures sine { result_map_both (λ t. t.sin) (λ e. e) result ≡ sine_call a }
 {
     if numeric::inside(a, 16.0) {
-        return Ok(());
+        return Ok(sin_cos(a));
     }
     Err(Cause::Range)
 }
@@ -219,16 +221,14 @@ fn angle_check(a: f64) -> Result<(), Cause>
 pub fn sine(a: f64) -> Result<f64, Cause>
     ensures { result ≡ sine_call a }
 {
-    angle_check(a)?;
-    Ok(sin_cos(a).sin)
+    checked_sin_cos(a).map(|t| t.sin)
 }
 
 // The cosine of a, |a| at most 16.
 pub fn cosine(a: f64) -> Result<f64, Cause>
     ensures { result ≡ cosine_call a }
 {
-    angle_check(a)?;
-    Ok(sin_cos(a).cos)
+    checked_sin_cos(a).map(|t| t.cos)
 }
 
 // base + w * p, p the series of the arc tangent of w.

@@ -1,5 +1,5 @@
 // Lines of answers.
-use course::cause::Cause;
+use course::cause::{Cause, Numbered};
 use course::points::{LaidCourse, LayError};
 use std::io::Write;
 use std::{fmt, io};
