@@ -8,7 +8,7 @@ use Rattle.std.specs.declared.ops.Range.{Range}
 use Rattle.std.proofs.iter.runs.Sources.{nat_range_steps_back}
 use lib.ListN.{length-map, get_or-append}
 use lib.Ieee.{Float, nan}
-use Rattle.course.specs.Rules.Track.{passes_at, last_pass, step_alphas, glued_of, well_glued, between, if_glued, from_earlier, to_later, track_of}
+use Rattle.course.specs.Rules.Track.{passes_at, last_pass, step_alphas, glued_of, well_glued, between_passes, if_glued, from_earlier, to_later, track_of}
 use Rattle.course.specs.Steps.Lay.{Columns, Before, Front, Whole, Cut}
 use Rattle.course.specs.Rules.Step.{TrackStep}
 
@@ -138,20 +138,20 @@ module _ {ps : List TrackStep} {c : Columns} (f : Front ps c) where
       cut-no-earlier q = sym (earlier-is q)
 
       module _ {i1 : ℕ} (q : Some i1 ≡ last_pass c.alpha (i2 - 1)) where
-        glued-part : if_glued (between ps i1 i2) ≡ track_of ps
+        glued-part : if_glued (between_passes ps i1 i2) ≡ track_of ps
         unfolding from_earlier
         glued-part = earlier-is q
 
         pub cut-empty : i2 - 1 - i1 ≡ 0 → Cut ps None
-        unfolding if_glued between
+        unfolding if_glued between_passes
         cut-empty z = sym glued-part ∙ rw (z, cond_same {A = List TrackStep} (well_glued []) [])
 
         module _ (z : i2 - 1 - i1 ≡ 0 → ⊥) where
           more : 0 < i2 - 1 - i1
           more = positive (i2 - 1 - i1) z
 
-          here : glued_of (get_or c.beta i1 nan) (get_or c.x i1 nan) (get_or c.y i1 nan) (get_or c.x (i2 - 2) nan) (get_or c.y (i2 - 2) nan) ≡ well_glued (between ps i1 i2)
-          unfolding between
+          here : glued_of (get_or c.beta i1 nan) (get_or c.x i1 nan) (get_or c.y i1 nan) (get_or c.x (i2 - 2) nan) (get_or c.y (i2 - 2) nan) ≡ well_glued (between_passes ps i1 i2)
+          unfolding between_passes
           here =
               let m = more in
               glued-is i1 (i2 - 1 - i1) m (omega arith) (i2 - 2) (omega arith)
@@ -161,7 +161,7 @@ module _ {ps : List TrackStep} {c : Columns} (f : Front ps c) where
           cut_apart g = sym glued-part ∙ rw (sym here ∙ g)
 
           pub cut-good : glued_of (get_or c.beta i1 nan) (get_or c.x i1 nan) (get_or c.y i1 nan) (get_or c.x (i2 - 2) nan) (get_or c.y (i2 - 2) nan) ≡ true → Whole ps (record { from = i1; n = i2 - 1 - i1 })
-          unfolding if_glued between
+          unfolding if_glued between_passes
           cut-good g =
               let m = more in
               let k : take (i2 - 1 - i1) (drop i1 ps) ≡ track_of ps = rw (sym here ∙ g) at glued-part in
