@@ -7,7 +7,7 @@ use Rattle.course.specs.Rules.Lengths.{step_limit}
 use Rattle.course.specs.Rules.Constants.{max_attempts}
 use Rattle.course.specs.Rules.Checkpoints.{checkpoints_of}
 use Rattle.course.specs.Rules.Step.{Walk, TrackStep, step_of}
-use Rattle.course.specs.Rules.Track.{last_pass, step_alphas, well_glued, between, if_glued, from_earlier, to_later, track_of}
+use Rattle.course.specs.Rules.Track.{last_pass, step_alphas, well_glued, between_passes, if_glued, from_earlier, to_later, track_of}
 use Rattle.course.specs.Rules.Walk.{Trail, follow, onward, walk_from, walk_start, walk_of}
 use Rattle.course.specs.Rules.Lay.{point_of, accepted, attempt_on, ring_point, ring_of, CoursePoints, or_else, course_on, course_from, course_within, course_of}
 use Rattle.course.specs.declared.checkpoints.Checkpoint.{Checkpoint}
@@ -34,8 +34,8 @@ unfolding walk_from
 walk-few zero cs w = omega arith
 walk-few (suc n) cs w = onward-few (step_of cs w) (λ (v : Walk). walk_from n cs v) n (λ v. walk-few n cs v)
 
-glued-few : (ps : List TrackStep) (i1 i2 : ℕ) → length (if_glued (between ps i1 i2)) ≤ i2 - 1 - i1
-unfolding if_glued between
+glued-few : (ps : List TrackStep) (i1 i2 : ℕ) → length (if_glued (between_passes ps i1 i2)) ≤ i2 - 1 - i1
+unfolding if_glued between_passes
 glued-few ps i1 i2 = one (well_glued (take (i2 - 1 - i1) (drop i1 ps)))
   where
     one : (b : Bool) → length (cond b (take (i2 - 1 - i1) (drop i1 ps)) []) ≤ i2 - 1 - i1

@@ -1,8 +1,14 @@
 -- The part of a walk that is its track. Assumes nothing.
-use Rattle.std.proofs.Common.{◌≡◌, ℕ, zero, suc, ◌+◌, ◌-◌, ◌<◌, ◌≤◌, Bool, true, false, cond, List, [], ◌∷◌, ◌++◌, map, length, get_or, take, drop, Option, Some, None, IfSome, sym, refl, ap, ◌∙◌, add-zero, sub-one, arith, length-drop, length-take-le, get_or-drop, get_or-take}
+use Rattle.std.proofs.Common.{◌≡◌, ℕ, zero, suc, ◌+◌, ◌-◌, ◌<◌, ◌≤◌, Bool, true, false, cond, List, [], ◌∷◌, ◌++◌, map, length, get_or, take, drop, Option, Some, None, IfSome, sym, refl, ap, ◌∙◌, add-zero, arith, length-drop, length-take-le, get_or-drop, get_or-take}
+use Rattle.std.specs.List.{find}
+use Rattle.std.specs.Option.{option_map}
+use Rattle.std.specs.Iterator.{AlwaysYields}
+use Rattle.std.proofs.lemmas.Iterator.{YieldsList}
+use Rattle.std.specs.declared.ops.Range.{Range}
+use Rattle.std.proofs.iter.runs.Sources.{nat_range_steps_back}
 use lib.ListN.{length-map, get_or-append}
 use lib.Ieee.{Float, nan}
-use Rattle.course.specs.Rules.Track.{passes_at, last_pass, step_alphas, glued_of, well_glued, between, if_glued, from_earlier, to_later, track_of}
+use Rattle.course.specs.Rules.Track.{passes_at, last_pass, step_alphas, glued_of, well_glued, between_passes, if_glued, from_earlier, to_later, track_of}
 use Rattle.course.specs.Steps.Lay.{Columns, Before, Front, Whole, Cut}
 use Rattle.course.specs.Rules.Step.{TrackStep}
 
@@ -20,20 +26,29 @@ map-drop f zero l = refl
 map-drop f (suc n) [] = refl
 map-drop f (suc n) (x ∷ l) = map-drop f n l
 
--- ---- the last pass
-pub pass-here : (l : List Float) (i : ℕ) → (i ≡ 0 → ⊥) → passes_at l i ≡ true → last_pass l i ≡ Some i
-unfolding last_pass
-pass-here l zero z h = absurd (z refl)
-pass-here l (suc i) z h = rw h
+-- ---- the last pass: the numbers are tried from n down to 1
+abbrev pub countdown : ℕ → List ℕ
+countdown zero = []
+countdown (suc n) = suc n ∷ countdown n
 
-pub pass_below : (l : List Float) (i : ℕ) → (i ≡ 0 → ⊥) → passes_at l i ≡ false → last_pass l i ≡ last_pass l (i - 1)
-unfolding last_pass
-pass_below l zero z h = absurd (z refl)
-pass_below l (suc i) z h = rw (h, sub-one (suc i))
+counted-down : (n : ℕ) (s : Range ℕ) → s.start ≡ 1 → s.end ≡ n + 1 → AlwaysYields nat_range_steps_back (λ x. x) s (countdown n)
+counted-down zero s e f = λ x j p. omega (arith, p.1.0)
+counted-down (suc n) s e f = (
+  (λ j p. omega (arith, p.1.0)),
+  λ x j p. (omega (arith, p.1.1, p.1.2), counted-down n j (p.0 ∙ e) (omega (arith, p.1.2))),
+)
 
-pub pass-none : (l : List Float) (i : ℕ) → i ≡ 0 → last_pass l i ≡ None
+pub yields-down : {s : Range ℕ} (n : ℕ) → s ≡ record { start = 1; end = n + 1 } → YieldsList nat_range_steps_back (λ x. x) s (countdown n)
+yields-down {s} n e = record { runs = counted-down n s (ap (λ (r : Range ℕ). r.start) e) (ap (λ (r : Range ℕ). r.end) e) }
+
+pub found-down : (l : List Float) (n : ℕ) → find (passes_at l) (countdown n) ≡ last_pass l n
 unfolding last_pass
-pass-none l i z = rw z
+found-down l zero = refl
+found-down l (suc n) = ap (cond (passes_at l (suc n)) (Some (suc n))) (found-down l n)
+
+pub same-option : {A : Type 0} (o : Option A) → option_map (λ x. x) o ≡ o
+same-option None = refl
+same-option (Some x) = refl
 
 -- ---- passes look at the front alone
 pass_same : (l r : List Float) (i : ℕ) → i < length l → passes_at (l ++ r) i ≡ passes_at l i
@@ -123,20 +138,20 @@ module _ {ps : List TrackStep} {c : Columns} (f : Front ps c) where
       cut-no-earlier q = sym (earlier-is q)
 
       module _ {i1 : ℕ} (q : Some i1 ≡ last_pass c.alpha (i2 - 1)) where
-        glued-part : if_glued (between ps i1 i2) ≡ track_of ps
+        glued-part : if_glued (between_passes ps i1 i2) ≡ track_of ps
         unfolding from_earlier
         glued-part = earlier-is q
 
         pub cut-empty : i2 - 1 - i1 ≡ 0 → Cut ps None
-        unfolding if_glued between
+        unfolding if_glued between_passes
         cut-empty z = sym glued-part ∙ rw (z, cond_same {A = List TrackStep} (well_glued []) [])
 
         module _ (z : i2 - 1 - i1 ≡ 0 → ⊥) where
           more : 0 < i2 - 1 - i1
           more = positive (i2 - 1 - i1) z
 
-          here : glued_of (get_or c.beta i1 nan) (get_or c.x i1 nan) (get_or c.y i1 nan) (get_or c.x (i2 - 2) nan) (get_or c.y (i2 - 2) nan) ≡ well_glued (between ps i1 i2)
-          unfolding between
+          here : glued_of (get_or c.beta i1 nan) (get_or c.x i1 nan) (get_or c.y i1 nan) (get_or c.x (i2 - 2) nan) (get_or c.y (i2 - 2) nan) ≡ well_glued (between_passes ps i1 i2)
+          unfolding between_passes
           here =
               let m = more in
               glued-is i1 (i2 - 1 - i1) m (omega arith) (i2 - 2) (omega arith)
@@ -146,7 +161,7 @@ module _ {ps : List TrackStep} {c : Columns} (f : Front ps c) where
           cut_apart g = sym glued-part ∙ rw (sym here ∙ g)
 
           pub cut-good : glued_of (get_or c.beta i1 nan) (get_or c.x i1 nan) (get_or c.y i1 nan) (get_or c.x (i2 - 2) nan) (get_or c.y (i2 - 2) nan) ≡ true → Whole ps (record { from = i1; n = i2 - 1 - i1 })
-          unfolding if_glued between
+          unfolding if_glued between_passes
           cut-good g =
               let m = more in
               let k : take (i2 - 1 - i1) (drop i1 ps) ≡ track_of ps = rw (sym here ∙ g) at glued-part in

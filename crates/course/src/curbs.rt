@@ -20,15 +20,6 @@ const OUTER: f64 = TRACK_WIDTH + BORDER;
 
 const STEEP: f64 = TRACK_TURN_RATE * 0.2;
 
-// How far beta turns at point i.
-fn turn_at(points: &PointColumns, i: usize) -> f64
-    requires { i < points.now.count }
-    ensures { result ≡ turn_at points.now.beta.now points.now.count i }
-{
-    let j = tiles::before(i, points.count);
-    points.beta[i] - points.beta[j]
-}
-
 // Whether a turn is steep enough for a curb.
 fn is_steep(d: f64) -> bool
     ensures { result ≡ steep_turn d }
@@ -47,22 +38,6 @@ fn one_way(t: f64, u: f64, v: f64, w: f64) -> bool
     all & (up | down)
 }
 
-// The mark of point i, from its turn and the three before it.
-fn is_marked(points: &PointColumns, i: usize) -> bool
-    requires { i < points.now.count }
-    ensures { result ≡ mark_at points.now.beta.now points.now.count i }
-{
-    let n = points.count;
-    let j = tiles::before(i, n);
-    let k = tiles::before(j, n);
-    let l = tiles::before(k, n);
-    let t = turn_at(points, i);
-    let u = turn_at(points, j);
-    let v = turn_at(points, k);
-    let w = turn_at(points, l);
-    one_way(t, u, v, w)
-}
-
 // The number of the point after point i of n, round the course.
 fn after(i: usize, n: usize) -> usize
     requires { i < n }
@@ -75,20 +50,49 @@ fn after(i: usize, n: usize) -> usize
     0
 }
 
-// Whether point i has a curb: it or one of the three after it is marked.
-fn is_bordered(points: &PointColumns, i: usize) -> bool
-    requires { i < points.now.count }
-    ensures { result ≡ bordered points.now.beta.now points.now.count i }
-{
-    let n = points.count;
-    let j = after(i, n);
-    let k = after(j, n);
-    let l = after(k, n);
-    let t = is_marked(points, i);
-    let u = is_marked(points, j);
-    let v = is_marked(points, k);
-    let w = is_marked(points, l);
-    t | (u | (v | w))
+impl PointColumns<'_> {
+    // How far beta turns at point i.
+    #[tactic(auto, unfolding(crate::specs::Grader::Curbs::turn_at))]
+    fn turn_at(&self, i: usize) -> f64
+        requires { i < self.now.count }
+        ensures { result ≡ turn_at self.now.beta.now self.now.count i }
+    {
+        let j = tiles::before(i, self.count);
+        self.beta[i] - self.beta[j]
+    }
+
+    // The mark of point i, from its turn and the three before it.
+    #[tactic(auto, unfolding(crate::specs::Grader::Curbs::mark_at))]
+    fn is_marked(&self, i: usize) -> bool
+        requires { i < self.now.count }
+        ensures { result ≡ mark_at self.now.beta.now self.now.count i }
+    {
+        let j = tiles::before(i, self.count);
+        let k = tiles::before(j, self.count);
+        let l = tiles::before(k, self.count);
+        one_way(
+            self.turn_at(i),
+            self.turn_at(j),
+            self.turn_at(k),
+            self.turn_at(l),
+        )
+    }
+
+    // Whether point i has a curb: it or one of the three after it is marked.
+    #[tactic(auto, unfolding(crate::specs::Grader::Curbs::bordered))]
+    fn is_bordered(&self, i: usize) -> bool
+        requires { i < self.now.count }
+        ensures { result ≡ bordered self.now.beta.now self.now.count i }
+    {
+        let j = after(i, self.count);
+        let k = after(j, self.count);
+        let l = after(k, self.count);
+        let t = self.is_marked(i);
+        let u = self.is_marked(j);
+        let v = self.is_marked(k);
+        let w = self.is_marked(l);
+        t | (u | (v | w))
+    }
 }
 
 // The outer side of the turn from q to p.
@@ -141,7 +145,7 @@ fn put_curb(points: &PointColumns, i: usize, m: usize, quads: &mut [f64], white:
         (white_of i) m
         quads.old white.old result quads.new white.new }
 {
-    if !is_bordered(points, i) {
+    if !points.is_bordered(i) {
         return m;
     }
     let j = tiles::before(i, points.count);

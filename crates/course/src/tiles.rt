@@ -62,10 +62,8 @@ fn edges_at(p: TrackPoint) -> Edges
 fn tile_quad(e: Edges, f: Edges) -> [[f64; 2]; 4]
     ensures { result ≡ quad_between e f }
 {
-    let a = e.left;
-    let b = e.right;
-    let c = f.right;
-    let d = f.left;
+    let Edges { left: a, right: b } = e;
+    let Edges { left: d, right: c } = f;
     [a, b, c, d]
 }
 
@@ -90,12 +88,13 @@ pub fn read_quad(numbers: &[f64; 8]) -> [[f64; 2]; 4]
 }
 
 // The quad's eight numbers stand from number `at` on.
+// Kept with each number named, as `read_quad` has them: after `as_flattened` it did not prove that each corner of q has two numbers.
 pub(crate) fn put_quad(tiles: &mut [f64], at: usize, q: [[f64; 2]; 4])
     requires { at + 8 ≤ length tiles.old }
     ensures { tiles.new ≡ puts (eight q) at tiles.old }
 {
-    let [a, b, c, d] = q;
-    tiles[at..at + 8].copy_from_slice(&[a[0], a[1], b[0], b[1], c[0], c[1], d[0], d[1]]);
+    let [[ax, ay], [bx, by], [cx, cy], [dx, dy]] = q;
+    tiles[at..at + 8].copy_from_slice(&[ax, ay, bx, by, cx, cy, dx, dy]);
 }
 
 // The tiles of the points. A point's edges are worked out once, and kept for the tile after.

@@ -32,12 +32,7 @@ fn last_pass(alpha: &[f64], n: usize) -> Option<usize>
     ensures value { result ≡ last_pass alpha.now n }
     ensures bounds { IfSome result (λ i. (0 < i) × (i ≤ n)) }
 {
-    for i in (1..=n).rev() {
-        if passes_at(alpha, i) {
-            return Some(i);
-        }
-    }
-    None
+    (1..n + 1).rfind(|i| passes_at(alpha, *i))
 }
 
 // Whether the track's ends meet: those of its first point, with heading beta, and its last.

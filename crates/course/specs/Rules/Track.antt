@@ -48,8 +48,8 @@ well_glued ps =
     (slice_index_or (step_xs ps) (length ps - 1) nan) (slice_index_or (step_ys ps) (length ps - 1) nan)
 
 -- the steps from number i1 to number i2, without the last; of these the track, empty where its ends do not meet
-unfoldable pub between : List TrackStep → ℕ → ℕ → List TrackStep
-between ps i1 i2 = take (i2 - 1 - i1) (drop i1 ps)
+unfoldable pub between_passes : List TrackStep → ℕ → ℕ → List TrackStep
+between_passes ps i1 i2 = take (i2 - 1 - i1) (drop i1 ps)
 
 unfoldable pub if_glued : List TrackStep → List TrackStep
 if_glued l = cond (well_glued l) l []
@@ -57,7 +57,7 @@ if_glued l = cond (well_glued l) l []
 -- the last pass through the start, and the one before it: the Rust's i2 and i1
 unfoldable pub from_earlier : List TrackStep → ℕ → Option ℕ → List TrackStep
 from_earlier ps i2 None = []
-from_earlier ps i2 (Some i1) = if_glued (between ps i1 i2)
+from_earlier ps i2 (Some i1) = if_glued (between_passes ps i1 i2)
 
 unfoldable pub to_later : List TrackStep → Option ℕ → List TrackStep
 to_later ps None = []

@@ -1,14 +1,13 @@
 -- `course::track::last_pass` meets its contract. Assumes nothing.
-use Rattle.std.proofs.Common.{sym, ◌∙◌, arith}
-use Rattle.course.proofs.TrackParts.{pass-here, pass_below, pass-none}
+use Rattle.std.proofs.Common.{◌∙◌, sym, refl, rules}
+use Rattle.std.proofs.lemmas.Iterator.Search.{find_from_yields_List}
+use Rattle.course.specs.Rules.Track.{passes_at}
+use Rattle.course.proofs.TrackParts.{yields-down, found-down, same-option}
 use Rattle.course.proofs.track.last_pass.Goals as goal
 
-pub returns-then-passes_at-clause-value : goal.returns-then-passes_at-clause-value
-returns-then-passes_at-clause-value c =
-    sym (c.loop-i.invariant ∙ pass-here _ c.loop-i.i (λ z. omega (arith, z)) (sym c.passes_at.ensures ∙ c.if-passes_at.true))
-
-pub loop-i-preserved : goal.loop-i-preserved
-loop-i-preserved c = c.loop-i.invariant ∙ pass_below _ c.loop-i.i (λ z. omega (arith, z)) (sym c.passes_at.ensures ∙ c.if-passes_at.false)
-
 pub returns-clause-value : goal.returns-clause-value
-returns-clause-value c = sym (c.loop-i.invariant ∙ pass-none _ c.loop-i.i (omega arith))
+returns-clause-value c =
+    let a = c.args.alpha.now in
+    sym (same-option c.rfind.result)
+    ∙ find_from_yields_List (passes_at a) _ _ c.rfind.result c.rfind.ensures.ran (yields-down c.args.n refl) (λ x b q k. search rules)
+    ∙ found-down a c.args.n
