@@ -14,6 +14,12 @@ module _ {A : Type 0} where
   sets-append [] b l i = ap (λ (k : ℕ). sets l k b) (add-zero i)
   sets-append (x ∷ a) b l i = ap (λ (k : ℕ). sets (sets (set l i x) (suc i) a) k b) (omega arith) ∙ sets-append a b (set l i x) (suc i)
 
+  -- a run at the front
+  pub sets-front : (a l : List A) → length a ≤ length l → sets l 0 a ≡ a ++ drop (length a) l
+  sets-front a l h =
+      let n : 0 + length a ≡ length a = omega arith in
+      sets-eq a l 0 (omega (arith, h)) ∙ ap (λ (k : ℕ). a ++ drop k l) n
+
   -- c is l with the front of `all` stored, up to number i; `rest` is still to come
   pub record Filling (c l all : List A) (i : ℕ) (rest : List A) : Type 0 where
     pub stored : sets c i rest ≡ sets l 0 all
@@ -36,10 +42,7 @@ module _ {A : Type 0} where
   next_fits {c} {l} {all} {i} {rest} a b f e h = omega (arith, f.count, f.same, ap length e, length-append a b, h)
 
   pub ends : {c l all : List A} {i : ℕ} {rest : List A} → Filling c l all i rest → rest ≡ [] → length all ≤ length l → c ≡ all ++ drop (length all) l
-  ends {c} {l} {all} {i} {rest} f e h =
-      let g : 0 + length all ≤ length l = omega arith in
-      let n : 0 + length all ≡ length all = omega arith in
-      ap (sets c i) (sym e) ∙ f.stored ∙ sets-eq all l 0 g ∙ ap (λ (k : ℕ). all ++ drop k l) n
+  ends {c} {l} {all} {i} {rest} f e h = ap (sets c i) (sym e) ∙ f.stored ∙ sets-front all l h
 
   pub ends-whole : {c l all : List A} {i : ℕ} {rest : List A} → Filling c l all i rest → rest ≡ [] → length all ≡ length l → c ≡ all
   ends-whole {c} {l} {all} {i} {rest} f e h =

@@ -8,12 +8,13 @@ use native.Mathlib.Numerals.{add-one}
 use native.Mathlib.Omega.{arith}
 use mir.Val.{bool_byte}
 use lib.ListN.{length, get_or, take, drop, length-append, take-append-drop, drop_of_length-le}
-use lib.Seq.{drop-cons, sets-eq}
+use lib.Seq.{drop-cons, sets}
 use lib.Dec.{leb}
 use borrow.Author.Tests.{le-leb, lt-leb}
-use Rattle.form.proofs.ByteLaws.{low-length, store-room}
-use Rattle.form.proofs.Filling.{Filling, begins, goes_on, ends, part-on, take-least, drop-least}
-use Rattle.form.specs.Rules.Bytes.{low, all_zero, Leaves, leaves, store}
+use Rattle.std.specs.Int.{w16, to_le_bytes}
+use Rattle.form.proofs.ByteLaws.{low-length, low-said}
+use Rattle.form.proofs.Filling.{Filling, sets-front, begins, goes_on, ends, part-on, take-least, drop-least}
+use Rattle.form.specs.Rules.Bytes.{low, all_zero}
 use Rattle.std.proofs.Common.{Some, None, Ok, Err}
 use Rattle.form.specs.declared.table.Row.{Row}
 use Rattle.form.specs.Rules.Form.{widths, rows_of, sum, cut, joined, odd, bit, map_of, standing, packed, Wrote, wrote, pack_into}
@@ -186,15 +187,17 @@ module _ (bs out : List ℕ) where
       ap₂ (λ (k : ℕ) (l : List ℕ). wrote (Ok k) l) e q ∙ sym (ap into (le-leb _ _ g))
 
 -- the map's two bytes, then what stands
-module _ (m n : ℕ) (fs : List (List ℕ)) (out out' p : List ℕ) (r : Bool) (q : n ≡ length (packed m fs)) (h : n ≤ length out) (e : leaves r out' ≡ store (low 2 m) out) where
+module _ (m n : ℕ) (fs : List (List ℕ)) (out b p : List ℕ) (q : n ≡ length (packed m fs)) (h : n ≤ length out) (e : b ≡ to_le_bytes w16 m) where
+  abbrev out' : List ℕ
+  out' = b ++ drop 2 out
+
   map-put : Filling out' out (packed m fs) 2 (standing m fs)
   unfolding packed
   map-put =
-      let k : length (low 2 m) ≤ length out = omega (arith, q, h, low-length 2 m, packed-length m fs) in
-      let i : 0 + length (low 2 m) ≤ length out = omega (arith, k) in
-      let j : 0 + length (low 2 m) ≡ length (low 2 m) = omega arith in
-      goes_on out' 2 (low 2 m) (standing m fs) (begins out (packed m fs) (packed m fs) refl) refl
-      (ap (λ (l : Leaves ℕ). l.list) (e ∙ store-room (low 2 m) out k) ∙ sym (sets-eq (low 2 m) out 0 i ∙ ap (λ (z : ℕ). low 2 m ++ drop z out) j)) (sym (ap (λ (z : ℕ). 0 + z) (low-length 2 m)))
+      let long = low-length 2 m in
+      let front : out' ≡ sets out 0 (low 2 m) =
+      ap₂ (λ (l : List ℕ) (j : ℕ). l ++ drop j out) (e ∙ sym (low-said 2 m)) (sym long) ∙ sym (sets-front (low 2 m) out (omega (arith, q, h, long, packed-length m fs))) in
+      goes_on out' 2 (low 2 m) (standing m fs) (begins out (packed m fs) (packed m fs) refl) refl front (omega (arith, long))
 
   pub pack-done : p ≡ standing m fs → wrote (Ok n) (take 2 out' ++ (p ++ drop (n - 2) (drop 2 out'))) ≡ pack_into (packed m fs) out
   pack-done d =

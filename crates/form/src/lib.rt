@@ -10,5 +10,6 @@ pub mod eight;
 mod float;
 pub mod number;
 pub mod pack;
+pub mod short;
 pub mod table;
 pub mod unpack;
