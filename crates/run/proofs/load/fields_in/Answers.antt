@@ -5,9 +5,6 @@ use native.Mathlib.Omega.{arith}
 use mathlib.Core.Path.{refl}
 use Rattle.run.proofs.load.fields_in.Goals as goal
 
-pub float_at-share-requires : goal.float_at-share-requires
-float_at-share-requires c = omega (arith, c.requires, all-bytes)
-
 pub returns : goal.returns
 returns c =
     fields_read c.args.full.now _ _ c.float_at-share.ensures c.four_at-limit.ensures c.four_at-tick.ensures
