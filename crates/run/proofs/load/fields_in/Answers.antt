@@ -1,7 +1,5 @@
 -- `run::load::fields_in` meets its contract. Assumes nothing.
-use Rattle.run.proofs.FieldSizes.{all-bytes}
 use Rattle.run.proofs.LoadLaws.{fields_read}
-use native.Mathlib.Omega.{arith}
 use mathlib.Core.Path.{refl}
 use Rattle.run.proofs.load.fields_in.Goals as goal
 
