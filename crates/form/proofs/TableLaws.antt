@@ -1,7 +1,8 @@
 -- The rows of a table one after another, over fields that lie end to end. Assumes nothing.
 use Prim.Native.Nat.{ℕ, zero, suc, ◌+◌, ◌*◌, ◌-◌, ◌/◌, ◌^◌, ◌≤◌, ◌<◌, min}
 use mathlib.Core.Path.{◌≡◌, refl, sym, ap, ap₂, ◌∙◌, subst}
-use mathlib.Core.Bool.{Bool, true, false, cond, not}
+use mathlib.Core.Bool.{Bool, true, false, cond, not, true≢false}
+use Rattle.std.specs.Option.{is_none}
 use mathlib.Core.List.{List, [], ◌∷◌, ◌++◌, append-nil}
 use native.Mathlib.Nat.{pow-suc, pow-le-pow_right, mul-le-mul_left, mul-add, mul_assoc}
 use native.Mathlib.Numerals.{add-one}
@@ -15,7 +16,7 @@ use Rattle.std.specs.Int.{w16, to_le_bytes}
 use Rattle.form.proofs.ByteLaws.{low-length, low-said}
 use Rattle.form.proofs.Filling.{Filling, sets-front, begins, goes_on, ends, part-on, take-least, drop-least}
 use Rattle.form.specs.Rules.Bytes.{low, all_zero}
-use Rattle.std.proofs.Common.{Some, None, Ok, Err}
+use Rattle.std.proofs.Common.{Option, Some, None, Ok, Err, ◌⊎◌, inl, inr}
 use Rattle.form.specs.declared.table.Row.{Row}
 use Rattle.form.specs.Rules.Form.{widths, rows_of, sum, cut, joined, odd, bit, map_of, standing, packed, Wrote, wrote, pack_into}
 
@@ -131,6 +132,24 @@ power_small k h = pow-le-pow_right {n = 2} (omega arith) h
 pub power-more : (v k : ℕ) → v ≡ 2 ^ k → v * 2 ≡ 2 ^ (k + 1)
 power-more v k e = ap (λ (z : ℕ). z * 2) e ∙ sym (ap (λ (z : ℕ). 2 ^ z) (add-one k) ∙ pow-suc 2 k)
 
+-- ---- items with the bits of a map: these end where the items do, since the bits have no end
+abbrev the_bit : Option Bool → Bool
+the_bit (Some b) = b
+the_bit None = false
+
+pub same-bit : (a b : Bool) → Some a ≡ Some b → a ≡ b
+same-bit a b e = ap the_bit e
+
+abbrev Ended : {S T : Type 0} → Type 0 → Bool → (S → Type 0) → (T → Type 0) → Type 0
+Ended {S = S} {T = T} none b P Q = ((s : S) × (none × P s)) ⊎ ((t : T) × ((◌≡◌ {A = Option Bool} None (Some b)) × Q t))
+
+no-end : {X : Type 0} (b : Bool) → ◌≡◌ {A = Option Bool} None (Some b) → X
+no-end b e = absurd (true≢false (ap (λ (o : Option Bool). is_none o) e))
+
+pub ended : {S T : Type 0} (none : Type 0) (b : Bool) (P : S → Type 0) (Q : T → Type 0) → Ended none b P Q → none
+ended none b P Q (inl h) = h.1.0
+ended none b P Q (inr h) = no-end b h.1.0
+
 -- ---- the length of what stands
 pub shown-length : (b : Bool) (f : List ℕ) → length (cond b f []) ≡ cond b (length f) 0
 shown-length true f = refl
@@ -157,9 +176,12 @@ joined-within (w ∷ ws) full =
 pub standing-within : (m : ℕ) (ws full : List ℕ) → length (standing m (cut ws full)) ≤ length full
 standing-within m ws full = omega (arith, standing-small m (cut ws full), joined-within ws full)
 
-pub standing-next : (m : ℕ) (fs : List (List ℕ)) (f p : List ℕ) (gs : List (List ℕ)) → fs ≡ f ∷ gs → p ≡ cond (odd m) f [] → standing m fs ≡ p ++ standing (m / 2) gs
+-- one field, with its bit of the map
+pub standing-next : (m m' : ℕ) (fs : List (List ℕ)) (f p : List ℕ) (gs : List (List ℕ)) (b : Bool) → fs ≡ f ∷ gs → Some b ≡ Some (odd m) → m' ≡ m / 2 → p ≡ cond b f []
+    → standing m fs ≡ p ++ standing m' gs
 unfolding standing
-standing-next m fs f p gs e h = ap (standing m) e ∙ ap (λ (q : List ℕ). q ++ standing (m / 2) gs) (sym h)
+standing-next m m' fs f p gs b e o q h =
+    ap (standing m) e ∙ ap₂ (λ (c : Bool) (k : ℕ). cond c f [] ++ standing k gs) (sym (same-bit b (odd m) o)) (sym q) ∙ ap (λ (l : List ℕ). l ++ standing m' gs) (sym h)
 
 pub standing-none : (m : ℕ) (fs : List (List ℕ)) → fs ≡ [] → standing m fs ≡ []
 unfolding standing

@@ -6,6 +6,7 @@
 // definitions that the contracts cite stand in specs/.
 #![tactic(auto)]
 
+mod bits;
 pub mod eight;
 mod float;
 pub mod number;

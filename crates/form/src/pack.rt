@@ -2,6 +2,7 @@
 ghost use Rattle.std.specs.Prelude.{◌≡◌, cond, [], ◌≤◌, length};
 ghost use Rattle.form.specs.Rules.Form.{table_fields, standing, packed, wrote, pack_into};
 
+use crate::bits::Bits;
 use crate::table::Fields;
 
 // An output is too short for a saved form of this length.
@@ -22,11 +23,9 @@ fn standing_length(fields: Fields<'_>, map: u64) -> usize
     ensures { (result ≡ length (standing map (table_fields fields.entry)))
         × (result ≤ length fields.entry.full.now) }
 {
-    let mut rest = map;
     let mut n: usize = 0;
-    for field in fields {
-        n += shown(rest % 2 == 1, field).len();
-        rest /= 2;
+    for (field, stands) in fields.zip(Bits { rest: map }) {
+        n += shown(stands, field).len();
     }
     n
 }
@@ -36,13 +35,11 @@ fn put_standing(fields: Fields<'_>, map: u64, out: &mut [u8])
     requires { length (standing map (table_fields fields)) ≡ length out.old }
     ensures { out.new ≡ standing map (table_fields fields.entry) }
 {
-    let mut rest = map;
     let mut at: usize = 0;
-    for field in fields {
-        let part = shown(rest % 2 == 1, field);
+    for (field, stands) in fields.zip(Bits { rest: map }) {
+        let part = shown(stands, field);
         let end = at + part.len();
         out[at..end].copy_from_slice(part);
-        rest /= 2;
         at = end;
     }
 }
