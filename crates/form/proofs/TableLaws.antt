@@ -1,10 +1,10 @@
 -- The rows of a table one after another, over fields that lie end to end. Assumes nothing.
-use Prim.Native.Nat.{ℕ, zero, suc, ◌+◌, ◌*◌, ◌-◌, ◌/◌, ◌^◌, ◌≤◌, ◌<◌, min}
+use Prim.Native.Nat.{ℕ, zero, suc, ◌+◌, ◌*◌, ◌-◌, ◌/◌, ◌%◌, ◌^◌, ◌≤◌, ◌<◌, min}
 use mathlib.Core.Path.{◌≡◌, refl, sym, ap, ap₂, ◌∙◌, subst}
 use mathlib.Core.Bool.{Bool, true, false, cond, not, true≢false}
 use Rattle.std.specs.Option.{is_none}
 use mathlib.Core.List.{List, [], ◌∷◌, ◌++◌, append-nil}
-use native.Mathlib.Nat.{pow-suc, pow-le-pow_right, mul-le-mul_left, mul-add, mul_assoc}
+use native.Mathlib.Nat.{pow-suc, pow-le-pow_right, mul-le-mul_left, mul-add, mul_assoc, mul_comm}
 use native.Mathlib.Numerals.{add-one}
 use native.Mathlib.Omega.{arith}
 use mir.Val.{bool_byte}
@@ -106,31 +106,46 @@ cut-many (r ∷ rows) full = ap suc (cut-many rows (drop r.bytes full))
 pub map-small : (rows : List Row) (full : List ℕ) → map_of (cut (widths rows) full) < 2 ^ length rows
 map-small rows full = subst (λ (k : ℕ). map_of (cut (widths rows) full) < 2 ^ k) (cut-many rows full) (map_below (cut (widths rows) full))
 
--- what was gathered, with one field more
-pub gathered : (all m v s r r' : ℕ) → all ≡ m + v * r → r ≡ s + 2 * r' → all ≡ m + v * s + v * 2 * r'
-gathered all m v s r r' e g =
-    e
-    ∙ ap (λ (z : ℕ). m + v * z) g
-    ∙ ap (λ (z : ℕ). m + z) (mul-add v s (2 * r') ∙ ap (λ (z : ℕ). v * s + z) (sym (mul_assoc v 2 r')))
-    ∙ sums m (v * s) (v * 2 * r')
+pub power_small : (k : ℕ) → k ≤ 16 → 2 ^ k ≤ 2 ^ 16
+power_small k h = pow-le-pow_right {n = 2} (omega arith) h
+
+-- a map of which k bits are gathered, and r is still to come
+pub record Gathered (all m k r : ℕ) : Type 0 where
+  pub small : m < 2 ^ k
+  pub whole : all ≡ m + 2 ^ k * r
+
+-- one bit more, which is shifted to its place
+pub gathered : {all m k r : ℕ} (j n x r' : ℕ) → Gathered all m k r → j ≡ k → k < 16 → x ≤ 1 → n ≡ k + 1 → r ≡ x + 2 * r' → Gathered all (m + x * 2 ^ j % 2 ^ 64) n r'
+gathered {all} {m} {k} {r} j n x r' g same h o e q =
+    let v = 2 ^ k in
+    let low : v * x ≤ v = omega (arith, mul-le-mul_left {m = x} {n = 1} v o) in
+    let kept : x * v % 2 ^ 64 ≡ v * x = omega (arith, mul_comm x v, low, power_small k (omega (arith, h))) in
+    let place : x * 2 ^ j % 2 ^ 64 ≡ v * x = ap (λ (z : ℕ). x * 2 ^ z % 2 ^ 64) same ∙ kept in
+    let twice : v * 2 ≡ 2 ^ n = sym (ap (λ (z : ℕ). 2 ^ z) (e ∙ add-one k) ∙ pow-suc 2 k) in
+    record {
+      small = omega (arith, g.small, place, low, twice);
+      whole =
+          g.whole
+          ∙ ap (λ (z : ℕ). m + v * z) q
+          ∙ ap (λ (z : ℕ). m + z) (mul-add v x (2 * r') ∙ ap (λ (z : ℕ). v * x + z) (sym (mul_assoc v 2 r')))
+          ∙ sums m (v * x) (v * 2 * r')
+          ∙ ap₂ (λ (a b : ℕ). m + a + b * r') (sym place) twice;
+    }
   where
     sums : (x y z : ℕ) → x + (y + z) ≡ x + y + z
     sums x y z = omega arith
 
-pub gathered-all : (all m v r : ℕ) → all ≡ m + v * r → r ≡ 0 → m ≡ all
-gathered-all all m v r e g = sym (e ∙ ap (λ (z : ℕ). m + v * z) g ∙ none m v)
+pub gathered-none : (all n : ℕ) (r : ℕ) → n ≡ 0 → r ≡ all → Gathered all 0 n r
+gathered-none all n r e q =
+    let one : 2 ^ n ≡ 1 = ap (λ (z : ℕ). 2 ^ z) e in
+    let self : all ≡ 0 + 1 * all = omega arith in
+    record { small = omega (arith, one); whole = self ∙ ap₂ (λ (p s : ℕ). 0 + p * s) (sym one) (sym q) }
+
+pub gathered-all : (all m k r : ℕ) → Gathered all m k r → r ≡ 0 → m ≡ all
+gathered-all all m k r g e = sym (g.whole ∙ ap (λ (z : ℕ). m + 2 ^ k * z) e ∙ none m (2 ^ k))
   where
     none : (m v : ℕ) → m + v * 0 ≡ m
     none m v = omega arith
-
-pub value-small : (v x : ℕ) → x ≤ 1 → v * x ≤ v
-value-small v x h = omega (arith, mul-le-mul_left {m = x} {n = 1} v h)
-
-pub power_small : (k : ℕ) → k ≤ 16 → 2 ^ k ≤ 2 ^ 16
-power_small k h = pow-le-pow_right {n = 2} (omega arith) h
-
-pub power-more : (v k : ℕ) → v ≡ 2 ^ k → v * 2 ≡ 2 ^ (k + 1)
-power-more v k e = ap (λ (z : ℕ). z * 2) e ∙ sym (ap (λ (z : ℕ). 2 ^ z) (add-one k) ∙ pow-suc 2 k)
 
 -- ---- items with the bits of a map: these end where the items do, since the bits have no end
 abbrev the_bit : Option Bool → Bool

@@ -56,10 +56,8 @@ fn map_rows(fields: Fields<'_>) -> u64
     ensures { result ≡ map_of (table_fields fields.entry) }
 {
     let mut map: u64 = 0;
-    let mut value: u64 = 1;
-    for field in fields {
-        map += value * u64::from(!number::all_zero(field));
-        value *= 2;
+    for (k, field) in fields.enumerate() {
+        map += u64::from(!number::all_zero(field)) << k;
     }
     map
 }
