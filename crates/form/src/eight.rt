@@ -4,8 +4,8 @@ ghost use Rattle.std.specs.Float.{binary64};
 ghost use Rattle.std.specs.Float.Ieee.{to_bits, of_bits};
 ghost use Rattle.form.specs.Rules.Bytes.{each_bytes, leaves, store, fill_each};
 
-use crate::float;
 use crate::short::TooShort;
+use std::num::{f64_from_bits_with_nan, f64_to_bits_with_nan};
 
 // A value that is eight bytes in a saved form.
 pub trait Eight: Copy {
@@ -34,17 +34,18 @@ impl Eight for u64 {
     }
 }
 
+// By its IEEE bits, with one pattern for every NaN.
 impl Eight for f64 {
     ghost number_of = { to_bits binary64 };
 
     ghost of_number = { of_bits binary64 };
 
     fn number_of(self) -> u64 {
-        float::bits_of(self)
+        f64_to_bits_with_nan(self)
     }
 
     fn of_number(n: u64) -> f64 {
-        float::of_bits(n)
+        f64_from_bits_with_nan(n)
     }
 }
 

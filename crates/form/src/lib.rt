@@ -8,7 +8,6 @@
 
 mod bits;
 pub mod eight;
-mod float;
 pub mod number;
 pub mod pack;
 pub mod short;
