@@ -102,10 +102,6 @@ unfolding car_numbers car_from wheel_from
 numbers-back a b c d fuel = refl
 
 -- the first numbers of a car are its controls
-pub controls-in : (car : Car) (ns : List Float) → ns ≡ car_numbers car → control_count ≤ length ns
-unfolding car_numbers
-controls-in car ns e = omega (arith, ap length e)
-
 pub controls-taken : (car : Car) (ns : List Float) → ns ≡ car_numbers car → length (take control_count ns) ≡ control_count
 unfolding car_numbers
 controls-taken car ns e = ap (λ (l : List Float). length (take control_count l)) e
