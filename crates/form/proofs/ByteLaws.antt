@@ -10,7 +10,8 @@ use native.Mathlib.Nat.{pow-suc, pow-le-pow_right, div-div-eq-div-mul}
 use native.Mathlib.Numerals.{add-one}
 use native.Mathlib.Omega.{arith}
 use lib.ListN.{length, get_or, take, drop, length-append, length-drop, length-take, length-replicate, drop_of_length-le, replicate}
-use Rattle.std.specs.Int.{w64, byte_at, bytes_low_first, to_le_bytes, from_le_bytes}
+use Rattle.form.specs.Rules.Form.{map_in}
+use Rattle.std.specs.Int.{w16, w64, byte_at, bytes_low_first, to_le_bytes, from_le_bytes}
 use Rattle.std.specs.Simd.{first_chunks}
 use Rattle.std.specs.Prelude.{Result, Ok}
 use Rattle.form.specs.declared.short.TooShort.{TooShort}
@@ -144,6 +145,15 @@ number-past l i h = ap number (drop_of_length-le l h)
 eight-said : (l : List ℕ) → length l ≤ 8 → number l ≡ from_le_bytes w64 l
 eight-said l h =
     omega (arith, number-next l 0, number-next l 1, number-next l 2, number-next l 3, number-next l 4, number-next l 5, number-next l 6, number-next l 7, number-past l 8 h)
+
+-- the map of a form
+pub map-said : (bs first : List ℕ) → first ≡ take 2 bs → from_le_bytes w16 first ≡ map_in bs
+unfolding map_in
+map-said bs first e =
+    let l = take 2 bs in
+    let few : length l ≤ 2 = omega (arith, length-take 2 bs) in
+    let said : number l ≡ from_le_bytes w16 l = omega (arith, number-next l 0, number-next l 1, number-past l 2 few) in
+    ap (from_le_bytes w16) e ∙ sym said
 
 -- the number of the eight bytes at a place, in a list cut into eights
 chunk-at : (n i : ℕ) (bs : List ℕ) → i < n → get_or (first_chunks 8 n bs) i [] ≡ take 8 (drop (i * 8) bs)

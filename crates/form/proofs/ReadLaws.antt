@@ -255,7 +255,3 @@ none-left false n e = refl
 pub some-left : (b : Bool) (n k : ℕ) → Some k ≡ cond b (Some n) None → b ≡ true
 some-left true n k e = refl
 some-left false n k e = cc
-
--- the bytes after the map, as the code lends them
-pub rest-whole : (bs : List ℕ) → take (length bs - 2) (drop 2 bs) ≡ drop 2 bs
-rest-whole bs = take_all (length bs - 2) (drop 2 bs) (omega (arith, length-drop 2 bs))

@@ -75,15 +75,13 @@ fn spread(rows: &[Row], map: u64, bytes: &[u8], full: &mut [u8])
 pub fn unpack(rows: &[Row], bytes: &[u8], full: &mut [u8]) -> Option<u16>
     ensures { read result full.new ≡ unpack_into rows.now bytes.now full.old }
 {
-    if bytes.len() < 2 {
-        return None;
-    }
+    let (first, fields) = bytes.split_first_chunk::<2>()?;
     table::room_left(rows, full.len())?;
-    let map = number::number_at(bytes, 0, 2);
-    let fields = &bytes[2..];
-    if !is_form(rows, map, fields) {
+    let map = u16::from_le_bytes(*first);
+    let m = u64::from(map);
+    if !is_form(rows, m, fields) {
         return None;
     }
-    spread(rows, map, fields, full);
-    Some(map as u16)
+    spread(rows, m, fields, full);
+    Some(map)
 }
