@@ -1,23 +1,27 @@
 -- Numbers, words and floats as bytes: how long they are, and that they are read back. Assumes nothing.
-use Prim.Native.Nat.{ℕ, zero, suc, ◌+◌, ◌*◌, ◌-◌, ◌/◌, ◌%◌, ◌^◌, ◌≤◌, ◌<◌}
+use Prim.Native.Nat.{ℕ, zero, suc, ◌+◌, ◌*◌, ◌-◌, ◌/◌, ◌%◌, ◌^◌, ◌≤◌, ◌<◌, min}
 use mathlib.Core.Path.{◌≡◌, refl, sym, ap, ap₂, ◌∙◌}
 use mathlib.Core.Bool.{Bool, true, false, cond, true≢false}
 use Rattle.std.specs.Bool.{MatchBool}
 use Rattle.std.specs.List.{AllWithin, HoldsAt}
 use Rattle.std.proofs.lemmas.List.Recursion.{and_is}
 use mathlib.Core.List.{List, [], ◌∷◌, ◌++◌, append-nil}
-use native.Mathlib.Nat.{pow-suc, pow-le-pow_right}
+use native.Mathlib.Nat.{pow-suc, pow-le-pow_right, div-div-eq-div-mul}
 use native.Mathlib.Numerals.{add-one}
 use native.Mathlib.Omega.{arith}
-use lib.ListN.{length, get_or, take, drop, length-append, length-drop, drop_of_length-le, replicate}
-use Rattle.std.specs.Int.{w64, from_le_bytes}
-use lib.Seq.{take_at, drop_at, drop-cons, drop-drop}
-use lib.Dec.{T, eqb}
+use lib.ListN.{length, get_or, take, drop, length-append, length-drop, length-take, length-replicate, drop_of_length-le, replicate}
+use Rattle.form.specs.Rules.Form.{map_in}
+use Rattle.std.specs.Int.{w16, w64, byte_at, bytes_low_first, to_le_bytes, from_le_bytes}
+use Rattle.std.specs.Simd.{first_chunks}
+use Rattle.std.specs.Prelude.{Result, Ok}
+use Rattle.form.specs.declared.short.TooShort.{TooShort}
+use lib.Seq.{take_at, drop_at, drop-cons, drop-drop, sets}
+use lib.Dec.{T, eqb, leb}
 use lib.Ieee.{Float, binary64, fits, to_bits, of_bits}
 use lib.Ieee.Bits.{of_bits-to_bits, to_bits-lt}
-use borrow.Author.Tests.{le-leb, lt-leb}
-use Rattle.form.proofs.Filling.{Filling, part-on, part_length}
-use Rattle.form.specs.Rules.Bytes.{low, number, all_zero, each_bytes, each_from, word_bytes, words_from, float_bytes, floats_from, Leaves, leaves, store, fill_each, fill_words, fill_floats}
+use borrow.Author.Tests.{le-leb, lt-leb, leb-true, leb-false}
+use Rattle.form.proofs.Filling.{Filling, sets-front, begins, goes_on, ends, part-on, part-long}
+use Rattle.form.specs.Rules.Bytes.{low, number, all_zero, each_bytes, each_from, word_bytes, words_from, float_bytes, floats_from, Leaves, leaves, too_short, store, fill_each, fill_words, fill_floats}
 
 -- ---- numbers
 pub low-length : (k v : ℕ) → length (low k v) ≡ k
@@ -25,16 +29,59 @@ unfolding low
 low-length zero v = refl
 low-length (suc k) v = ap suc (low-length k (v / 256))
 
-pub low-none : (k i v : ℕ) → k ≤ i → low (k - i) v ≡ []
+-- the first of more bytes
+low-first : (k n v : ℕ) → k ≤ n → take k (low n v) ≡ low k v
 unfolding low
-low-none k i v h = let e : k - i ≡ 0 = omega arith in ap (λ (j : ℕ). low j v) e
+low-first zero n v h = refl
+low-first (suc k) zero v h = absurd (omega (arith, h))
+low-first (suc k) (suc n) v h = ap (λ (l : List ℕ). v % 256 ∷ l) (low-first k n (v / 256) (omega (arith, h)))
 
-pub low-all : (k v : ℕ) → low (k - 0) v ≡ low k v
-low-all k v = let e : k - 0 ≡ k = omega arith in ap (λ (j : ℕ). low j v) e
-
-pub low-more : (k i v : ℕ) → i < k → low (k - i) v ≡ v % 256 ∷ low (k - (i + 1)) (v / 256)
+-- past the bytes of a number stand zeros
+low-zeros : (k : ℕ) → low k 0 ≡ replicate k 0
 unfolding low
-low-more k i v h = let e : k - i ≡ suc (k - (i + 1)) = omega arith in ap (λ (j : ℕ). low j v) e
+low-zeros zero = refl
+low-zeros (suc k) = ap (λ (l : List ℕ). 0 ∷ l) (low-zeros k)
+
+low-past : (k j v : ℕ) → v < 256 ^ k → low (k + j) v ≡ low k v ++ replicate j 0
+unfolding low
+low-past zero j v h =
+    let z : v ≡ 0 = omega (arith, h) in
+    let n : 0 + j ≡ j = omega arith in
+    ap₂ low n z ∙ low-zeros j
+low-past (suc k) j v h =
+    let n : suc k + j ≡ suc (k + j) = omega arith in
+    ap (λ (i : ℕ). low i v) n ∙ ap (λ (l : List ℕ). v % 256 ∷ l) (low-past k j (v / 256) (omega (arith, h, pow-suc 256 k)))
+
+pub low-padded : (k n v : ℕ) → v < 2 ^ 64 → n ≡ min k 8 → low k v ≡ low n v ++ replicate (k - n) 0
+low-padded k n v h e = go (leb k 8) refl
+  where
+    go : (b : Bool) → leb k 8 ≡ b → low k v ≡ low n v ++ replicate (k - n) 0
+    go true a =
+        let m : k ≡ n = omega (arith, leb-true k 8 a, e) in
+        let z : k - n ≡ 0 = omega (arith, m) in
+        ap (λ (i : ℕ). low i v) m ∙ sym (append-nil (low n v)) ∙ sym (ap (λ (i : ℕ). low n v ++ replicate i 0) z)
+    go false a =
+        let m : n ≡ 8 = omega (arith, leb-false k 8 a, e) in
+        let s : k ≡ 8 + (k - n) = omega (arith, leb-false k 8 a, m) in
+        ap (λ (i : ℕ). low i v) s ∙ low-past 8 (k - n) v h ∙ ap (λ (i : ℕ). low i v ++ replicate (k - n) 0) (sym m)
+
+-- the bytes as the library's functions say them
+byte-is : (i v : ℕ) → v / 256 ^ i % 256 ≡ byte_at i v
+byte-is zero v = omega arith
+byte-is (suc i) v = refl
+
+low-from : (k i v : ℕ) → low k (v / 256 ^ i) ≡ bytes_low_first i k v
+unfolding low
+low-from zero i v = refl
+low-from (suc k) i v =
+    ap₂ (λ (b : ℕ) (l : List ℕ). b ∷ l) (byte-is i v) (ap (low k) (div-div-eq-div-mul v (256 ^ i) 256 ∙ ap (λ (p : ℕ). v / p) (sym (pow-suc 256 i))) ∙ low-from k (suc i) v)
+
+pub low-said : (k v : ℕ) → low k v ≡ bytes_low_first 0 k v
+low-said k v = let e : v ≡ v / 256 ^ 0 = omega arith in ap (low k) e ∙ low-from k 0 v
+
+-- some of the eight bytes of a number
+pub low-taken : (n v : ℕ) → n ≤ 8 → take n (to_le_bytes w64 v) ≡ low n v
+low-taken n v h = ap (take n) (sym (low-said 8 v)) ∙ low-first n 8 v h
 
 pub number-back : (k v : ℕ) → v < 256 ^ k → number (low k v) ≡ v
 unfolding number low
@@ -51,23 +98,37 @@ zeros-found bs true h = and_is all_zero (λ (b : ℕ). eqb b 0) refl (λ _ _. re
 zeros-found bs false h = and_is all_zero (λ (b : ℕ). eqb b 0) refl (λ _ _. refl) bs 0 false (λ e. absurd (true≢false (sym e))) (λ e. (h.0, h.1, h.2 0))
 
 -- ---- what is stored where there is room, and where there is none
-pub store-room : (bs out : List ℕ) → length bs ≤ length out → store bs out ≡ leaves true (bs ++ drop (length bs) out)
+pub store-room : (bs out : List ℕ) → length bs ≤ length out → store bs out ≡ leaves (Ok tt) (bs ++ drop (length bs) out)
 unfolding store
-store-room bs out h = ap (λ (b : Bool). cond b (leaves true (bs ++ drop (length bs) out)) (leaves false out)) (le-leb _ _ h)
+store-room bs out h = ap (λ (b : Bool). cond b (leaves (Ok tt) (bs ++ drop (length bs) out)) (leaves too_short out)) (le-leb _ _ h)
 
-pub stored : (bs out out' : List ℕ) → length bs ≤ length out → out' ≡ bs ++ drop (length bs) out → leaves true out' ≡ store bs out
-stored bs out out' h e = ap (leaves true) e ∙ sym (store-room bs out h)
+pub stored : (bs out out' : List ℕ) → length bs ≤ length out → out' ≡ bs ++ drop (length bs) out → leaves (Ok tt) out' ≡ store bs out
+stored bs out out' h e = ap (leaves (Ok tt)) e ∙ sym (store-room bs out h)
 
 -- an output that is just long enough
-pub stored-whole : (bs out out' : List ℕ) (r : Bool) → length bs ≡ length out → leaves r out' ≡ store bs out → out' ≡ bs
+pub stored-whole : (bs out out' : List ℕ) (r : Result Unit TooShort) → length bs ≡ length out → leaves r out' ≡ store bs out → out' ≡ bs
 stored-whole bs out out' r n e =
     let k : length out ≤ length bs = omega (arith, n) in
     ap (λ (l : Leaves ℕ). l.list) (e ∙ store-room bs out (omega (arith, n)))
     ∙ ap (λ (l : List ℕ). bs ++ l) (drop_of_length-le out k) ∙ append-nil bs
 
-pub store-short : (bs out : List ℕ) → length out < length bs → store bs out ≡ leaves false out
+pub store-short : (bs out : List ℕ) → length out < length bs → store bs out ≡ leaves too_short out
 unfolding store
-store-short bs out h = ap (λ (b : Bool). cond b (leaves true (bs ++ drop (length bs) out)) (leaves false out)) (lt-leb _ _ h)
+store-short bs out h = ap (λ (b : Bool). cond b (leaves (Ok tt) (bs ++ drop (length bs) out)) (leaves too_short out)) (lt-leb _ _ h)
+
+-- a number's bytes are put, then the zeros past them
+pub number-put : (k n v : ℕ) (out p z : List ℕ) → v < 2 ^ 64 → n ≡ min k 8 → k ≤ length out → p ≡ take n (to_le_bytes w64 v) → z ≡ replicate (length (take (k - n) (drop n (p ++ drop n out)))) 0
+    → take n (p ++ drop n out) ++ (z ++ drop (k - n) (drop n (p ++ drop n out))) ≡ low k v ++ drop (length (low k v)) out
+number-put k n v out p z h m r e q =
+    let few : n ≤ k = omega (arith, m) in
+    let eight : n ≤ 8 = omega (arith, m) in
+    let long : length (low n v) ≡ n = low-length n v in
+    let front : p ++ drop n out ≡ sets out 0 (low n v) =
+    ap₂ (λ (l : List ℕ) (j : ℕ). l ++ drop j out) (e ∙ low-taken n v eight) (sym long) ∙ sym (sets-front (low n v) out (omega (arith, long, few, r))) in
+    let k1 = goes_on (p ++ drop n out) n (low n v) (replicate (k - n) 0) (begins out (low k v) (low k v) refl) (low-padded k n v h m) front (omega (arith, long)) in
+    let zeros : length (replicate {A = ℕ} (k - n) 0) ≡ k - n = length-replicate (k - n) 0 in
+    let past = q ∙ ap (λ (j : ℕ). replicate j 0) (part-long (p ++ drop n out) n k few (omega (arith, k1.same, r))) in
+    ends (part-on z (replicate (k - n) 0) [] k k k1 (sym (append-nil (replicate (k - n) 0))) past (omega (arith, zeros, few)) (omega (arith, k1.same, r)) refl) refl (omega (arith, low-length k v, r))
 
 -- ---- the number of eight bytes, as the library's functions say it
 number-next : (l : List ℕ) (i : ℕ) → number (drop i l) ≡ get_or l i 0 + 256 * number (drop (suc i) l)
@@ -84,6 +145,28 @@ number-past l i h = ap number (drop_of_length-le l h)
 eight-said : (l : List ℕ) → length l ≤ 8 → number l ≡ from_le_bytes w64 l
 eight-said l h =
     omega (arith, number-next l 0, number-next l 1, number-next l 2, number-next l 3, number-next l 4, number-next l 5, number-next l 6, number-next l 7, number-past l 8 h)
+
+-- the map of a form
+pub map-said : (bs first : List ℕ) → first ≡ take 2 bs → from_le_bytes w16 first ≡ map_in bs
+unfolding map_in
+map-said bs first e =
+    let l = take 2 bs in
+    let few : length l ≤ 2 = omega (arith, length-take 2 bs) in
+    let said : number l ≡ from_le_bytes w16 l = omega (arith, number-next l 0, number-next l 1, number-past l 2 few) in
+    ap (from_le_bytes w16) e ∙ sym said
+
+-- the number of the eight bytes at a place, in a list cut into eights
+chunk-at : (n i : ℕ) (bs : List ℕ) → i < n → get_or (first_chunks 8 n bs) i [] ≡ take 8 (drop (i * 8) bs)
+chunk-at zero i bs h = absurd (omega (arith, h))
+chunk-at (suc n) zero bs h = refl
+chunk-at (suc n) (suc i) bs h =
+    let j : 8 + i * 8 ≡ suc i * 8 = omega arith in
+    chunk-at n i (drop 8 bs) (omega (arith, h)) ∙ ap (take 8) (drop-drop (i * 8) 8 bs ∙ ap (λ (k : ℕ). drop k bs) j)
+
+pub chunk-said : (n i : ℕ) (bs : List ℕ) (cs : List (List ℕ)) → i < n → cs ≡ first_chunks 8 n bs → from_le_bytes w64 (get_or cs i []) ≡ number (take 8 (drop (i * 8) bs))
+chunk-said n i bs cs h q =
+    let few : length (take 8 (drop (i * 8) bs)) ≤ 8 = omega (arith, length-take 8 (drop (i * 8) bs)) in
+    ap (from_le_bytes w64) (ap (λ (ls : List (List ℕ)). get_or ls i []) q ∙ chunk-at n i bs h) ∙ sym (eight-said (take 8 (drop (i * 8) bs)) few)
 
 -- zeros behind the bytes of a number change nothing
 zeros-say : (k n : ℕ) → number (drop n (replicate k 0)) ≡ 0
@@ -143,14 +226,13 @@ module _ {A : Type 0} (f : A → ℕ) where
   unfolding each_bytes
   each_none xs i h = ap (each_bytes f) (drop_of_length-le xs h)
 
-  -- one element more is put, by a call that was lent its eight bytes
-  pub eight-on : (out out₀ p : List ℕ) (xs : List A) (i b : ℕ) (d : A) (r : Bool) → Filling out out₀ (each_bytes f xs) (i * 8) (each_bytes f (drop i xs))
-      → i < length xs → 8 * length xs ≤ length out₀ → b ≡ f (get_or xs i d) → leaves r p ≡ store (low 8 b) (take (i * 8 + 8 - i * 8) (drop (i * 8) out))
+  -- one element more is put, in its eight bytes
+  pub eight-on : (out out₀ p : List ℕ) (xs : List A) (i b : ℕ) (d : A) → Filling out out₀ (each_bytes f xs) (i * 8) (each_bytes f (drop i xs))
+      → i < length xs → 8 * length xs ≤ length out₀ → b ≡ f (get_or xs i d) → p ≡ to_le_bytes w64 b
       → Filling (take (i * 8) out ++ (p ++ drop (i * 8 + 8 - i * 8) (drop (i * 8) out))) out₀ (each_bytes f xs) ((i + 1) * 8) (each_bytes f (drop (i + 1) xs))
-  eight-on out out₀ p xs i b d r k t h q e =
+  eight-on out out₀ p xs i b d k t h q e =
       let room : i * 8 + 8 ≤ length out = omega (arith, k.same, h, t) in
-      let long : length (low 8 b) ≡ length (take (i * 8 + 8 - i * 8) (drop (i * 8) out)) = low-length 8 b ∙ sym (part_length out (i * 8) 8 room) in
-      part-on p (low 8 b) _ (i * 8 + 8) _ k (each_more xs i d t ∙ ap (λ (z : ℕ). low 8 z ++ each_bytes f (drop (i + 1) xs)) (sym q)) (stored-whole _ _ _ r long e)
+      part-on p (low 8 b) _ (i * 8 + 8) _ k (each_more xs i d t ∙ ap (λ (z : ℕ). low 8 z ++ each_bytes f (drop (i + 1) xs)) (sym q)) (e ∙ sym (low-said 8 b))
       (ap (λ (j : ℕ). i * 8 + j) (low-length 8 b)) room (omega arith)
 
 module _ {A : Type 0} (g : ℕ → A) where
@@ -174,13 +256,13 @@ module _ {A : Type 0} (g : ℕ → A) where
   from-length zero bs = refl
   from-length (suc n) bs = ap suc (from-length n (drop 8 bs))
 
-  pub fill-short : (bs : List ℕ) (xs : List A) → length bs < 8 * length xs → fill_each g bs xs ≡ leaves false xs
+  pub fill-short : (bs : List ℕ) (xs : List A) → length bs < 8 * length xs → fill_each g bs xs ≡ leaves too_short xs
   unfolding fill_each
-  fill-short bs xs h = ap (λ (b : Bool). cond b (leaves true (each_from g (length xs) bs)) (leaves false xs)) (lt-leb _ _ h)
+  fill-short bs xs h = ap (λ (b : Bool). cond b (leaves (Ok tt) (each_from g (length xs) bs)) (leaves too_short xs)) (lt-leb _ _ h)
 
-  pub fill-room : (bs : List ℕ) (xs xs' : List A) → 8 * length xs ≤ length bs → xs' ≡ each_from g (length xs) bs → leaves true xs' ≡ fill_each g bs xs
+  pub fill-room : (bs : List ℕ) (xs xs' : List A) → 8 * length xs ≤ length bs → xs' ≡ each_from g (length xs) bs → leaves (Ok tt) xs' ≡ fill_each g bs xs
   unfolding fill_each
-  fill-room bs xs xs' h e = ap (leaves true) e ∙ sym (ap (λ (b : Bool). cond b (leaves true (each_from g (length xs) bs)) (leaves false xs)) (le-leb _ _ h))
+  fill-room bs xs xs' h e = ap (leaves (Ok tt)) e ∙ sym (ap (λ (b : Bool). cond b (leaves (Ok tt) (each_from g (length xs) bs)) (leaves too_short xs)) (le-leb _ _ h))
 
 -- what is written is read back, where each element is that of its number and the number fits eight bytes
 abbrev pub All : {A : Type 0} → (A → Type 0) → List A → Type 0

@@ -4,7 +4,7 @@ use mathlib.Core.Path.{◌≡◌, refl, sym, ap, ap₂, ◌∙◌}
 use mathlib.Core.List.{List, [], ◌∷◌, ◌++◌, append_assoc, append-nil}
 use native.Mathlib.Nat.{add-zero, zero-min, min-zero, suc-min-suc}
 use native.Mathlib.Omega.{arith}
-use lib.ListN.{length, take, drop, set, length-append, length-drop, drop_of_length-le}
+use lib.ListN.{length, take, drop, set, length-append, length-drop, drop_of_length-le, take-append-drop}
 use lib.Seq.{sets, length-sets, sets-eq, drop-drop, length-take-le, take_all}
 use Rattle.std.proofs.lemmas.List.{take_more_set}
 
@@ -14,6 +14,12 @@ module _ {A : Type 0} where
   sets-append [] b l i = ap (λ (k : ℕ). sets l k b) (add-zero i)
   sets-append (x ∷ a) b l i = ap (λ (k : ℕ). sets (sets (set l i x) (suc i) a) k b) (omega arith) ∙ sets-append a b (set l i x) (suc i)
 
+  -- a run at the front
+  pub sets-front : (a l : List A) → length a ≤ length l → sets l 0 a ≡ a ++ drop (length a) l
+  sets-front a l h =
+      let n : 0 + length a ≡ length a = omega arith in
+      sets-eq a l 0 (omega (arith, h)) ∙ ap (λ (k : ℕ). a ++ drop k l) n
+
   -- c is l with the front of `all` stored, up to number i; `rest` is still to come
   pub record Filling (c l all : List A) (i : ℕ) (rest : List A) : Type 0 where
     pub stored : sets c i rest ≡ sets l 0 all
@@ -22,6 +28,19 @@ module _ {A : Type 0} where
 
   pub begins : (l all rest : List A) → rest ≡ all → Filling l l all 0 rest
   begins l all rest e = record { stored = ap (sets l 0) e; count = omega (arith, ap length e); same = refl }
+
+  -- where the front is there already
+  pub begins-at : (l rest : List A) (i : ℕ) → i ≤ length l → Filling l l (take i l ++ rest) i rest
+  begins-at l rest i h =
+      let long : length (take i l) ≡ i = length-take-le i l h in
+      let front : sets l 0 (take i l) ≡ l =
+      sets-front (take i l) l (omega (arith, long, h)) ∙ ap (λ (k : ℕ). take i l ++ drop k l) long ∙ take-append-drop i l in
+      let at : i ≡ 0 + length (take i l) = omega (arith, long) in
+      record {
+        stored = ap₂ (λ (c : List A) (k : ℕ). sets c k rest) (sym front) at ∙ sets-append (take i l) rest l 0;
+        count = omega (arith, length-append (take i l) rest, long);
+        same = refl;
+      }
 
   pub goes_on : {c l all : List A} {i : ℕ} {rest : List A} (c' : List A) (j : ℕ) (a b : List A)
       → Filling c l all i rest → rest ≡ a ++ b → c' ≡ sets c i a → j ≡ i + length a → Filling c' l all j b
@@ -36,15 +55,25 @@ module _ {A : Type 0} where
   next_fits {c} {l} {all} {i} {rest} a b f e h = omega (arith, f.count, f.same, ap length e, length-append a b, h)
 
   pub ends : {c l all : List A} {i : ℕ} {rest : List A} → Filling c l all i rest → rest ≡ [] → length all ≤ length l → c ≡ all ++ drop (length all) l
-  ends {c} {l} {all} {i} {rest} f e h =
-      let g : 0 + length all ≤ length l = omega arith in
-      let n : 0 + length all ≡ length all = omega arith in
-      ap (sets c i) (sym e) ∙ f.stored ∙ sets-eq all l 0 g ∙ ap (λ (k : ℕ). all ++ drop k l) n
+  ends {c} {l} {all} {i} {rest} f e h = ap (sets c i) (sym e) ∙ f.stored ∙ sets-front all l h
 
   pub ends-whole : {c l all : List A} {i : ℕ} {rest : List A} → Filling c l all i rest → rest ≡ [] → length all ≡ length l → c ≡ all
   ends-whole {c} {l} {all} {i} {rest} f e h =
       let k : length l ≤ length all = omega (arith, h) in
       ends f e (omega (arith, h)) ∙ ap (λ (r : List A). all ++ r) (drop_of_length-le l k) ∙ append-nil all
+
+  -- what is still to come, behind the front
+  pub ends-with : {c l all : List A} {i : ℕ} {rest : List A} → Filling c l all i rest → length all ≡ length l → take i c ++ rest ≡ all
+  ends-with {c} {l} {all} {i} {rest} f h =
+      let past : length c ≤ i + length rest = omega (arith, f.count, f.same, h) in
+      let over : length l ≤ length all = omega (arith, h) in
+      sym (append-nil (take i c ++ rest))
+      ∙ ap (λ (r : List A). take i c ++ rest ++ r) (sym (drop_of_length-le c past))
+      ∙ sym (sets-eq rest c i (omega (arith, f.count, f.same, h)))
+      ∙ f.stored
+      ∙ sets-front all l (omega (arith, h))
+      ∙ ap (λ (r : List A). all ++ r) (drop_of_length-le l over)
+      ∙ append-nil all
 
   -- of a list of which the front alone is told: one more, and all
   pub grown : (l : List A) (i : ℕ) (x : A) (rest all : List A) → i < length l → take i l ++ (x ∷ rest) ≡ all → take (i + 1) (set l i x) ++ rest ≡ all

@@ -1,6 +1,5 @@
 pub mod Filling
 pub mod ByteLaws
-pub mod FloatBits
 pub mod TableLaws
 pub mod ReadLaws
 pub mod FormLaws

@@ -116,11 +116,6 @@ module _ (rs : List Row) (m : ℕ) (fs : List (List ℕ)) (few : length rs ≤ m
   form-back = parsed-long rs (packed m fs) long-enough ∙ ap₂ (parse rs) map_back past-map ∙ parse-back rs m fs k
 
 -- ---- fields that lie end to end
-pub cut-sized : (ws : List ℕ) (zs : List Bool) (full : List ℕ) → sum ws ≤ length full → Sized (rows_of ws zs) (cut ws full)
-unfolding sum cut rows_of
-cut-sized [] zs full h = tt
-cut-sized (w ∷ ws) zs full h = (length-take-le w full (omega (arith, h)), cut-sized ws (drop 1 zs) (drop w full) (omega (arith, h, length-drop w full)))
-
 pub joined-cut : (ws full : List ℕ) → joined (cut ws full) ≡ take (sum ws) full
 unfolding sum cut joined
 joined-cut [] full = refl

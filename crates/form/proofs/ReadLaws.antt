@@ -10,6 +10,7 @@ use lib.Dec.{leb, eqb}
 use borrow.Author.Tests.{le-leb, lt-leb, leb-true, lt-ltb, le-ltb}
 use Rattle.std.proofs.Common.{Option, Some, None}
 use Rattle.form.proofs.Filling.{Filling, part-on, part_length}
+use Rattle.form.proofs.TableLaws.{same-bit}
 use Rattle.form.specs.Rules.Bytes.{all_zero}
 use Rattle.form.specs.declared.table.Row.{Row}
 use Rattle.form.specs.Rules.Form.{widths, sum, joined, odd, may_stand, Parsed, before, parse, map_in, parsed, Read, read, read_fields, unpack_into}
@@ -58,14 +59,20 @@ off-from true true f g x y p q e = cc
 off-from true false f g x y p q e = refl
 off-from false may f g x y p q e = cc
 
-module _ (rows rs : List Row) (r : Row) (m : ℕ) (bs : List ℕ) (e : rows ≡ r ∷ rs) where
-  pub form-on : (cs : List ℕ) → field_step (odd m) r bs ≡ Some cs → whole (parse rows m bs) ≡ whole (parse rs (m / 2) cs)
-  unfolding parse field_step
-  form-on cs h = ap (λ (l : List Row). whole (parse l m bs)) e ∙ on-from (odd m) (may_stand r bs) (take r.bytes bs) (replicate r.bytes 0) (drop r.bytes bs) bs cs rs (m / 2) h
+module _ (rows rs : List Row) (r : Row) (m m' : ℕ) (bs : List ℕ) (on : Bool) (e : rows ≡ r ∷ rs) (o : Some on ≡ Some (odd m)) (half : m' ≡ m / 2) where
+  step-is : field_step (odd m) r bs ≡ field_step on r bs
+  step-is = ap (λ (b : Bool). field_step b r bs) (sym (same-bit on (odd m) o))
 
-  pub form-off : field_step (odd m) r bs ≡ None → whole (parse rows m bs) ≡ false
+  pub form-on : (cs : List ℕ) → field_step on r bs ≡ Some cs → whole (parse rows m bs) ≡ whole (parse rs m' cs)
   unfolding parse field_step
-  form-off h = ap (λ (l : List Row). whole (parse l m bs)) e ∙ off-from (odd m) (may_stand r bs) (take r.bytes bs) (replicate r.bytes 0) (drop r.bytes bs) bs _ _ h
+  form-on cs h =
+      ap (λ (l : List Row). whole (parse l m bs)) e
+      ∙ on-from (odd m) (may_stand r bs) (take r.bytes bs) (replicate r.bytes 0) (drop r.bytes bs) bs cs rs (m / 2) (step-is ∙ h)
+      ∙ ap (λ (k : ℕ). whole (parse rs k cs)) (sym half)
+
+  pub form-off : field_step on r bs ≡ None → whole (parse rows m bs) ≡ false
+  unfolding parse field_step
+  form-off h = ap (λ (l : List Row). whole (parse l m bs)) e ∙ off-from (odd m) (may_stand r bs) (take r.bytes bs) (replicate r.bytes 0) (drop r.bytes bs) bs _ _ (step-is ∙ h)
 
 -- ---- after the last row
 whole-cond : (b : Bool) → whole (cond b (fields []) broken) ≡ b
@@ -77,9 +84,10 @@ unfolding parse
 form-end rows m bs e = ap (λ (l : List Row). whole (parse l m bs)) e ∙ whole-cond _
 
 -- ---- the fields one after another
-pub fields-none : (rows : List Row) (m : ℕ) (bs : List ℕ) → rows ≡ [] → joined (fields_in (widths rows) m bs) ≡ []
+pub fields-none : (rows : List Row) (m : ℕ) (bs : List ℕ) → length rows ≡ 0 → joined (fields_in (widths rows) m bs) ≡ []
 unfolding joined fields_in
-fields-none rows m bs e = ap (λ (l : List Row). joined (fields_in (widths l) m bs)) e
+fields-none [] m bs e = refl
+fields-none (r ∷ rows) m bs e = absurd (omega (arith, e))
 
 pub field-length : (b : Bool) (w : ℕ) (bs : List ℕ) → cond b w 0 ≤ length bs → length (cond b (take w bs) (replicate w 0)) ≡ w
 field-length true w bs h = length-take-le w bs h
@@ -151,13 +159,16 @@ form-fields (r ∷ rs) m bs e =
     ∙ ap (λ (fs : List (List ℕ)). fields (cond (odd m) (take w bs) (replicate w 0) ∷ fs)) (cond-fields (odd m) ws (m / 2) (drop w bs) bs)
 
 -- one field more goes to its place
-module _ (rows rs : List Row) (r : Row) (full full₀ all left : List ℕ) (m from : ℕ) (e : rows ≡ r ∷ rs) (enough : standing_sum (widths rows) m ≤ length left)
-    (room : from + sum (widths rows) ≤ length full₀) (f : Filling full full₀ all from (joined (fields_in (widths rows) m left))) where
+module _ (rows rs : List Row) (r : Row) (full full₀ all left : List ℕ) (m m' from : ℕ) (on : Bool) (e : rows ≡ r ∷ rs) (o : Some on ≡ Some (odd m)) (half : m' ≡ m / 2)
+    (enough : standing_sum (widths rows) m ≤ length left) (room : from + sum (widths rows) ≤ length full₀) (f : Filling full full₀ all from (joined (fields_in (widths rows) m left))) where
   abbrev w : ℕ
   w = r.bytes
 
   abbrev part : List ℕ
   part = take (from + w - from) (drop from full)
+
+  bit-on : on ≡ odd m
+  bit-on = same-bit on (odd m) o
 
   all-room : from + (w + sum (widths rs)) ≤ length full₀
   unfolding sum
@@ -169,29 +180,33 @@ module _ (rows rs : List Row) (r : Row) (full full₀ all left : List ℕ) (m fr
   own-length : length part ≡ w
   own-length = part_length full from w spread-room
 
-  needs : cond (odd m) w 0 + standing_sum (widths rs) (m / 2) ≤ length left
+  needs : cond on w 0 + standing_sum (widths rs) m' ≤ length left
   unfolding standing_sum
-  needs = subst (λ (l : List Row). standing_sum (widths l) m ≤ length left) e enough
+  needs =
+      let h = subst (λ (l : List Row). standing_sum (widths l) m ≤ length left) e enough in
+      omega (arith, h, ap₂ (λ (b : Bool) (k : ℕ). cond b w 0 + standing_sum (widths rs) k) bit-on half)
 
-  pub spread-enough : cond (odd m) (length part) 0 ≤ length left
-  spread-enough = omega (arith, needs, ap (λ (n : ℕ). cond (odd m) n 0) own-length)
+  pub spread-enough : cond on (length part) 0 ≤ length left
+  spread-enough = omega (arith, needs, ap (λ (n : ℕ). cond on n 0) own-length)
 
-  module _ (after p : List ℕ) (q : after ≡ cond (odd m) (drop (length part) left) left) (h : p ≡ cond (odd m) (take (length part) left) (replicate (length part) 0)) where
-    after-is : after ≡ cond (odd m) (drop w left) left
-    after-is = q ∙ ap (λ (n : ℕ). cond (odd m) (drop n left) left) own-length
+  module _ (after p : List ℕ) (q : after ≡ cond on (drop (length part) left) left) (h : p ≡ cond on (take (length part) left) (replicate (length part) 0)) where
+    after-is : after ≡ cond on (drop w left) left
+    after-is = q ∙ ap (λ (n : ℕ). cond on (drop n left) left) own-length
 
-    pub spread-more : (standing_sum (widths rs) (m / 2) ≤ length after) × (from + w + sum (widths rs) ≤ length full₀)
-        × Filling (take from full ++ (p ++ drop (from + w - from) (drop from full))) full₀ all (from + w) (joined (fields_in (widths rs) (m / 2) after))
+    pub spread-more : (standing_sum (widths rs) m' ≤ length after) × (from + w + sum (widths rs) ≤ length full₀)
+        × Filling (take from full ++ (p ++ drop (from + w - from) (drop from full))) full₀ all (from + w) (joined (fields_in (widths rs) m' after))
     unfolding joined fields_in
     spread-more =
-        let a = cond (odd m) (take w left) (replicate w 0) in
-        let g : cond (odd m) w 0 ≤ length left = omega (arith, needs) in
-        let n : from + length a ≡ from + w = ap (λ (j : ℕ). from + j) (field-length (odd m) w left g) in (
-          subst (λ (l : List ℕ). standing_sum (widths rs) (m / 2) ≤ length l) (sym after-is) (rest-long (odd m) w _ left needs),
+        let a = cond on (take w left) (replicate w 0) in
+        let g : cond on w 0 ≤ length left = omega (arith, needs) in
+        let n : from + length a ≡ from + w = ap (λ (j : ℕ). from + j) (field-length on w left g) in (
+          subst (λ (l : List ℕ). standing_sum (widths rs) m' ≤ length l) (sym after-is) (rest-long on w _ left needs),
           omega (arith, all-room),
-          part-on p a (joined (fields_in (widths rs) (m / 2) after)) (from + w) (from + w) f
-              (ap (λ (l : List Row). joined (fields_in (widths l) m left)) e ∙ ap (λ (l : List ℕ). a ++ joined (fields_in (widths rs) (m / 2) l)) (sym after-is))
-              (h ∙ ap (λ (j : ℕ). cond (odd m) (take j left) (replicate j 0)) own-length) n spread-room refl,
+          part-on p a (joined (fields_in (widths rs) m' after)) (from + w) (from + w) f
+              (ap (λ (l : List Row). joined (fields_in (widths l) m left)) e
+              ∙ ap₂ (λ (b : Bool) (k : ℕ). cond b (take w left) (replicate w 0) ++ joined (fields_in (widths rs) k (cond b (drop w left) left))) (sym bit-on) (sym half)
+              ∙ ap (λ (l : List ℕ). a ++ joined (fields_in (widths rs) m' l)) (sym after-is))
+              (h ∙ ap (λ (j : ℕ). cond on (take j left) (replicate j 0)) own-length) n spread-room refl,
         )
 
 -- ---- the whole form
@@ -240,7 +255,3 @@ none-left false n e = refl
 pub some-left : (b : Bool) (n k : ℕ) → Some k ≡ cond b (Some n) None → b ≡ true
 some-left true n k e = refl
 some-left false n k e = cc
-
--- the bytes after the map, as the code lends them
-pub rest-whole : (bs : List ℕ) → take (length bs - 2) (drop 2 bs) ≡ drop 2 bs
-rest-whole bs = take_all (length bs - 2) (drop 2 bs) (omega (arith, length-drop 2 bs))

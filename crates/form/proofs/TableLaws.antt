@@ -1,20 +1,22 @@
 -- The rows of a table one after another, over fields that lie end to end. Assumes nothing.
-use Prim.Native.Nat.{ℕ, zero, suc, ◌+◌, ◌*◌, ◌-◌, ◌/◌, ◌^◌, ◌≤◌, ◌<◌, min}
+use Prim.Native.Nat.{ℕ, zero, suc, ◌+◌, ◌*◌, ◌-◌, ◌/◌, ◌%◌, ◌^◌, ◌≤◌, ◌<◌, min}
 use mathlib.Core.Path.{◌≡◌, refl, sym, ap, ap₂, ◌∙◌, subst}
-use mathlib.Core.Bool.{Bool, true, false, cond, not}
+use mathlib.Core.Bool.{Bool, true, false, cond, not, true≢false}
+use Rattle.std.specs.Option.{is_none}
 use mathlib.Core.List.{List, [], ◌∷◌, ◌++◌, append-nil}
-use native.Mathlib.Nat.{pow-suc, pow-le-pow_right, mul-le-mul_left, mul-add, mul_assoc}
+use native.Mathlib.Nat.{pow-suc, pow-le-pow_right, mul-le-mul_left, mul-add, mul_assoc, mul_comm}
 use native.Mathlib.Numerals.{add-one}
 use native.Mathlib.Omega.{arith}
 use mir.Val.{bool_byte}
 use lib.ListN.{length, get_or, take, drop, length-append, take-append-drop, drop_of_length-le}
-use lib.Seq.{drop-cons, sets-eq}
+use lib.Seq.{drop-cons, sets}
 use lib.Dec.{leb}
 use borrow.Author.Tests.{le-leb, lt-leb}
-use Rattle.form.proofs.ByteLaws.{low-length, store-room}
-use Rattle.form.proofs.Filling.{Filling, begins, goes_on, ends, part-on, take-least, drop-least}
-use Rattle.form.specs.Rules.Bytes.{low, all_zero, Leaves, leaves, store}
-use Rattle.std.proofs.Common.{Some, None, Ok, Err}
+use Rattle.std.specs.Int.{w16, to_le_bytes}
+use Rattle.form.proofs.ByteLaws.{low-length, low-said}
+use Rattle.form.proofs.Filling.{Filling, sets-front, begins, goes_on, ends, part-on, take-least, drop-least}
+use Rattle.form.specs.Rules.Bytes.{low, all_zero}
+use Rattle.std.proofs.Common.{Option, Some, None, Ok, Err, ◌⊎◌, inl, inr}
 use Rattle.form.specs.declared.table.Row.{Row}
 use Rattle.form.specs.Rules.Form.{widths, rows_of, sum, cut, joined, odd, bit, map_of, standing, packed, Wrote, wrote, pack_into}
 
@@ -104,31 +106,64 @@ cut-many (r ∷ rows) full = ap suc (cut-many rows (drop r.bytes full))
 pub map-small : (rows : List Row) (full : List ℕ) → map_of (cut (widths rows) full) < 2 ^ length rows
 map-small rows full = subst (λ (k : ℕ). map_of (cut (widths rows) full) < 2 ^ k) (cut-many rows full) (map_below (cut (widths rows) full))
 
--- what was gathered, with one field more
-pub gathered : (all m v s r r' : ℕ) → all ≡ m + v * r → r ≡ s + 2 * r' → all ≡ m + v * s + v * 2 * r'
-gathered all m v s r r' e g =
-    e
-    ∙ ap (λ (z : ℕ). m + v * z) g
-    ∙ ap (λ (z : ℕ). m + z) (mul-add v s (2 * r') ∙ ap (λ (z : ℕ). v * s + z) (sym (mul_assoc v 2 r')))
-    ∙ sums m (v * s) (v * 2 * r')
+pub power_small : (k : ℕ) → k ≤ 16 → 2 ^ k ≤ 2 ^ 16
+power_small k h = pow-le-pow_right {n = 2} (omega arith) h
+
+-- a map of which k bits are gathered, and r is still to come
+pub record Gathered (all m k r : ℕ) : Type 0 where
+  pub small : m < 2 ^ k
+  pub whole : all ≡ m + 2 ^ k * r
+
+-- one bit more, which is shifted to its place
+pub gathered : {all m k r : ℕ} (j n x r' : ℕ) → Gathered all m k r → j ≡ k → k < 16 → x ≤ 1 → n ≡ k + 1 → r ≡ x + 2 * r' → Gathered all (m + x * 2 ^ j % 2 ^ 64) n r'
+gathered {all} {m} {k} {r} j n x r' g same h o e q =
+    let v = 2 ^ k in
+    let low : v * x ≤ v = omega (arith, mul-le-mul_left {m = x} {n = 1} v o) in
+    let kept : x * v % 2 ^ 64 ≡ v * x = omega (arith, mul_comm x v, low, power_small k (omega (arith, h))) in
+    let place : x * 2 ^ j % 2 ^ 64 ≡ v * x = ap (λ (z : ℕ). x * 2 ^ z % 2 ^ 64) same ∙ kept in
+    let twice : v * 2 ≡ 2 ^ n = sym (ap (λ (z : ℕ). 2 ^ z) (e ∙ add-one k) ∙ pow-suc 2 k) in
+    record {
+      small = omega (arith, g.small, place, low, twice);
+      whole =
+          g.whole
+          ∙ ap (λ (z : ℕ). m + v * z) q
+          ∙ ap (λ (z : ℕ). m + z) (mul-add v x (2 * r') ∙ ap (λ (z : ℕ). v * x + z) (sym (mul_assoc v 2 r')))
+          ∙ sums m (v * x) (v * 2 * r')
+          ∙ ap₂ (λ (a b : ℕ). m + a + b * r') (sym place) twice;
+    }
   where
     sums : (x y z : ℕ) → x + (y + z) ≡ x + y + z
     sums x y z = omega arith
 
-pub gathered-all : (all m v r : ℕ) → all ≡ m + v * r → r ≡ 0 → m ≡ all
-gathered-all all m v r e g = sym (e ∙ ap (λ (z : ℕ). m + v * z) g ∙ none m v)
+pub gathered-none : (all n : ℕ) (r : ℕ) → n ≡ 0 → r ≡ all → Gathered all 0 n r
+gathered-none all n r e q =
+    let one : 2 ^ n ≡ 1 = ap (λ (z : ℕ). 2 ^ z) e in
+    let self : all ≡ 0 + 1 * all = omega arith in
+    record { small = omega (arith, one); whole = self ∙ ap₂ (λ (p s : ℕ). 0 + p * s) (sym one) (sym q) }
+
+pub gathered-all : (all m k r : ℕ) → Gathered all m k r → r ≡ 0 → m ≡ all
+gathered-all all m k r g e = sym (g.whole ∙ ap (λ (z : ℕ). m + 2 ^ k * z) e ∙ none m (2 ^ k))
   where
     none : (m v : ℕ) → m + v * 0 ≡ m
     none m v = omega arith
 
-pub value-small : (v x : ℕ) → x ≤ 1 → v * x ≤ v
-value-small v x h = omega (arith, mul-le-mul_left {m = x} {n = 1} v h)
+-- ---- items with the bits of a map: these end where the items do, since the bits have no end
+abbrev the_bit : Option Bool → Bool
+the_bit (Some b) = b
+the_bit None = false
 
-pub power_small : (k : ℕ) → k ≤ 16 → 2 ^ k ≤ 2 ^ 16
-power_small k h = pow-le-pow_right {n = 2} (omega arith) h
+pub same-bit : (a b : Bool) → Some a ≡ Some b → a ≡ b
+same-bit a b e = ap the_bit e
 
-pub power-more : (v k : ℕ) → v ≡ 2 ^ k → v * 2 ≡ 2 ^ (k + 1)
-power-more v k e = ap (λ (z : ℕ). z * 2) e ∙ sym (ap (λ (z : ℕ). 2 ^ z) (add-one k) ∙ pow-suc 2 k)
+abbrev Ended : {S T : Type 0} → Type 0 → Bool → (S → Type 0) → (T → Type 0) → Type 0
+Ended {S = S} {T = T} none b P Q = ((s : S) × (none × P s)) ⊎ ((t : T) × ((◌≡◌ {A = Option Bool} None (Some b)) × Q t))
+
+no-end : {X : Type 0} (b : Bool) → ◌≡◌ {A = Option Bool} None (Some b) → X
+no-end b e = absurd (true≢false (ap (λ (o : Option Bool). is_none o) e))
+
+pub ended : {S T : Type 0} (none : Type 0) (b : Bool) (P : S → Type 0) (Q : T → Type 0) → Ended none b P Q → none
+ended none b P Q (inl h) = h.1.0
+ended none b P Q (inr h) = no-end b h.1.0
 
 -- ---- the length of what stands
 pub shown-length : (b : Bool) (f : List ℕ) → length (cond b f []) ≡ cond b (length f) 0
@@ -156,9 +191,12 @@ joined-within (w ∷ ws) full =
 pub standing-within : (m : ℕ) (ws full : List ℕ) → length (standing m (cut ws full)) ≤ length full
 standing-within m ws full = omega (arith, standing-small m (cut ws full), joined-within ws full)
 
-pub standing-next : (m : ℕ) (fs : List (List ℕ)) (f p : List ℕ) (gs : List (List ℕ)) → fs ≡ f ∷ gs → p ≡ cond (odd m) f [] → standing m fs ≡ p ++ standing (m / 2) gs
+-- one field, with its bit of the map
+pub standing-next : (m m' : ℕ) (fs : List (List ℕ)) (f p : List ℕ) (gs : List (List ℕ)) (b : Bool) → fs ≡ f ∷ gs → Some b ≡ Some (odd m) → m' ≡ m / 2 → p ≡ cond b f []
+    → standing m fs ≡ p ++ standing m' gs
 unfolding standing
-standing-next m fs f p gs e h = ap (standing m) e ∙ ap (λ (q : List ℕ). q ++ standing (m / 2) gs) (sym h)
+standing-next m m' fs f p gs b e o q h =
+    ap (standing m) e ∙ ap₂ (λ (c : Bool) (k : ℕ). cond c f [] ++ standing k gs) (sym (same-bit b (odd m) o)) (sym q) ∙ ap (λ (l : List ℕ). l ++ standing m' gs) (sym h)
 
 pub standing-none : (m : ℕ) (fs : List (List ℕ)) → fs ≡ [] → standing m fs ≡ []
 unfolding standing
@@ -186,15 +224,17 @@ module _ (bs out : List ℕ) where
       ap₂ (λ (k : ℕ) (l : List ℕ). wrote (Ok k) l) e q ∙ sym (ap into (le-leb _ _ g))
 
 -- the map's two bytes, then what stands
-module _ (m n : ℕ) (fs : List (List ℕ)) (out out' p : List ℕ) (r : Bool) (q : n ≡ length (packed m fs)) (h : n ≤ length out) (e : leaves r out' ≡ store (low 2 m) out) where
+module _ (m n : ℕ) (fs : List (List ℕ)) (out b p : List ℕ) (q : n ≡ length (packed m fs)) (h : n ≤ length out) (e : b ≡ to_le_bytes w16 m) where
+  abbrev out' : List ℕ
+  out' = b ++ drop 2 out
+
   map-put : Filling out' out (packed m fs) 2 (standing m fs)
   unfolding packed
   map-put =
-      let k : length (low 2 m) ≤ length out = omega (arith, q, h, low-length 2 m, packed-length m fs) in
-      let i : 0 + length (low 2 m) ≤ length out = omega (arith, k) in
-      let j : 0 + length (low 2 m) ≡ length (low 2 m) = omega arith in
-      goes_on out' 2 (low 2 m) (standing m fs) (begins out (packed m fs) (packed m fs) refl) refl
-      (ap (λ (l : Leaves ℕ). l.list) (e ∙ store-room (low 2 m) out k) ∙ sym (sets-eq (low 2 m) out 0 i ∙ ap (λ (z : ℕ). low 2 m ++ drop z out) j)) (sym (ap (λ (z : ℕ). 0 + z) (low-length 2 m)))
+      let long = low-length 2 m in
+      let front : out' ≡ sets out 0 (low 2 m) =
+      ap₂ (λ (l : List ℕ) (j : ℕ). l ++ drop j out) (e ∙ sym (low-said 2 m)) (sym long) ∙ sym (sets-front (low 2 m) out (omega (arith, q, h, long, packed-length m fs))) in
+      goes_on out' 2 (low 2 m) (standing m fs) (begins out (packed m fs) (packed m fs) refl) refl front (omega (arith, long))
 
   pub pack-done : p ≡ standing m fs → wrote (Ok n) (take 2 out' ++ (p ++ drop (n - 2) (drop 2 out'))) ≡ pack_into (packed m fs) out
   pack-done d =

@@ -1,10 +1,11 @@
 // Words and floats, eight bytes each: by their bits, the low byte first.
-ghost use Rattle.std.specs.Prelude.{◌≡◌, ℕ};
+ghost use Rattle.std.specs.Prelude.{◌≡◌, ◌*◌, ◌≤◌, ℕ, length, Ok};
 ghost use Rattle.std.specs.Float.{binary64};
 ghost use Rattle.std.specs.Float.Ieee.{to_bits, of_bits};
 ghost use Rattle.form.specs.Rules.Bytes.{each_bytes, leaves, store, fill_each};
 
-use crate::{float, number};
+use crate::short::TooShort;
+use std::num::{f64_from_bits_with_nan, f64_to_bits_with_nan};
 
 // A value that is eight bytes in a saved form.
 pub trait Eight: Copy {
@@ -33,43 +34,46 @@ impl Eight for u64 {
     }
 }
 
+// By its IEEE bits, with one pattern for every NaN.
 impl Eight for f64 {
     ghost number_of = { to_bits binary64 };
 
     ghost of_number = { of_bits binary64 };
 
     fn number_of(self) -> u64 {
-        float::bits_of(self)
+        f64_to_bits_with_nan(self)
     }
 
     fn of_number(n: u64) -> f64 {
-        float::of_bits(n)
+        f64_from_bits_with_nan(n)
     }
 }
 
-// Values go to the front of the output, eight bytes each; whether they have room.
-// Kept as a bool, here and in `read`: it answers a question and carries nothing, and callers lend exact room.
-pub fn put<E: Eight>(values: &[E], out: &mut [u8]) -> bool
-    ensures { leaves result out.new ≡ store (each_bytes E.number_of values.now) out.old }
+// Values go to the front of the output, eight bytes each, if they have room.
+pub fn put<E: Eight>(values: &[E], out: &mut [u8]) -> Result<(), TooShort>
+    ensures value { leaves result out.new ≡ store (each_bytes E.number_of values.now) out.old }
+    ensures room { 8 * length values.now ≤ length out.old → result ≡ Ok tt }
 {
     if out.len() / 8 < values.len() {
-        return false;
+        return Err(TooShort);
     }
     for (i, value) in values.iter().enumerate() {
-        number::put_number(value.number_of(), 8, &mut out[i * 8..i * 8 + 8]);
+        out[i * 8..i * 8 + 8].copy_from_slice(&value.number_of().to_le_bytes());
     }
-    true
+    Ok(())
 }
 
-// Values are read from the front of the bytes; whether these are enough.
-pub fn read<E: Eight>(bytes: &[u8], values: &mut [E]) -> bool
-    ensures { leaves result values.new ≡ fill_each E.of_number bytes.now values.old }
+// Values are read from the front of the bytes, if these are enough.
+pub fn read<E: Eight>(bytes: &[u8], values: &mut [E]) -> Result<(), TooShort>
+    ensures value { leaves result values.new ≡ fill_each E.of_number bytes.now values.old }
+    ensures room { 8 * length values.old ≤ length bytes.now → result ≡ Ok tt }
 {
-    if bytes.len() / 8 < values.len() {
-        return false;
+    let (eights, _) = bytes.as_chunks::<8>();
+    if eights.len() < values.len() {
+        return Err(TooShort);
     }
     for (i, value) in values.iter_mut().enumerate() {
-        *value = E::of_number(number::number_at(bytes, i * 8, 8));
+        *value = E::of_number(u64::from_le_bytes(eights[i]));
     }
-    true
+    Ok(())
 }

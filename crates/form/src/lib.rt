@@ -6,9 +6,10 @@
 // definitions that the contracts cite stand in specs/.
 #![tactic(auto)]
 
+mod bits;
 pub mod eight;
-mod float;
 pub mod number;
 pub mod pack;
+pub mod short;
 pub mod table;
 pub mod unpack;

@@ -1,6 +1,8 @@
 // Numbers as bytes, the low byte first.
-ghost use Rattle.std.specs.Prelude.{◌≡◌, ◌^◌, ◌≤◌, ◌<◌, min, length, take, drop};
+ghost use Rattle.std.specs.Prelude.{◌≡◌, ◌^◌, ◌≤◌, ◌<◌, min, length, take, drop, Ok};
 ghost use Rattle.form.specs.Rules.Bytes.{low, number, all_zero, leaves, store};
+
+use crate::short::TooShort;
 
 // Whether every byte is 0.
 pub fn all_zero(bytes: &[u8]) -> bool
@@ -9,20 +11,18 @@ pub fn all_zero(bytes: &[u8]) -> bool
     bytes.iter().all(|b| *b == 0)
 }
 
-// The k low bytes of v go to the front of the output; whether they have room.
-// Kept as a bool: it answers a question and carries nothing, and callers lend exact room.
-pub fn put_number(v: u64, k: usize, out: &mut [u8]) -> bool
-    ensures { leaves result out.new ≡ store (low k v) out.old }
+// The k low bytes of v go to the front of the output, if they have room.
+pub fn put_number(v: u64, k: usize, out: &mut [u8]) -> Result<(), TooShort>
+    ensures value { leaves result out.new ≡ store (low k v) out.old }
+    ensures room { k ≤ length out.old → result ≡ Ok tt }
 {
     if out.len() < k {
-        return false;
+        return Err(TooShort);
     }
-    let mut rest = v;
-    for b in out[..k].iter_mut() {
-        *b = (rest % 256) as u8;
-        rest /= 256;
-    }
-    true
+    let n = k.min(8);
+    out[..n].copy_from_slice(&v.to_le_bytes()[..n]);
+    out[n..k].fill(0);
+    Ok(())
 }
 
 // The number of up to eight bytes.

@@ -1,8 +1,8 @@
 // Writing: the map, then the fields whose bit stands in it.
 ghost use Rattle.std.specs.Prelude.{◌≡◌, cond, [], ◌≤◌, length};
-ghost use Rattle.form.specs.Rules.Form.{fields_of, standing, packed, wrote, pack_into};
+ghost use Rattle.form.specs.Rules.Form.{table_fields, standing, packed, wrote, pack_into};
 
-use crate::number;
+use crate::bits::Bits;
 use crate::table::Fields;
 
 // An output is too short for a saved form of this length.
@@ -20,30 +20,26 @@ fn shown(stands: bool, field: &[u8]) -> &[u8]
 
 // The length of the fields that stand.
 fn standing_length(fields: Fields<'_>, map: u64) -> usize
-    ensures { (result ≡ length (standing map (fields_of fields.entry)))
+    ensures { (result ≡ length (standing map (table_fields fields.entry)))
         × (result ≤ length fields.entry.full.now) }
 {
-    let mut rest = map;
     let mut n: usize = 0;
-    for field in fields {
-        n += shown(rest % 2 == 1, field).len();
-        rest /= 2;
+    for (field, stands) in fields.zip(Bits { rest: map }) {
+        n += shown(stands, field).len();
     }
     n
 }
 
 // The fields that stand, over an output of their length.
 fn put_standing(fields: Fields<'_>, map: u64, out: &mut [u8])
-    requires { length (standing map (fields_of fields)) ≡ length out.old }
-    ensures { out.new ≡ standing map (fields_of fields.entry) }
+    requires { length (standing map (table_fields fields)) ≡ length out.old }
+    ensures { out.new ≡ standing map (table_fields fields.entry) }
 {
-    let mut rest = map;
     let mut at: usize = 0;
-    for field in fields {
-        let part = shown(rest % 2 == 1, field);
+    for (field, stands) in fields.zip(Bits { rest: map }) {
+        let part = shown(stands, field);
         let end = at + part.len();
         out[at..end].copy_from_slice(part);
-        rest /= 2;
         at = end;
     }
 }
@@ -51,14 +47,14 @@ fn put_standing(fields: Fields<'_>, map: u64, out: &mut [u8])
 // The saved form of the fields that stand in the map goes to the front of the output; its length. An
 // output that is shorter stays as it is.
 pub fn pack(fields: Fields<'_>, map: u16, out: &mut [u8]) -> Result<usize, NoRoom>
-    ensures { wrote result out.new ≡ pack_into (packed map (fields_of fields.entry)) out.old }
+    ensures { wrote result out.new ≡ pack_into (packed map (table_fields fields.entry)) out.old }
 {
     let m = u64::from(map);
     let needed = 2 + standing_length(fields, m);
     if out.len() < needed {
         return Err(NoRoom { needed });
     }
-    number::put_number(m, 2, out);
+    out[..2].copy_from_slice(&map.to_le_bytes());
     put_standing(fields, m, &mut out[2..needed]);
     Ok(needed)
 }

@@ -2,7 +2,7 @@
 // list of bytes.
 ghost use Rattle.std.specs.Prelude.{◌≡◌, cond, ◌-◌, ◌≤◌, leb, length, take, Some, None};
 ghost use Rattle.std.specs.Iterator.{YieldsFirstRef, item_count};
-ghost use Rattle.form.specs.Rules.Form.{widths, sum, cut, fields_of, map_of, most_rows};
+ghost use Rattle.form.specs.Rules.Form.{widths, sum, cut, table_fields, map_of, most_rows};
 
 use crate::number;
 
@@ -26,7 +26,7 @@ pub struct Fields<'a> {
 impl<'a> Iterator for Fields<'a> {
     type Item = &'a [u8];
 
-    ghost next_gives = { YieldsFirstRef fields_of };
+    ghost next_gives = { YieldsFirstRef table_fields };
 
     ghost remaining = { item_count (λ s. s.rows.now) };
 
@@ -53,13 +53,11 @@ pub(crate) fn room_left(rows: &[Row], room: usize) -> Option<usize>
 // The map of up to sixteen fields.
 fn map_rows(fields: Fields<'_>) -> u64
     requires { length fields.rows.now ≤ most_rows }
-    ensures { result ≡ map_of (fields_of fields.entry) }
+    ensures { result ≡ map_of (table_fields fields.entry) }
 {
     let mut map: u64 = 0;
-    let mut value: u64 = 1;
-    for field in fields {
-        map += value * u64::from(!number::all_zero(field));
-        value *= 2;
+    for (k, field) in fields.enumerate() {
+        map += u64::from(!number::all_zero(field)) << k;
     }
     map
 }

@@ -4,6 +4,7 @@ ghost use Rattle.std.specs.Prelude.{MatchOption, Some, None};
 ghost use Rattle.form.specs.Rules.Form.{widths, sum, joined, parse, read, unpack_into};
 ghost use Rattle.form.specs.Steps.Form.{field_step, whole, standing_sum, fields_in};
 
+use crate::bits::Bits;
 use crate::table::Row;
 use crate::{number, table};
 
@@ -21,19 +22,20 @@ fn after_field(stands: bool, row: Row, bytes: &[u8]) -> Option<&[u8]>
 }
 
 // Whether the bytes after the map are those of a saved form.
+// Kept beside the `zip` of `spread`: with `zip(bits.by_ref())` no proof knows what `bits` holds after the loop (tried).
 fn is_form(rows: &[Row], map: u64, bytes: &[u8]) -> bool
     ensures { result ≡ whole (parse rows.now map bytes.now) }
 {
-    let mut rest = map;
+    let mut bits = Bits { rest: map };
     let mut left = bytes;
     for row in rows {
-        match after_field(rest % 2 == 1, *row, left) {
+        let stands = bits.next().unwrap();
+        match after_field(stands, *row, left) {
             Some(after) => left = after,
             None => return false,
         }
-        rest /= 2;
     }
-    (rest == 0) & left.is_empty()
+    (bits.rest == 0) & left.is_empty()
 }
 
 // A field's place is filled from the front of the bytes, or with zeros; the bytes after what was read.
@@ -59,13 +61,11 @@ fn spread(rows: &[Row], map: u64, bytes: &[u8], full: &mut [u8])
         ≡ joined (fields_in (widths rows.now) map bytes.now)
         ++ drop (length (joined (fields_in (widths rows.now) map bytes.now))) full.old }
 {
-    let mut rest = map;
     let mut left = bytes;
     let mut from: usize = 0;
-    for row in rows {
+    for (row, stands) in rows.iter().zip(Bits { rest: map }) {
         let end = from + row.bytes;
-        left = fill(rest % 2 == 1, left, &mut full[from..end]);
-        rest /= 2;
+        left = fill(stands, left, &mut full[from..end]);
         from = end;
     }
 }
@@ -75,15 +75,13 @@ fn spread(rows: &[Row], map: u64, bytes: &[u8], full: &mut [u8])
 pub fn unpack(rows: &[Row], bytes: &[u8], full: &mut [u8]) -> Option<u16>
     ensures { read result full.new ≡ unpack_into rows.now bytes.now full.old }
 {
-    if bytes.len() < 2 {
-        return None;
-    }
+    let (first, fields) = bytes.split_first_chunk::<2>()?;
     table::room_left(rows, full.len())?;
-    let map = number::number_at(bytes, 0, 2);
-    let fields = &bytes[2..];
-    if !is_form(rows, map, fields) {
+    let map = u16::from_le_bytes(*first);
+    let m = u64::from(map);
+    if !is_form(rows, m, fields) {
         return None;
     }
-    spread(rows, map, fields, full);
-    Some(map as u16)
+    spread(rows, m, fields, full);
+    Some(map)
 }

@@ -1,10 +1,10 @@
 -- What is read of a save: its fields as they lie end to end, and what its bytes say. Assumes nothing.
-use mathlib.Core.Bool.{Bool, true, false, cond, ◌&&◌}
+use mathlib.Core.Bool.{Bool, true, false, cond, ◌&&◌, and_assoc}
 use mathlib.Core.List.{List, [], ◌∷◌, ◌++◌}
 use mathlib.Core.Path.{◌≡◌, refl, sym, ap, ap₂, ◌∙◌, subst}
 use Prim.Native.Nat.{ℕ, zero, suc, ◌+◌, ◌*◌, ◌/◌, ◌%◌, ◌≤◌}
 use native.Mathlib.Omega.{arith}
-use Rattle.std.specs.Prelude.{Option, Some, None, option_map}
+use Rattle.std.specs.Prelude.{Option, Some, None, Result, Ok, option_map}
 use Rattle.std.specs.Bool.{then_some}
 use lib.Dec.{ltb, eqb, leb}
 use Rattle.std.specs.Option.{is_some}
@@ -14,7 +14,8 @@ use lib.Ieee.{Float, nan, binary64, of_bits}
 use borrow.Author.Tests.{le-leb}
 use Rattle.course.specs.Rules.Tiles.{number_at}
 use Rattle.course.proofs.BoolLaws.{and_right}
-use Rattle.form.specs.Rules.Bytes.{number, Leaves, leaves, each_from, floats_from, fill_each}
+use Rattle.form.specs.declared.short.TooShort.{TooShort}
+use Rattle.form.specs.Rules.Bytes.{number, Leaves, leaves, too_short, each_from, floats_from, fill_each}
 use Rattle.form.specs.declared.table.Row.{Row}
 use Rattle.form.specs.Rules.Form.{sum, cut, joined, Parsed, parse, map_in, parsed, Read, read, read_fields, unpack_into}
 use Rattle.form.specs.Rules.Form.Parsed.{fields, broken}
@@ -23,7 +24,7 @@ use Rattle.form.proofs.TableLaws.{widths-of}
 use Rattle.form.proofs.FormLaws.{Fits, none, shown, hidden, parse-only}
 use Rattle.form.proofs.MapLaws.{Sized, cut-joined}
 use Rattle.run.specs.Grader.Widths.{full_words}
-use Rattle.run.specs.Grader.Numbers.{control_count}
+use Rattle.run.specs.Grader.Numbers.{control_count, car_numbers}
 use Rattle.run.specs.Grader.Saved.{Fields, field_bytes, second_form, field_at, float_in, fields_with, seed_from, fields_from, seeds_ok, sound_fields, loaded_from, loaded}
 use Rattle.run.specs.Steps.Load.{saved_field, seeds_read, fields_as}
 use Rattle.run.specs.declared.saved.SeedParts.{SeedParts}
@@ -39,14 +40,14 @@ cut_at (w ∷ ws) full zero = refl
 cut_at (w ∷ ws) full (suc k) = cut_at ws (drop w full) k ∙ ap (take (get_or ws k 0)) (drop-drop (sum (take k ws)) w full)
 
 -- a list is filled from a part of the bytes that is just long enough
-pub part-read : {A : Type 0} (g : ℕ → A) (full : List ℕ) (at k : ℕ) (xs xs' : List A) (r : Bool) → k ≡ 8 * length xs → at + k ≤ length full
+pub part-read : {A : Type 0} (g : ℕ → A) (full : List ℕ) (at k : ℕ) (xs xs' : List A) (r : Result Unit TooShort) → k ≡ 8 * length xs → at + k ≤ length full
     → leaves r xs' ≡ fill_each g (take k (drop at full)) xs → xs' ≡ each_from g (length xs) (take k (drop at full))
 unfolding fill_each
 part-read {A = A} g full at k xs xs' r n h e =
     let bs = take k (drop at full) in
     let l : length bs ≡ k = length-take-le k (drop at full) (omega (arith, length-drop at full)) in
     ap (λ (x : Leaves A). x.list)
-    (e ∙ ap (λ (b : Bool). cond b (leaves true (each_from g (length xs) bs)) (leaves false xs)) (le-leb (8 * length xs) (length bs) (omega (arith, l, n))))
+    (e ∙ ap (λ (b : Bool). cond b (leaves (Ok tt) (each_from g (length xs) bs)) (leaves too_short xs)) (le-leb (8 * length xs) (length bs) (omega (arith, l, n))))
 
 -- ---- the fields of a save
 
@@ -115,9 +116,9 @@ module _ (full : List ℕ) where
   pub fields_read : (f : CodeFields) (flags : ℕ) → f.share ≡ float_in (take 8 (drop 4 full)) → f.limit ≡ number (take 4 (drop 12 full))
       → f.tick ≡ number (take 4 (drop 16 full)) → f.credited ≡ each_from (λ (w : ℕ). w) full_words (saved_field full 4) → flags ≡ number (take 1 (drop 340 full))
       → f.lap ≡ eqb (flags % 2) 1 → f.ended ≡ eqb (flags / 2 % 2) 1 → f.fallback ≡ eqb (flags / 4 % 2) 1
-      → f.car ≡ floats_from control_count (saved_field full 7) ++ (float_in (saved_field full 6) ∷ []) → f.poses ≡ floats_from 16 (saved_field full 8)
+      → car_numbers f.car ≡ floats_from control_count (saved_field full 7) ++ (float_in (saved_field full 6) ∷ []) → f.poses ≡ floats_from 16 (saved_field full 8)
       → f.n ≡ number (take 2 (drop 637 full)) → fields_as f ≡ fields_with f.seed full_words (cut (field_bytes full_words) full)
-  unfolding fields_with
+  unfolding fields_with car_numbers
   fields_read f flags share limit tick credited byte lap ended fallback car poses n =
       let flag : flags ≡ number (saved_field full 5) = byte ∙ ap number (sym lies-5) in
       let controls = floats_from control_count (saved_field full 7) in
@@ -216,20 +217,41 @@ mapped : (b : Bool) (f : CodeFields) → option_map fields_as (then_some b f) �
 mapped true f = refl
 mapped false f = refl
 
-pub load_is : (most : ℕ) (bs full to : List ℕ) (rows : List Row) (ok one sound : Bool) (map : Option ℕ) (seed : ℕ) (p : SeedParts) (f : CodeFields) → length full ≡ sum (field_bytes full_words) → sum (field_bytes full_words) ≤ length to → rows ≡ second_form full_words
-    → ok ≡ is_some map → read map full ≡ unpack_into rows bs to → p ≡ seeds_read (saved_field full 0) (saved_field full 10) → seed ≡ seed_from p.narrow p.wide
-    → fields_as f ≡ fields_with seed full_words (cut (field_bytes full_words) full) → one ≡ seeds_ok p.narrow p.wide → sound ≡ sound_fields most (fields_as f)
-    → option_map fields_as (then_some (ok && (ltb (get_or full 340 0) 8 && (one && sound))) f) ≡ loaded full_words most bs
-unfolding fields_from
-load_is most bs full to rows ok one sound map seed p f long room table some e parts s fs o q =
-    let cuts = cut (field_bytes full_words) full in
-    let flags = sym (flags-byte full long) in
-    let all = fs ∙ ap (λ (k : ℕ). fields_with k full_words cuts) (s ∙ ap (λ (x : SeedParts). seed_from x.narrow x.wide) parts) in
-    let single = o ∙ ap (λ (x : SeedParts). seeds_ok x.narrow x.wide) parts in
-    let tested = q ∙ ap (sound_fields most) all in
-    mapped (ok && (ltb (get_or full 340 0) 8 && (one && sound))) f
-    ∙ (λ i. cond (some i && (ltb (flags i) 8 && (single i && tested i))) (Some (all i)) None)
-    ∙ read-loaded full_words most bs full to map room (e ∙ ap (λ (l : List Row). unpack_into l bs to) table)
+module _ (most : ℕ) (bs full to : List ℕ) (rows : List Row) (map : Option ℕ) (room : sum (field_bytes full_words) ≤ length to)
+    (table : rows ≡ second_form full_words) (e : read map full ≡ unpack_into rows bs to) where
+  abbrev cuts : List (List ℕ)
+  cuts = cut (field_bytes full_words) full
+
+  all-tested : Tested full_words most bs (is_some map) cuts ≡ loaded full_words most bs
+  all-tested = read-loaded full_words most bs full to map room (e ∙ ap (λ (l : List Row). unpack_into l bs to) table)
+
+  pub none-read : map ≡ None → None ≡ loaded full_words most bs
+  none-read h = ap (λ (m : Option ℕ). Tested full_words most bs (is_some m) cuts) (sym h) ∙ all-tested
+
+  module _ (long : length full ≡ sum (field_bytes full_words)) (k : ℕ) (p : SeedParts) (one : Bool) (some : map ≡ Some k) (parts : p ≡ seeds_read (saved_field full 0) (saved_field full 10)) (o : one ≡ seeds_ok p.narrow p.wide) where
+    abbrev kept : Fields
+    kept = fields_from full_words cuts
+
+    first-tested : (b : Bool) → (ltb (get_or full 340 0) 8 && one) ≡ b → cond (b && sound_fields most kept) (Some kept) None ≡ loaded full_words most bs
+    first-tested b h =
+        let flags = sym (flags-byte full long) in
+        let single = o ∙ ap (λ (x : SeedParts). seeds_ok x.narrow x.wide) parts in
+        let both = ap (λ (x : Bool). x && sound_fields most kept) (sym h) ∙ and_assoc (ltb (get_or full 340 0) 8) one (sound_fields most kept) in
+        ap (λ (x : Bool). cond x (Some kept) None) both
+        ∙ (λ i. cond (ltb (flags i) 8 && (single i && sound_fields most kept)) (Some kept) None)
+        ∙ ap (λ (m : Option ℕ). Tested full_words most bs (is_some m) cuts) (sym some)
+        ∙ all-tested
+
+    pub not-taken : (ltb (get_or full 340 0) 8 && one) ≡ false → None ≡ loaded full_words most bs
+    not-taken h = first-tested false h
+
+    pub load_is : (sound : Bool) (seed : ℕ) (f : CodeFields) → (ltb (get_or full 340 0) 8 && one) ≡ true → seed ≡ seed_from p.narrow p.wide
+        → fields_as f ≡ fields_with seed full_words cuts → sound ≡ sound_fields most (fields_as f) → option_map fields_as (then_some sound f) ≡ loaded full_words most bs
+    unfolding fields_from
+    load_is sound seed f h s fs q =
+        let all : fields_as f ≡ kept = fs ∙ ap (λ (k : ℕ). fields_with k full_words cuts) (s ∙ ap (λ (x : SeedParts). seed_from x.narrow x.wide) parts) in
+        let tested = q ∙ ap (sound_fields most) all in
+        mapped sound f ∙ (λ i. cond (tested i) (Some (all i)) None) ∙ first-tested true h
 
 -- what was not read is not loaded, and what was read is
 pub not-loaded : {o : Option CodeFields} {r : Option Fields} → o ≡ None → option_map fields_as o ≡ r → None ≡ r

@@ -4,7 +4,7 @@ use mathlib.Core.Path.{◌≡◌, refl, sym, ap, ap₂, ◌∙◌}
 use Prim.Native.Nat.{ℕ, zero, suc, ◌+◌, ◌*◌, ◌≤◌, ◌<◌}
 use native.Mathlib.Omega.{arith}
 use lib.ListN.{length, get_or, set, take, drop, length-append, length-drop, drop_of_length-le}
-use lib.Seq.{sets, sets-eq, drop-cons, split_at, take_at, drop_at, drop-drop, take-suc, length-take-le}
+use lib.Seq.{sets, sets-eq, drop-cons, take_at, drop_at, drop-drop, take-suc, length-take-le}
 use native.Mathlib.Nat.{suc-mul}
 use native.Mathlib.Numerals.{add-one}
 use Rattle.std.proofs.lemmas.List.Concat.{flat_map-append}
@@ -101,17 +101,7 @@ pub numbers-back : (a b c d : WheelCtl) (fuel : Float) → car_from (car_numbers
 unfolding car_numbers car_from wheel_from
 numbers-back a b c d fuel = refl
 
--- a car's numbers are its controls and its fuel
-pub car-parts : (ns : List Float) → length ns ≡ suc control_count → ns ≡ take control_count ns ++ (number_at ns control_count ∷ [])
-car-parts ns h =
-    split_at ns control_count nan (omega (arith, h))
-    ∙ ap (λ (l : List Float). take control_count ns ++ (number_at ns control_count ∷ l)) (drop_of_length-le ns {i = suc control_count} (omega (arith, h)))
-
 -- the first numbers of a car are its controls
-pub controls-in : (car : Car) (ns : List Float) → ns ≡ car_numbers car → control_count ≤ length ns
-unfolding car_numbers
-controls-in car ns e = omega (arith, ap length e)
-
 pub controls-taken : (car : Car) (ns : List Float) → ns ≡ car_numbers car → length (take control_count ns) ≡ control_count
 unfolding car_numbers
 controls-taken car ns e = ap (λ (l : List Float). length (take control_count l)) e

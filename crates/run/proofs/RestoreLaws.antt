@@ -1,24 +1,30 @@
 -- What a restore answers, by its causes and by what was read. Assumes nothing.
 use mathlib.Core.Bool.{true, not, ◌&&◌}
-use mathlib.Core.List.{List}
-use mathlib.Core.Path.{◌≡◌, sym, ap, ap₂, ◌∙◌}
+use mathlib.Core.List.{List, [], ◌∷◌, ◌++◌}
+use mathlib.Core.Path.{◌≡◌, sym, ap, ap₂, ◌∙◌, subst}
 use Prim.Native.Nat.{ℕ, ◌*◌, ◌≤◌, ◌<◌}
 use native.Mathlib.Omega.{arith}
 use Rattle.std.specs.Prelude.{Option, Some, None, Result, Ok, Err}
 use lib.Dec.{leb, eqb}
-use lib.ListN.{length}
+use lib.ListN.{length, take}
+use lib.Ieee.{Float}
 use borrow.Author.Tests.{le-ltb, not-false, eqb-true, leb-true}
 use Rattle.course.specs.Rules.Lengths.{most_points}
 use Rattle.course.specs.declared.cause.Cause.{Cause}
 use Rattle.course.proofs.BoolLaws.{and_left, and_right}
 use Rattle.run.specs.Rules.Arguments.{settings_ok}
 use Rattle.run.specs.Grader.State.{State, Columns, short_of}
-use Rattle.run.specs.Grader.Numbers.{poses_at}
+use Rattle.run.specs.declared.state.WheelCtl.{WheelCtl}
+use Rattle.run.specs.declared.state.Car.{Car}
+use Rattle.run.specs.Rules.Pass.{ctl_at}
+use Rattle.run.specs.Grader.Numbers.{poses_at, control_count, car_from, car_numbers}
 use Rattle.run.specs.Grader.Touch.{sound_poses}
 use Rattle.run.specs.Grader.Start.{zero_state, first_contact}
 use Rattle.run.specs.Grader.Saved.{Fields, sound_fields, loaded}
 use Rattle.run.specs.Grader.Restore.{restore_check, run_from, restored_state, after_restore, restore_at, restore_of}
 use Rattle.run.proofs.CallLaws.{long}
+use Rattle.run.proofs.FourItems.{four-items}
+use Rattle.run.proofs.NumberLaws.{numbers-back}
 use Rattle.run.proofs.CheckLaws.{passed}
 
 -- ---- what no cause tells
@@ -43,6 +49,17 @@ restore-facts most l n f m h e =
       tiles = long (length l.tiles) (length l.offsets) n most q.0 (le-ltb most n few) m;
       sound = not-false (sound_poses l.offsets l.list n (poses_at f.poses 0)) r.0;
     }
+
+-- ---- a car of four wheels is that of its controls and its fuel
+parts-kept : (a b c d : WheelCtl) (fuel : Float)
+    → let car : Car = record { ctl = a ∷ b ∷ c ∷ d ∷ []; fuel_spent = fuel } in car ≡ car_from (take control_count (car_numbers car) ++ (fuel ∷ []))
+unfolding car_numbers
+parts-kept a b c d fuel = sym (numbers-back a b c d fuel)
+
+pub car-kept : (car : Car) → length car.ctl ≡ 4 → car ≡ car_from (take control_count (car_numbers car) ++ (car.fuel_spent ∷ []))
+car-kept car h =
+    subst (λ (l : List WheelCtl). let x : Car = record { ctl = l; fuel_spent = car.fuel_spent } in x ≡ car_from (take control_count (car_numbers x) ++ (car.fuel_spent ∷ [])))
+    (sym (four-items car.ctl (ctl_at [] 0) h)) (parts-kept (ctl_at car.ctl 0) (ctl_at car.ctl 1) (ctl_at car.ctl 2) (ctl_at car.ctl 3) car.fuel_spent)
 
 -- ---- the answer
 -- a run is the restored one: its credited tiles are the saved ones, and its wheels' sets those of the first contact

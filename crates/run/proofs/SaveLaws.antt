@@ -1,8 +1,8 @@
 -- A save: its fields put one after the other, how long its form is, and what it answers. Assumes nothing.
 use mathlib.Core.Bool.{Bool, true, false, cond}
 use mathlib.Core.List.{List, [], ◌∷◌, ◌++◌, append_assoc, append-nil}
-use mathlib.Core.Path.{◌≡◌, refl, sym, ap, ap₂, ◌∙◌, subst}
-use Prim.Native.Nat.{ℕ, ◌+◌, ◌*◌, ◌-◌, ◌≤◌}
+use mathlib.Core.Path.{◌≡◌, refl, sym, ap, ap₂, ◌∙◌}
+use Prim.Native.Nat.{ℕ, ◌+◌, ◌-◌, ◌≤◌}
 use native.Mathlib.Omega.{arith}
 use lib.Dec.{ltb}
 use lib.ListN.{length, take, drop}
@@ -12,9 +12,10 @@ use Rattle.std.specs.Prelude.{Result, Ok, Err}
 use Rattle.course.specs.declared.cause.Cause.{Cause}
 use Rattle.form.specs.Rules.Bytes.{low, all_zero, word_bytes, leaves, store}
 use Rattle.form.specs.declared.pack.NoRoom.{NoRoom}
+use Rattle.form.specs.declared.short.TooShort.{TooShort}
 use Rattle.form.specs.Rules.Form.{cut, joined, most_rows, map_of, standing, packed, Wrote, wrote, pack_into}
 use Rattle.form.proofs.ByteLaws.{low-length, stored-whole}
-use Rattle.form.proofs.Filling.{Filling, begins, part-on, part-long, ends-whole}
+use Rattle.form.proofs.Filling.{Filling, begins, part-on, part-long, ends-whole, ends-with}
 use Rattle.form.proofs.TableLaws.{packed-length, pack-room}
 use Rattle.form.proofs.MapLaws.{left_out, cut-joined}
 use Rattle.form.proofs.LaterRows.{zeros-low}
@@ -23,7 +24,7 @@ use Rattle.run.specs.Grader.Widths.{full_words}
 use Rattle.run.specs.Grader.State.{State, unfit}
 use Rattle.run.specs.Grader.Saved.{Fields, fields_of, flags_of, wide_seed, narrow_part, wide_part, ten_fields, bytes_of, field_bytes, saved_form}
 use Rattle.run.specs.Grader.Save.{save_check, after_save, save_at, save_of}
-use Rattle.run.specs.Steps.Save.{seed_parts, first_fields, last_fields, first_bytes, all_bytes}
+use Rattle.run.specs.Steps.Save.{seed_parts, first_fields, last_fields, first_bytes, last_from, all_bytes}
 use Rattle.run.specs.declared.saved.SeedParts.{SeedParts}
 use Rattle.run.proofs.CheckLaws.{passed}
 use Rattle.run.proofs.FieldSizes.{first_of, last_of, apart, words_long, Whole, bytes-sized, sized-length, first-length, last-length, all-bytes}
@@ -60,7 +61,7 @@ joined-append [] gs = refl
 joined-append (f ∷ fs) gs = ap (λ (l : List ℕ). f ++ l) (joined-append fs gs) ∙ sym (append_assoc f (joined fs) (joined gs))
 
 -- the next field was put, by a call that was lent its part
-pub field-on : {c l all : List ℕ} {i : ℕ} (f : List ℕ) (fs : List (List ℕ)) (p : List ℕ) (e : ℕ) (r : Bool) → Filling c l all i (joined (f ∷ fs))
+pub field-on : {c l all : List ℕ} {i : ℕ} (f : List ℕ) (fs : List (List ℕ)) (p : List ℕ) (e : ℕ) (r : Result Unit TooShort) → Filling c l all i (joined (f ∷ fs))
     → leaves r p ≡ store f (take (e - i) (drop i c)) → length f ≡ e - i → i ≤ e → e ≤ length l
     → Filling (take i c ++ (p ++ drop (e - i) (drop i c))) l all e (joined fs)
 unfolding joined
@@ -84,29 +85,23 @@ fields-end k n = ends-whole k refl (omega (arith, k.count, n))
 abbrev with_part : List ℕ → ℕ → ℕ → List ℕ → List ℕ
 with_part l i e p = take i l ++ (p ++ drop (e - i) (drop i l))
 
-abbrev set_end : ℕ
-set_end = first_bytes + 8 * full_words
-
 -- all fields of a run are there once those before the credited tiles, these, and those behind are put
-pub fields-put : (f : Fields) (full p q v : List ℕ) (r : Bool) (seed : SeedParts) (flags : ℕ) (controls : List Float) → Whole full_words f → length full ≡ all_bytes
+pub fields-put : (f : Fields) (full p q v : List ℕ) (r : Result Unit TooShort) (seed : SeedParts) (flags : ℕ) (controls : List Float) → Whole full_words f → length full ≡ all_bytes
     → seed ≡ seed_parts f.seed → p ≡ joined (first_fields seed.narrow f.share f.limit f.tick)
-    → leaves r q ≡ store (word_bytes f.credited) (take (set_end - first_bytes) (drop first_bytes (with_part full 0 first_bytes p)))
-    → flags ≡ flags_of f.lap f.ended f.fallback → controls ≡ f.controls → v ≡ joined (last_fields flags f.fuel controls f.poses f.n seed.wide)
-    → with_part (with_part (with_part full 0 first_bytes p) first_bytes set_end q) set_end all_bytes v ≡ joined (bytes_of f)
+    → leaves r q ≡ store (word_bytes f.credited) (take (last_from - first_bytes) (drop first_bytes (with_part full 0 first_bytes p)))
+    → flags ≡ flags_of f.lap f.ended f.fallback → controls ≡ f.controls
+    → v ≡ take last_from (with_part (with_part full 0 first_bytes p) first_bytes last_from q) ++ joined (last_fields flags f.fuel controls f.poses f.n seed.wide) → v ≡ joined (bytes_of f)
 unfolding seed_parts
 fields-put f full p q v r seed flags controls h n s a b x y z =
     let words = word_bytes f.credited in
     let first : p ≡ joined (first_of f) = a ∙ ap (λ (t : SeedParts). joined (first_fields t.narrow f.share f.limit f.tick)) s in
-    let last : v ≡ joined (last_of f) =
-    z
-    ∙ ap₂ (λ (k : ℕ) (l : List Float). joined (last_fields k f.fuel l f.poses f.n seed.wide)) x y
+    let last : joined (last_fields flags f.fuel controls f.poses f.n seed.wide) ≡ joined (last_of f) =
+    ap₂ (λ (k : ℕ) (l : List Float). joined (last_fields k f.fuel l f.poses f.n seed.wide)) x y
     ∙ ap (λ (t : SeedParts). joined (last_fields (flags_of f.lap f.ended f.fallback) f.fuel f.controls f.poses f.n t.wide)) s in
     let k0 = begins full (joined (bytes_of f)) (joined (first_of f ++ (words ∷ last_of f))) (ap joined (sym (apart f))) in
     let k1 = fields-on (first_of f) (words ∷ last_of f) p first_bytes k0 first (first-length f) (omega arith) (omega (arith, n)) in
-    let k2 = field-on words (last_of f) q set_end r k1 b (words_long f.credited full_words h.credited) (omega arith) (omega (arith, n)) in
-    let e = ap joined (sym (append-nil (last_of f))) in
-    let k3 = subst (Filling (with_part (with_part full 0 first_bytes p) first_bytes set_end q) full (joined (bytes_of f)) set_end) e k2 in
-    fields-end (fields-on (last_of f) [] v all_bytes k3 last (last-length f h) (omega arith) (omega (arith, n))) n
+    let k2 = field-on words (last_of f) q last_from r k1 b (words_long f.credited full_words h.credited) (omega arith) (omega (arith, n)) in
+    z ∙ ap (λ (l : List ℕ). take last_from (with_part (with_part full 0 first_bytes p) first_bytes last_from q) ++ l) last ∙ ends-with k2 (omega (arith, k2.count, last-length f h, n))
 
 -- ---- the answer
 

@@ -3,43 +3,22 @@ ghost use Rattle.std.specs.Prelude.{◌≡◌, [], ◌∷◌, ◌++◌, ◌+◌,
 ghost use Rattle.form.specs.Rules.Bytes.{number, words_from, floats_from};
 ghost use Rattle.form.specs.Rules.Form.{sum, cut};
 ghost use Rattle.run.specs.Grader.Widths.{full_words, most_tiles};
-ghost use Rattle.run.specs.Grader.Numbers.{control_count, pose_count};
+ghost use Rattle.run.specs.Grader.Numbers.{control_count, pose_count, car_numbers};
 ghost use Rattle.run.specs.Grader.Saved.{field_bytes, field_at, float_in, fields_with, sound_fields, loaded};
 ghost use Rattle.run.specs.Steps.Load.{seeds_read, fields_as, saved_field};
 
 use crate::numbers::{CAR_NUMBERS, POSE_NUMBERS};
-use crate::saved::{ALL_BYTES, SeedParts};
+use crate::saved::{
+    ALL_BYTES, CONTROL_NUMBERS, CONTROLS_AT, COUNT_AT, CREDITED_AT, FLAGS_AT, FUEL_AT, LIMIT_AT,
+    POSES_AT, SEED_AT, SHARE_AT, SeedParts, TICK_AT, WIDE_SEED_AT,
+};
+use crate::state::Car;
 use crate::widths::{FULL_WORDS, MOST_TILES};
 use crate::{numbers, saved, start, state, words};
 use form::{eight, number, unpack};
 
-// The car's numbers but for the fuel.
-const CONTROL_NUMBERS: usize = CAR_NUMBERS - 1;
-
-// Where the fields begin, in bit order.
-const SEED_AT: usize = 0;
-
-const SHARE_AT: usize = 4;
-
-const LIMIT_AT: usize = 12;
-
-const TICK_AT: usize = 16;
-
-const CREDITED_AT: usize = 20;
-
-const FLAGS_AT: usize = CREDITED_AT + 8 * FULL_WORDS;
-
-const FUEL_AT: usize = FLAGS_AT + 1;
-
-const CONTROLS_AT: usize = FUEL_AT + 8;
-
-const POSES_AT: usize = CONTROLS_AT + 8 * CONTROL_NUMBERS;
-
-const COUNT_AT: usize = POSES_AT + 8 * POSE_NUMBERS;
-
-const WIDE_SEED_AT: usize = COUNT_AT + 2;
-
-// What a save keeps of a run: controls and fuel as a car's numbers.
+// What a save keeps of a run.
+// Kept: the poses are numbers, as a run keeps them, since the C interface lends them so.
 #[derive(Clone, Copy)]
 pub(crate) struct Fields {
     pub seed: u64,
@@ -50,7 +29,7 @@ pub(crate) struct Fields {
     pub lap: bool,
     pub ended: bool,
     pub fallback: bool,
-    pub car: [f64; CAR_NUMBERS],
+    pub car: Car,
     pub poses: [f64; POSE_NUMBERS],
     pub n: u32,
 }
@@ -68,7 +47,7 @@ fn float_at(full: &[u8], at: usize) -> f64
     ensures { result ≡ float_in (take 8 (drop at full.now)) }
 {
     let mut x = [0.0; 1];
-    eight::read(&full[at..at + 8], &mut x);
+    eight::read(&full[at..at + 8], &mut x).unwrap();
     x[0]
 }
 
@@ -77,20 +56,20 @@ fn credited_in(full: &[u8; ALL_BYTES]) -> [u64; FULL_WORDS]
     ensures { result ≡ words_from full_words (saved_field full.now 4) }
 {
     let mut set = [0u64; FULL_WORDS];
-    eight::read(&full[CREDITED_AT..FLAGS_AT], &mut set);
+    eight::read(&full[CREDITED_AT..FLAGS_AT], &mut set).unwrap();
     set
 }
 
-// The car's numbers: the controls, field 7, then the fuel, field 6.
-fn car_in(full: &[u8; ALL_BYTES]) -> [f64; CAR_NUMBERS]
-    ensures { result
+// The car: the controls, field 7, and the fuel, field 6.
+fn car_in(full: &[u8; ALL_BYTES]) -> Car
+    ensures { car_numbers result
         ≡ floats_from control_count (saved_field full.now 7)
         ++ (float_in (saved_field full.now 6) ∷ []) }
 {
     let mut car = [0.0; CAR_NUMBERS];
-    eight::read(&full[CONTROLS_AT..POSES_AT], &mut car[..CONTROL_NUMBERS]);
+    eight::read(&full[CONTROLS_AT..POSES_AT], &mut car[..CONTROL_NUMBERS]).unwrap();
     car[CONTROL_NUMBERS] = float_at(full, FUEL_AT);
-    car
+    numbers::car_from(&car)
 }
 
 // The last poses' numbers, field 8.
@@ -98,7 +77,7 @@ fn poses_in(full: &[u8; ALL_BYTES]) -> [f64; POSE_NUMBERS]
     ensures { result ≡ floats_from pose_count (saved_field full.now 8) }
 {
     let mut poses = [0.0; POSE_NUMBERS];
-    eight::read(&full[POSES_AT..COUNT_AT], &mut poses);
+    eight::read(&full[POSES_AT..COUNT_AT], &mut poses).unwrap();
     poses
 }
 
@@ -142,12 +121,10 @@ fn fields_in(seed: u64, full: &[u8; ALL_BYTES]) -> Fields
 fn is_sound(f: Fields) -> bool
     ensures { result ≡ sound_fields most_tiles (fields_as f) }
 {
-    let credited = f.credited;
-    let last = f.poses;
-    let poses = numbers::poses_from(&last);
+    let poses = numbers::poses_from(&f.poses);
     let settings = start::settings_ok(f.share, f.limit);
     let count = (1 <= f.n) & (f.n <= MOST_TILES);
-    let tiles = words::all_below(&credited, f.n as usize);
+    let tiles = words::all_below(&f.credited, f.n as usize);
     settings & (count & (state::poses_ok(poses) & (tiles & (f.tick <= f.limit))))
 }
 
@@ -157,12 +134,12 @@ pub(crate) fn load(bytes: &[u8]) -> Option<Fields>
 {
     let rows = saved::rows();
     let mut full = [0u8; ALL_BYTES];
-    let map = unpack::unpack(&rows, bytes, &mut full);
+    unpack::unpack(&rows, bytes, &mut full)?;
     let seeds = seeds_in(&full);
-    let fields = fields_in(saved::seed_from(seeds), &full);
     let known = full[FLAGS_AT] < 8;
-    let one = saved::seeds_ok(seeds);
-    let sound = is_sound(fields);
-    let taken = map.is_some() & (known & (one & sound));
-    taken.then_some(fields)
+    if !(known & saved::seeds_ok(seeds)) {
+        return None;
+    }
+    let fields = fields_in(saved::seed_from(seeds), &full);
+    is_sound(fields).then_some(fields)
 }

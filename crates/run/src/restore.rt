@@ -15,7 +15,7 @@ use crate::{contact, load, numbers, start, state, words};
 use course::cause::Cause;
 
 // A course's seed and its tile count.
-#[derive(Clone, Copy)]
+#[derive(Clone, Copy, Default)]
 pub struct SavedFor {
     pub seed: u64,
     pub n: u32,
@@ -58,8 +58,7 @@ fn run_of(f: Fields, credited: [u64; FULL_WORDS], wheels: [u64; WHEEL_WORDS]) ->
         ended: f.ended,
         driven: false,
     };
-    let numbers = f.car;
-    let car = numbers::car_from(&numbers);
+    let car = f.car;
     let poses = f.poses;
     Run {
         setup,

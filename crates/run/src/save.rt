@@ -1,17 +1,20 @@
 // The call `save`: a run between ticks as bytes (document 02, orders 1 and 3).
-ghost use Rattle.std.specs.Prelude.{◌≡◌, ◌≤◌, length};
+ghost use Rattle.std.specs.Prelude.{◌≡◌, ◌++◌, ◌≤◌, length, take};
 ghost use Rattle.form.specs.Rules.Form.{joined};
 ghost use Rattle.run.specs.Grader.Widths.{most_tiles};
 ghost use Rattle.run.specs.Grader.State.{view};
 ghost use Rattle.run.specs.Grader.Numbers.{control_count, pose_count};
 ghost use Rattle.run.specs.Grader.Saved.{fields_of, flags_of, bytes_of};
 ghost use Rattle.run.specs.Grader.Save.{save_check, after_save, save_of};
-ghost use Rattle.run.specs.Steps.Save.{first_fields, last_fields, first_bytes, last_bytes, all_bytes};
+ghost use Rattle.run.specs.Steps.Save.{first_fields, last_fields, first_bytes, last_from, all_bytes};
 
 use crate::numbers::CAR_NUMBERS;
-use crate::saved::ALL_BYTES;
+use crate::saved::{
+    ALL_BYTES, CONTROL_NUMBERS, CONTROLS_AT, COUNT_AT, CREDITED_AT, FLAGS_AT, FUEL_AT, LIMIT_AT,
+    POSES_AT, SEED_AT, SHARE_AT, TICK_AT, WIDE_SEED_AT,
+};
 use crate::state::{Progress, Run, Setup};
-use crate::widths::{FULL_WORDS, MOST_TILES};
+use crate::widths::MOST_TILES;
 use crate::{numbers, saved, state};
 use course::cause::Cause;
 use form::table::Fields;
@@ -19,14 +22,6 @@ use form::{eight, number, pack, table};
 
 // The room of the longest form: the map, and every field but the narrow seed's four bytes, where the wide one stands (cause 2).
 pub const SAVE_ROOM: usize = 2 + ALL_BYTES - 4;
-
-// The numbers of the four controls, before the fuel spent.
-const CONTROL_NUMBERS: usize = CAR_NUMBERS - 1;
-
-// Where the credited tiles begin and end among the fields.
-const SET_FROM: usize = 20;
-
-const SET_END: usize = SET_FROM + 8 * FULL_WORDS;
 
 // Refused by the first of the causes 4, 5 and 2 that holds; n is at most `most`.
 #[tactic(auto, unfolding(crate::specs::Grader::Save::save_check))]
@@ -59,13 +54,13 @@ fn put_first(narrow: u64, share: f64, limit: u32, tick: u32, out: &mut [u8])
     ensures { out.new ≡ joined (first_fields narrow share limit tick) }
 {
     let shares = [share];
-    number::put_number(narrow, 4, &mut out[0..4]);
-    eight::put(&shares, &mut out[4..12]);
-    number::put_number(limit as u64, 4, &mut out[12..16]);
-    number::put_number(tick as u64, 4, &mut out[16..20]);
+    number::put_number(narrow, 4, &mut out[SEED_AT..SHARE_AT]).unwrap();
+    eight::put(&shares, &mut out[SHARE_AT..LIMIT_AT]).unwrap();
+    number::put_number(limit as u64, 4, &mut out[LIMIT_AT..TICK_AT]).unwrap();
+    number::put_number(tick as u64, 4, &mut out[TICK_AT..CREDITED_AT]).unwrap();
 }
 
-// Flags, fuel, controls, poses, tile count and wide seed, over an output of their length.
+// Flags, fuel, controls, poses, tile count and wide seed, in the bytes of all fields.
 fn put_last(
     flags: u64,
     fuel: f64,
@@ -73,20 +68,22 @@ fn put_last(
     poses: &[f64],
     n: u32,
     wide: u64,
-    out: &mut [u8],
+    full: &mut [u8],
 )
     requires controls_len { length controls.now ≡ control_count }
     requires poses_len { length poses.now ≡ pose_count }
-    requires out_len { length out.old ≡ last_bytes }
-    ensures { out.new ≡ joined (last_fields flags fuel controls.now poses.now n wide) }
+    requires full_len { length full.old ≡ all_bytes }
+    ensures { full.new
+        ≡ take last_from full.old
+        ++ joined (last_fields flags fuel controls.now poses.now n wide) }
 {
     let fuels = [fuel];
-    number::put_number(flags, 1, &mut out[0..1]);
-    eight::put(&fuels, &mut out[1..9]);
-    eight::put(controls, &mut out[9..169]);
-    eight::put(poses, &mut out[169..297]);
-    number::put_number(n as u64, 2, &mut out[297..299]);
-    number::put_number(wide, 8, &mut out[299..307]);
+    number::put_number(flags, 1, &mut full[FLAGS_AT..FUEL_AT]).unwrap();
+    eight::put(&fuels, &mut full[FUEL_AT..CONTROLS_AT]).unwrap();
+    eight::put(controls, &mut full[CONTROLS_AT..POSES_AT]).unwrap();
+    eight::put(poses, &mut full[POSES_AT..COUNT_AT]).unwrap();
+    number::put_number(n as u64, 2, &mut full[COUNT_AT..WIDE_SEED_AT]).unwrap();
+    number::put_number(wide, 8, &mut full[WIDE_SEED_AT..ALL_BYTES]).unwrap();
 }
 
 // Every field of a run, end to end over an output of their length.
@@ -108,9 +105,9 @@ fn put_fields(run: Run, full: &mut [u8])
         setup.lap_share,
         setup.tick_limit,
         progress.tick,
-        &mut full[0..SET_FROM],
+        &mut full[SEED_AT..CREDITED_AT],
     );
-    eight::put(&credited, &mut full[SET_FROM..SET_END]);
+    eight::put(&credited, &mut full[CREDITED_AT..FLAGS_AT]).unwrap();
     put_last(
         u64::from(flags),
         car.fuel_spent,
@@ -118,7 +115,7 @@ fn put_fields(run: Run, full: &mut [u8])
         &poses,
         setup.n,
         seed.wide,
-        &mut full[SET_END..ALL_BYTES],
+        full,
     );
 }
 

@@ -4,12 +4,41 @@ ghost use Rattle.run.specs.Grader.Widths.{full_words};
 ghost use Rattle.run.specs.Grader.Saved.{second_form, seed_from, seeds_ok};
 ghost use Rattle.run.specs.Steps.Save.{seed_parts};
 
+use crate::numbers::{CAR_NUMBERS, POSE_NUMBERS};
+use crate::widths::FULL_WORDS;
 use form::table::Row;
 
-// How many fields there are, and how many bytes all of them have.
+// How many fields there are.
 pub(crate) const FIELDS: usize = 11;
 
-pub(crate) const ALL_BYTES: usize = 647;
+// The numbers of the four controls, before the fuel spent.
+pub(crate) const CONTROL_NUMBERS: usize = CAR_NUMBERS - 1;
+
+// Where the fields begin, in bit order, when they lie end to end.
+pub(crate) const SEED_AT: usize = 0;
+
+pub(crate) const SHARE_AT: usize = SEED_AT + 4;
+
+pub(crate) const LIMIT_AT: usize = SHARE_AT + 8;
+
+pub(crate) const TICK_AT: usize = LIMIT_AT + 4;
+
+pub(crate) const CREDITED_AT: usize = TICK_AT + 4;
+
+pub(crate) const FLAGS_AT: usize = CREDITED_AT + 8 * FULL_WORDS;
+
+pub(crate) const FUEL_AT: usize = FLAGS_AT + 1;
+
+pub(crate) const CONTROLS_AT: usize = FUEL_AT + 8;
+
+pub(crate) const POSES_AT: usize = CONTROLS_AT + 8 * CONTROL_NUMBERS;
+
+pub(crate) const COUNT_AT: usize = POSES_AT + 8 * POSE_NUMBERS;
+
+pub(crate) const WIDE_SEED_AT: usize = COUNT_AT + 2;
+
+// How many bytes all of them have.
+pub(crate) const ALL_BYTES: usize = WIDE_SEED_AT + 8;
 
 // The numbers of the two fields of a seed: four bytes in bit 0, or eight in bit 10.
 #[derive(Clone, Copy)]
@@ -28,22 +57,22 @@ fn row(bytes: usize) -> Row
     }
 }
 
-// How many bytes each field has, in bit order.
+// How many bytes each field has, in bit order: up to where the next begins.
 pub(crate) fn rows() -> [Row; FIELDS]
     ensures { result ≡ second_form full_words }
 {
     [
-        row(4),
-        row(8),
-        row(4),
-        row(4),
-        row(320),
-        row(1),
-        row(8),
-        row(160),
-        row(128),
-        row(2),
-        row(8),
+        row(SHARE_AT - SEED_AT),
+        row(LIMIT_AT - SHARE_AT),
+        row(TICK_AT - LIMIT_AT),
+        row(CREDITED_AT - TICK_AT),
+        row(FLAGS_AT - CREDITED_AT),
+        row(FUEL_AT - FLAGS_AT),
+        row(CONTROLS_AT - FUEL_AT),
+        row(POSES_AT - CONTROLS_AT),
+        row(COUNT_AT - POSES_AT),
+        row(WIDE_SEED_AT - COUNT_AT),
+        row(ALL_BYTES - WIDE_SEED_AT),
     ]
 }
 

@@ -1,5 +1,6 @@
 -- Document 02, order 1: numbers, words and floats as bytes, the low byte first. Assumes nothing.
-use Rattle.std.specs.Prelude.{Bool, true, false, cond, ◌&&◌, List, [], ◌∷◌, ◌++◌, ℕ, zero, suc, ◌+◌, ◌*◌, ◌/◌, ◌%◌, eqb, leb, length, take, drop, Float}
+use Rattle.std.specs.Prelude.{Bool, true, cond, ◌&&◌, List, [], ◌∷◌, ◌++◌, ℕ, zero, suc, ◌+◌, ◌*◌, ◌/◌, ◌%◌, eqb, leb, length, take, drop, Float, Result, Ok, Err}
+use Rattle.form.specs.declared.short.TooShort.{TooShort}
 use Rattle.std.specs.Float.{binary64}
 use Rattle.std.specs.Float.Ieee.{to_bits, of_bits}
 
@@ -39,21 +40,25 @@ float_bytes = each_bytes (to_bits binary64)
 abbrev pub floats_from : ℕ → List ℕ → List Float
 floats_from = each_from (of_bits binary64)
 
--- what a call leaves in the list lent to it, and whether there was room
+-- what a call leaves in the list lent to it, and what it answers
 pub record Leaves (A : Type 0) : Type 0 where
-  pub ok : Bool
+  pub answer : Result Unit TooShort
   pub list : List A
 
-abbrev pub leaves : {A : Type 0} → Bool → List A → Leaves A
-leaves b l = record { ok = b; list = l }
+abbrev pub leaves : {A : Type 0} → Result Unit TooShort → List A → Leaves A
+leaves r l = record { answer = r; list = l }
+
+-- a list is too short
+abbrev pub too_short : Result Unit TooShort
+too_short = Err (record {})
 
 -- bytes go to the front of an output and the rest stays; where they have no room, all of it stays
 unfoldable pub store : List ℕ → List ℕ → Leaves ℕ
-store bs out = cond (leb (length bs) (length out)) (leaves true (bs ++ drop (length bs) out)) (leaves false out)
+store bs out = cond (leb (length bs) (length out)) (leaves (Ok tt) (bs ++ drop (length bs) out)) (leaves too_short out)
 
 -- a list is filled from the front of bytes; where these are too few, it stays
 unfoldable pub fill_each : {A : Type 0} → (ℕ → A) → List ℕ → List A → Leaves A
-fill_each g bs xs = cond (leb (8 * length xs) (length bs)) (leaves true (each_from g (length xs) bs)) (leaves false xs)
+fill_each g bs xs = cond (leb (8 * length xs) (length bs)) (leaves (Ok tt) (each_from g (length xs) bs)) (leaves too_short xs)
 
 abbrev pub fill_words : List ℕ → List ℕ → Leaves ℕ
 fill_words = fill_each (λ (w : ℕ). w)

@@ -25,8 +25,8 @@ cut [] full = []
 cut (w ∷ ws) full = take w full ∷ cut ws (drop w full)
 
 -- the fields of a table, in bytes that are lent with it
-abbrev pub fields_of : Fields → List (List ℕ)
-fields_of f = cut (widths f.rows.now) f.full.now
+abbrev pub table_fields : Fields → List (List ℕ)
+table_fields f = cut (widths f.rows.now) f.full.now
 
 unfoldable pub joined : List (List ℕ) → List ℕ
 joined [] = []

@@ -1,11 +1,10 @@
 -- Document 02, orders 1 and 3: what was read of a save, as the private functions of `load` and `restore` keep it. Assumes nothing.
 use Rattle.std.specs.Prelude.{List, ℕ, take, Result, Ok, Err}
 use Rattle.course.specs.declared.cause.Cause.{Cause}
-use Rattle.course.specs.Rules.Tiles.{number_at}
 use Rattle.form.specs.Rules.Bytes.{number}
 use Rattle.form.specs.Rules.Form.{cut}
 use Rattle.run.specs.Grader.Widths.{full_words}
-use Rattle.run.specs.Grader.Numbers.{control_count}
+use Rattle.run.specs.Grader.Numbers.{control_count, car_numbers}
 use Rattle.run.specs.Grader.State.{view}
 use Rattle.run.specs.Grader.Start.{zero_state}
 use Rattle.run.specs.Grader.Saved.{Fields, field_bytes, field_at}
@@ -22,7 +21,7 @@ saved_field full k = field_at (cut (field_bytes full_words) full) k
 abbrev pub seeds_read : List ℕ → List ℕ → SeedParts
 seeds_read narrow wide = record { narrow = number narrow; wide = number wide }
 
--- the code's struct, in which the car's numbers are controls and fuel
+-- the code's struct, whose car has controls and fuel
 abbrev pub fields_as : CodeFields → Fields
 fields_as f =
     record {
@@ -34,8 +33,8 @@ fields_as f =
       lap = f.lap;
       ended = f.ended;
       fallback = f.fallback;
-      fuel = number_at f.car control_count;
-      controls = take control_count f.car;
+      fuel = f.car.fuel_spent;
+      controls = take control_count (car_numbers f.car);
       poses = f.poses;
       n = f.n;
     }

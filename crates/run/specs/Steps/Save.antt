@@ -1,6 +1,7 @@
 -- For private functions of save: a save's fields before and behind the credited tiles, and the seed's two. Assumes nothing.
-use Rattle.std.specs.Prelude.{List, [], ◌∷◌, ℕ, Float}
+use Rattle.std.specs.Prelude.{List, [], ◌∷◌, ℕ, ◌+◌, ◌*◌, Float}
 use Rattle.form.specs.Rules.Bytes.{low, float_bytes}
+use Rattle.run.specs.Grader.Widths.{full_words}
 use Rattle.run.specs.Grader.Saved.{narrow_part, wide_part}
 use Rattle.run.specs.declared.saved.SeedParts.{SeedParts}
 
@@ -22,6 +23,10 @@ last_fields flags fuel controls poses n wide =
 
 abbrev pub last_bytes : ℕ
 last_bytes = 307
+
+-- where they begin
+abbrev pub last_from : ℕ
+last_from = first_bytes + 8 * full_words
 
 -- all fields
 abbrev pub all_bytes : ℕ

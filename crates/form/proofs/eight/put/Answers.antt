@@ -8,8 +8,8 @@ use mathlib.Core.Path.{refl, sym, ap, ◌∙◌}
 use native.Mathlib.Omega.{arith}
 use Rattle.form.proofs.eight.put.Goals as goal
 
-pub returns-then-out-values : goal.returns-then-out-values
-returns-then-out-values g c = sym (store-short _ _ (omega (arith, c.if-out-values.true, each-length g.E.Eight.number_of c.args.values.now)))
+pub returns-then-out-values-clause-value : goal.returns-then-out-values-clause-value
+returns-then-out-values-clause-value g c = sym (store-short _ _ (omega (arith, c.if-out-values.true, each-length g.E.Eight.number_of c.args.values.now)))
 
 pub loop-i-init : goal.loop-i-init
 loop-i-init g c = (omega (arith, c.if-out-values.false), begins _ _ _ refl)
@@ -18,10 +18,10 @@ pub loop-i-preserved : goal.loop-i-preserved
 loop-i-preserved g c =
     let f = g.E.Eight.number_of in
     let x = c.index-values-i in
-    (c.loop-i.invariant.0, eight-on f _ _ _ _ _ _ x.result _ c.loop-i.invariant.1 c.loop-i-test.true c.loop-i.invariant.0 (c.number_of.ensures ∙ ap f x.is) c.put_number.ensures)
+    (c.loop-i.invariant.0, eight-on f _ _ _ _ _ _ x.result c.loop-i.invariant.1 c.loop-i-test.true c.loop-i.invariant.0 (c.number_of.ensures ∙ ap f x.is) (c.copy_from_slice.ensures.after ∙ c.to_le_bytes.ensures))
 
-pub returns : goal.returns
-returns g c =
+pub returns-clause-value : goal.returns-clause-value
+returns-clause-value g c =
     let s = c.args in
     let f = g.E.Eight.number_of in
     let i = c.loop-i.invariant in

@@ -1,22 +1,30 @@
 -- `form::pack::put_standing` meets its contract. Assumes nothing.
 use Rattle.form.proofs.Filling.{begins, ends-whole, next_fits, part-on}
-use Rattle.form.proofs.TableLaws.{standing-next, standing-none}
-use Rattle.form.specs.Rules.Form.{widths, cut, standing}
-use mathlib.Core.Path.{refl, ap}
+use Rattle.form.proofs.TableLaws.{ended, standing-next, standing-none}
+use Rattle.form.specs.Rules.Form.{table_fields, standing}
+use mathlib.Core.Path.{refl, ap, ap₂, ◌∙◌}
 use native.Mathlib.Omega.{arith}
 use Rattle.form.proofs.pack.put_standing.Goals as goal
 
 pub loop-field-init : goal.loop-field-init
-loop-field-init c = begins _ _ _ (ap (λ it. standing c.args.map (cut (widths it.rows.now) it.full.now)) c.into_iter-field-iterator.ensures.into_iter_gives)
+loop-field-init c =
+    let z = c.zip-field-items.ensures in
+    begins _ _ _
+    (ap (λ it. standing it.b.rest (table_fields it.a)) c.into_iter-field-iterator.ensures.into_iter_gives
+    ∙ ap₂ (λ b s. standing b.rest (table_fields s)) z.second z.first)
 
 pub slice_bounds-copy_from_slice-end : goal.slice_bounds-copy_from_slice-end
-slice_bounds-copy_from_slice-end c = next_fits _ _ c.loop-field.invariant (standing-next c.loop-field.rest _ _ _ _ c.in-Some.ensures.steps c.shown-part.ensures) (omega (arith, c.requires))
+slice_bounds-copy_from_slice-end c =
+    let t = c.in-Some.ensures.steps in
+    next_fits _ _ c.loop-field.invariant (standing-next _ _ _ _ _ _ _ t.0 t.1.0 t.1.1 c.shown-part.ensures) (omega (arith, c.requires))
 
 pub loop-field-preserved : goal.loop-field-preserved
 loop-field-preserved c =
-    let e = standing-next c.loop-field.rest _ _ _ _ c.in-Some.ensures.steps c.shown-part.ensures in
+    let t = c.in-Some.ensures.steps in
+    let e = standing-next _ _ _ _ _ _ _ t.0 t.1.0 t.1.1 c.shown-part.ensures in
     let h = next_fits _ _ c.loop-field.invariant e (omega (arith, c.requires)) in
     part-on _ _ _ _ _ c.loop-field.invariant e c.copy_from_slice.ensures.after refl h refl
 
 pub returns : goal.returns
-returns c = ends-whole c.loop-field.invariant (standing-none _ _ c.in-None.ensures.steps.0) c.requires
+returns c =
+    let l = c.loop-field in ends-whole l.invariant (standing-none l.field-iterator.b.rest _ (ended _ _ _ _ c.in-None.ensures.steps)) c.requires

@@ -1,34 +1,36 @@
 -- `form::pack::standing_length` meets its contract. Assumes nothing.
-use Rattle.form.proofs.TableLaws.{standing-next, standing-none, standing-within}
-use Rattle.form.specs.Rules.Form.{widths, cut, standing}
+use Rattle.form.proofs.TableLaws.{ended, standing-next, standing-none, standing-within}
+use Rattle.form.specs.Rules.Form.{widths, table_fields, standing}
 use lib.ListN.{length, length-append}
-use Prim.Native.Nat.{◌/◌}
-use mathlib.Core.Path.{◌≡◌, ap}
+use mathlib.Core.Path.{◌≡◌, ap, ap₂}
 use native.Mathlib.Omega.{arith}
 use Rattle.form.proofs.pack.standing_length.Goals as goal
 
 pub loop-field-init : goal.loop-field-init
-loop-field-init c = let e = ap (λ it. length (standing c.args.map (cut (widths it.rows.now) it.full.now))) c.into_iter-field-iterator.ensures.into_iter_gives in omega (arith, e)
+loop-field-init c =
+    let z = c.zip-field-items.ensures in
+    let e = ap (λ it. length (standing it.b.rest (table_fields it.a))) c.into_iter-field-iterator.ensures.into_iter_gives in
+    let d = ap₂ (λ b s. length (standing b.rest (table_fields s))) z.second z.first in
+    omega (arith, e, d)
 
 pub overflow_add-n : goal.overflow_add-n
 overflow_add-n c =
     let l = c.loop-field in
     let s = c.args in
-    let gs = cut (widths c.next.new.self.rows.now) c.next.new.self.full.now in
-    let n = ap length (standing-next l.rest _ _ _ gs c.in-Some.ensures.steps c.shown.ensures) in
-    omega (arith, l.invariant, n, length-append c.shown.result.now (standing (l.rest / 2) gs), standing-within s.map (widths s.fields.rows.now) s.fields.full.now)
+    let t = c.in-Some.ensures.steps in
+    let n = ap length (standing-next _ _ _ _ _ _ _ t.0 t.1.0 t.1.1 c.shown.ensures) in
+    omega (arith, l.invariant, n, length-append c.shown.result.now (standing c.next.new.self.b.rest (table_fields c.next.new.self.a)), standing-within s.map (widths s.fields.rows.now) s.fields.full.now)
 
 pub loop-field-preserved : goal.loop-field-preserved
 loop-field-preserved c =
-    let l = c.loop-field in
-    let gs = cut (widths c.next.new.self.rows.now) c.next.new.self.full.now in
-    let n = ap length (standing-next l.rest _ _ _ gs c.in-Some.ensures.steps c.shown.ensures) in
-    omega (arith, l.invariant, n, length-append c.shown.result.now (standing (l.rest / 2) gs))
+    let t = c.in-Some.ensures.steps in
+    let n = ap length (standing-next _ _ _ _ _ _ _ t.0 t.1.0 t.1.1 c.shown.ensures) in
+    omega (arith, c.loop-field.invariant, n, length-append c.shown.result.now (standing c.next.new.self.b.rest (table_fields c.next.new.self.a)))
 
 pub returns : goal.returns
 returns c =
     let l = c.loop-field in
     let s = c.args in
-    let e = ap length (standing-none l.rest _ c.in-None.ensures.steps.0) in
-    let t : l.n ≡ length (standing s.map (cut (widths s.fields.rows.now) s.fields.full.now)) = omega (arith, e, l.invariant) in
+    let e = ap length (standing-none l.field-iterator.b.rest _ (ended _ _ _ _ c.in-None.ensures.steps)) in
+    let t : l.n ≡ length (standing s.map (table_fields s.fields)) = omega (arith, e, l.invariant) in
     (t, omega (arith, t, standing-within s.map (widths s.fields.rows.now) s.fields.full.now))

@@ -1,15 +1,15 @@
 -- `form::table::map_rows` meets its contract. Assumes nothing.
-use Rattle.form.specs.Rules.Form.{widths, cut, map_of}
+use Rattle.form.specs.Rules.Form.{table_fields, map_of}
+use Rattle.form.proofs.TableLaws.{Gathered}
 use lib.ListN.{length}
-use Prim.Native.Nat.{◌+◌, ◌*◌, ◌^◌, ◌<◌}
+use Prim.Native.Nat.{◌+◌}
 use mathlib.Core.Path.{◌≡◌}
 use Rattle.form.proofs.table.map_rows.Given as goal
 
-abbrev pub invariant-loop-field : goal.invariant-loop-field
-invariant-loop-field l =
+abbrev pub invariant-loop-k : goal.invariant-loop-k
+invariant-loop-k l =
+    let rest = table_fields l.k-iterator.iter in
     record {
-      small : l.map < l.value;
-      power : l.value ≡ 2 ^ length l.yielded;
-      count : length l.yielded + length (cut (widths l.field-iterator.rows.now) l.field-iterator.full.now) ≡ length l.fn.fields.rows.now;
-      rest : map_of (cut (widths l.fn.fields.rows.now) l.fn.fields.full.now) ≡ l.map + l.value * map_of (cut (widths l.field-iterator.rows.now) l.field-iterator.full.now);
+      count : l.k-iterator.count + length rest ≡ length l.fn.fields.rows.now;
+      bits : Gathered (map_of (table_fields l.fn.fields)) l.map l.k-iterator.count (map_of rest);
     }

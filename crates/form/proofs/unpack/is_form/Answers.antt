@@ -2,21 +2,22 @@
 use Rattle.form.proofs.ReadLaws.{form-on, form-off, form-end}
 use Rattle.form.proofs.TableLaws.{row_at}
 use lib.ListN.{drop_of_length-le}
-use mathlib.Core.Path.{refl, sym, ap, ◌∙◌}
+use mathlib.Core.Path.{sym, ap, ◌∙◌}
 use mathlib.Core.Bool.{◌&&◌}
 use lib.Dec.{eqb}
 use Rattle.form.proofs.unpack.is_form.Goals as goal
 
-pub loop-row-init : goal.loop-row-init
-loop-row-init c = refl
-
 pub returns-in-None : goal.returns-in-None
-returns-in-None c = sym (c.loop-row.invariant ∙ form-off _ _ _ _ _ (row_at _ _ c.loop-row-test.true) c.in-None.ensures)
+returns-in-None c =
+    let t = c.next.ensures.steps in
+    sym (c.loop-row.invariant ∙ form-off _ _ _ _ _ _ _ (row_at _ _ c.loop-row-test.true) (sym c.unwrap-stands.ensures ∙ t.0) t.1 c.in-None.ensures)
 
 pub loop-row-preserved : goal.loop-row-preserved
-loop-row-preserved c = c.loop-row.invariant ∙ form-on _ _ _ _ _ (row_at _ _ c.loop-row-test.true) _ c.in-Some.ensures
+loop-row-preserved c =
+    let t = c.next.ensures.steps in
+    c.loop-row.invariant ∙ form-on _ _ _ _ _ _ _ (row_at _ _ c.loop-row-test.true) (sym c.unwrap-stands.ensures ∙ t.0) t.1 _ c.in-Some.ensures
 
 pub returns : goal.returns
 returns c =
     let l = c.loop-row in
-    ap (λ b. eqb l.rest 0 && b) c.is_empty.ensures ∙ sym (l.invariant ∙ form-end _ l.rest l.left.now (drop_of_length-le c.args.rows.now c.loop-row-test.false))
+    ap (λ b. eqb l.bits.rest 0 && b) c.is_empty.ensures ∙ sym (l.invariant ∙ form-end _ l.bits.rest l.left.now (drop_of_length-le c.args.rows.now c.loop-row-test.false))

@@ -1,37 +1,52 @@
 -- `form::unpack::spread` meets its contract. Assumes nothing.
 use Rattle.form.proofs.ReadLaws.{spread-room, spread-enough, spread-more, joined_length, fields-none}
-use Rattle.form.proofs.TableLaws.{row_at}
-use Rattle.form.specs.Rules.Form.{widths}
+use Rattle.form.proofs.TableLaws.{ended}
+use Rattle.form.specs.Steps.Form.{standing_sum, fields_in}
+use Rattle.form.specs.Rules.Form.{widths, sum, joined}
 use Rattle.form.proofs.Filling.{begins, ends}
-use lib.ListN.{drop_of_length-le}
-use mathlib.Core.Path.{refl}
+use mathlib.Core.Path.{ap, ap₂, ◌∙◌}
 use native.Mathlib.Omega.{arith}
 use Rattle.form.proofs.unpack.spread.Goals as goal
 
 pub loop-row-init : goal.loop-row-init
-loop-row-init c = record { enough = c.requires.map_in_bounds; room = omega (arith, c.requires.widths_in_bounds); filled = begins _ _ _ refl }
+loop-row-init c =
+    let z = c.zip-row-items.ensures in
+    let it = c.into_iter-row-iterator.ensures.into_iter_gives in
+    let rows = ap (λ i. i.a.rest.now) it ∙ ap (λ i. i.rest.now) z.first ∙ c.iter.ensures.rest in
+    let map = ap (λ i. i.b.rest) it ∙ ap (λ b. b.rest) z.second in
+    record {
+      enough = omega (arith, c.requires.map_in_bounds, ap₂ (λ rs m. standing_sum (widths rs) m) rows map);
+      room = omega (arith, c.requires.widths_in_bounds, ap (λ rs. sum (widths rs)) rows);
+      filled = begins _ _ _ (ap₂ (λ rs m. joined (fields_in (widths rs) m c.args.bytes.now)) rows map);
+    }
 
 pub overflow_add-end : goal.overflow_add-end
 overflow_add-end c =
     let i = c.loop-row.invariant in
-    let g = spread-room _ _ _ _ _ _ _ _ _ (row_at _ _ c.loop-row-test.true) i.enough i.room i.filled in omega (arith, g, i.filled.same)
+    let t = c.in-Some.ensures.steps in
+    let g = spread-room _ _ _ _ _ _ _ _ _ _ _ t.0 t.1.0 t.1.1 i.enough i.room i.filled in omega (arith, g, i.filled.same)
 
 pub slice_bounds-fill-end : goal.slice_bounds-fill-end
 slice_bounds-fill-end c =
-    let i = c.loop-row.invariant in spread-room _ _ _ _ _ _ _ _ _ (row_at _ _ c.loop-row-test.true) i.enough i.room i.filled
+    let i = c.loop-row.invariant in
+    let t = c.in-Some.ensures.steps in
+    spread-room _ _ _ _ _ _ _ _ _ _ _ t.0 t.1.0 t.1.1 i.enough i.room i.filled
 
 pub fill-left-requires : goal.fill-left-requires
 fill-left-requires c =
-    let i = c.loop-row.invariant in spread-enough _ _ _ _ _ _ _ _ _ (row_at _ _ c.loop-row-test.true) i.enough i.room i.filled
+    let i = c.loop-row.invariant in
+    let t = c.in-Some.ensures.steps in
+    spread-enough _ _ _ _ _ _ _ _ _ _ _ t.0 t.1.0 t.1.1 i.enough i.room i.filled
 
 pub loop-row-preserved : goal.loop-row-preserved
 loop-row-preserved c =
     let i = c.loop-row.invariant in
-    let m = spread-more _ _ _ _ _ _ _ _ _ (row_at _ _ c.loop-row-test.true) i.enough i.room i.filled _ _ c.fill-left.ensures.rest c.fill-left.ensures.filled in
+    let t = c.in-Some.ensures.steps in
+    let m = spread-more _ _ _ _ _ _ _ _ _ _ _ t.0 t.1.0 t.1.1 i.enough i.room i.filled _ _ c.fill-left.ensures.rest c.fill-left.ensures.filled in
     record { enough = m.0; room = m.1; filled = m.2 }
 
 pub returns : goal.returns
 returns c =
     let s = c.args in
-    ends c.loop-row.invariant.filled (fields-none _ _ _ (drop_of_length-le s.rows.now c.loop-row-test.false))
+    ends c.loop-row.invariant.filled (fields-none _ _ _ (ended _ _ _ _ c.in-None.ensures.steps))
     (omega (arith, joined_length (widths s.rows.now) s.map s.bytes.now c.requires.map_in_bounds, c.requires.widths_in_bounds))

@@ -13,20 +13,12 @@ use mathlib.Core.Path.{◌≡◌, refl, sym, ap₂, ◌∙◌}
 use Prim.Native.Nat.{ℕ}
 use Rattle.run.proofs.load.car_in.Goals as goal
 
-pub slice_bounds-read-start : goal.slice_bounds-read-start
-slice_bounds-read-start c = omega (arith, c.requires, all-bytes)
-
-pub slice_bounds-read-end : goal.slice_bounds-read-end
-slice_bounds-read-end c = omega (arith, c.requires, all-bytes)
-
-pub float_at-requires : goal.float_at-requires
-float_at-requires c = omega (arith, c.requires, all-bytes)
-
 pub returns : goal.returns
 returns c =
     let full = c.args.full.now in
     let controls = each_from (of_bits binary64) 20 (take 160 (drop 349 full)) in
-    let read : c.read.new.values ≡ controls = part-read (of_bits binary64) full 349 160 _ _ _ refl (omega (arith, c.requires, all-bytes)) c.read.ensures in
-    ap₂ (λ (l : List Float) (x : Float). set (l ++ (of_bits binary64 0 ∷ [])) 20 x) read c.float_at.ensures
+    let read : c.read.new.values ≡ controls = part-read (of_bits binary64) full 349 160 _ _ _ refl (omega (arith, all-bytes)) c.read.ensures.value in
+    c.car_from.ensures.result_value
+    ∙ ap₂ (λ (l : List Float) (x : Float). set (l ++ (of_bits binary64 0 ∷ [])) 20 x) read c.float_at.ensures
     ∙ set_at controls (of_bits binary64 0) [] (float_in (take 8 (drop 341 full))) 20 (from-length (of_bits binary64) 20 (take 160 (drop 349 full)))
     ∙ ap₂ (λ (p q : List ℕ). each_from (of_bits binary64) 20 p ++ (float_in q ∷ [])) (sym (lies-7 full)) (sym (lies-6 full))

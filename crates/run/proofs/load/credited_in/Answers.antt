@@ -7,13 +7,7 @@ use mathlib.Core.Path.{refl, sym, ap, ◌∙◌}
 use Prim.Native.Nat.{ℕ}
 use Rattle.run.proofs.load.credited_in.Goals as goal
 
-pub slice_bounds-read-start : goal.slice_bounds-read-start
-slice_bounds-read-start c = omega (arith, c.requires, all-bytes)
-
-pub slice_bounds-read-end : goal.slice_bounds-read-end
-slice_bounds-read-end c = omega (arith, c.requires, all-bytes)
-
 pub returns : goal.returns
 returns c =
     let full = c.args.full.now in
-    part-read (λ (w : ℕ). w) full 20 320 _ _ _ refl (omega (arith, c.requires, all-bytes)) c.read.ensures ∙ ap (each_from (λ (w : ℕ). w) 40) (sym (lies-4 full))
+    part-read (λ (w : ℕ). w) full 20 320 _ _ _ refl (omega (arith, all-bytes)) c.read.ensures.value ∙ ap (each_from (λ (w : ℕ). w) 40) (sym (lies-4 full))

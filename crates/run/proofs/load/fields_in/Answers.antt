@@ -1,12 +1,7 @@
 -- `run::load::fields_in` meets its contract. Assumes nothing.
-use Rattle.run.proofs.FieldSizes.{all-bytes}
 use Rattle.run.proofs.LoadLaws.{fields_read}
-use native.Mathlib.Omega.{arith}
 use mathlib.Core.Path.{refl}
 use Rattle.run.proofs.load.fields_in.Goals as goal
-
-pub float_at-share-requires : goal.float_at-share-requires
-float_at-share-requires c = omega (arith, c.requires, all-bytes)
 
 pub returns : goal.returns
 returns c =

@@ -15,5 +15,5 @@ returns c =
     let full = c.args.full.now in
     let at = c.args.at in
     let eight : at + 8 - at ≡ 8 = omega arith in
-    let read = part-read (of_bits binary64) full at (at + 8 - at) _ _ _ eight (omega (arith, eight, c.requires)) c.read.ensures in
+    let read = part-read (of_bits binary64) full at (at + 8 - at) _ _ _ eight (omega (arith, eight, c.requires)) c.read.ensures.value in
     ap (λ (l : List Float). number_at l 0) (read ∙ ap (λ (k : ℕ). each_from (of_bits binary64) 1 (take k (drop at full))) eight)

@@ -8,16 +8,30 @@ use Rattle.run.specs.Steps.Save.{all_bytes}
 use Rattle.run.proofs.FieldSizes.{all-bytes}
 use Rattle.std.specs.Prelude.{option_map}
 use Rattle.run.specs.Steps.Load.{fields_as}
-use Rattle.run.proofs.LoadLaws.{load_is}
+use Rattle.run.proofs.LoadLaws.{none-read, not-taken, load_is}
 use borrow.Author.Rules.{rules}
 use native.Mathlib.Omega.{arith}
 use Rattle.run.proofs.load.load.Goals as goal
 
+pub returns-in_err-unpack : goal.returns-in_err-unpack
+returns-in_err-unpack c =
+    ap (option_map fields_as) c.from_residual.ensures
+    ∙ none-read most_tiles c.args.bytes.now c.unpack.new.full _ _ c.unpack.result (omega (arith, all-bytes)) c.rows-rows.ensures c.unpack.ensures c.in_err-unpack.was
+
+pub returns-then-not-known-seeds_ok : goal.returns-then-not-known-seeds_ok
+returns-then-not-known-seeds_ok c =
+    let full-long : length c.unpack.new.full ≡ sum (field_bytes full_words) =
+    let e : length c.unpack.new.full ≡ all_bytes = search rules in e ∙ sym all-bytes
+    in
+    not-taken most_tiles c.args.bytes.now c.unpack.new.full _ _ c.unpack.result (omega (arith, all-bytes)) c.rows-rows.ensures c.unpack.ensures full-long
+    _ c.seeds_in-seeds.result c.seeds_ok.result c.in_ok-unpack.was c.seeds_in-seeds.ensures c.seeds_ok.ensures c.if-not-known-seeds_ok.true
+
 pub returns : goal.returns
 returns c =
-    let full-long : length c.unpack-map.new.full ≡ sum (field_bytes full_words) =
-    let e : length c.unpack-map.new.full ≡ all_bytes = search rules in e ∙ sym all-bytes
+    let full-long : length c.unpack.new.full ≡ sum (field_bytes full_words) =
+    let e : length c.unpack.new.full ≡ all_bytes = search rules in e ∙ sym all-bytes
     in
     ap (option_map fields_as) c.then_some.ensures
-    ∙ load_is most_tiles c.args.bytes.now _ _ _ _ c.seeds_ok-one.result c.is_sound-sound.result c.unpack-map.result c.seed_from.result c.seeds_in-seeds.result c.fields_in-fields.result
-    full-long (omega (arith, all-bytes)) c.rows-rows.ensures c.is_some.ensures c.unpack-map.ensures c.seeds_in-seeds.ensures c.seed_from.ensures c.fields_in-fields.ensures c.seeds_ok-one.ensures c.is_sound-sound.ensures
+    ∙ load_is most_tiles c.args.bytes.now c.unpack.new.full _ _ c.unpack.result (omega (arith, all-bytes)) c.rows-rows.ensures c.unpack.ensures full-long
+    _ c.seeds_in-seeds.result c.seeds_ok.result c.in_ok-unpack.was c.seeds_in-seeds.ensures c.seeds_ok.ensures
+    c.is_sound.result c.seed_from.result c.fields_in-fields.result c.if-not-known-seeds_ok.false c.seed_from.ensures c.fields_in-fields.ensures c.is_sound.ensures

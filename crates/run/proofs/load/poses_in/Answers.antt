@@ -7,13 +7,7 @@ use native.Mathlib.Omega.{arith}
 use mathlib.Core.Path.{refl, sym, ap, ◌∙◌}
 use Rattle.run.proofs.load.poses_in.Goals as goal
 
-pub slice_bounds-read-start : goal.slice_bounds-read-start
-slice_bounds-read-start c = omega (arith, c.requires, all-bytes)
-
-pub slice_bounds-read-end : goal.slice_bounds-read-end
-slice_bounds-read-end c = omega (arith, c.requires, all-bytes)
-
 pub returns : goal.returns
 returns c =
     let full = c.args.full.now in
-    part-read (of_bits binary64) full 509 128 _ _ _ refl (omega (arith, c.requires, all-bytes)) c.read.ensures ∙ ap (each_from (of_bits binary64) 16) (sym (lies-8 full))
+    part-read (of_bits binary64) full 509 128 _ _ _ refl (omega (arith, all-bytes)) c.read.ensures.value ∙ ap (each_from (of_bits binary64) 16) (sym (lies-8 full))

@@ -19,8 +19,8 @@ returns c =
     let g2 = low 4 s.limit ∷ g3 in
     let g1 = float_bytes (s.share ∷ []) ∷ g2 in
     let k0 = begins s.out.now (joined (low 4 s.narrow ∷ g1)) _ refl in
-    let k1 = field-on (low 4 s.narrow) g1 _ 4 _ k0 c.put_number.ensures (low-length 4 s.narrow) (omega arith) (omega (arith, c.requires)) in
-    let k2 = field-on (float_bytes (s.share ∷ [])) g2 _ 12 _ k1 c.put.ensures (floats-long (s.share ∷ []) 1 refl) (omega arith) (omega (arith, c.requires)) in
-    let k3 = field-on (low 4 s.limit) g3 _ 16 _ k2 c.put_number-2.ensures (low-length 4 s.limit) (omega arith) (omega (arith, c.requires)) in
-    let k4 = field-on (low 4 s.tick) [] _ 20 _ k3 c.put_number-3.ensures (low-length 4 s.tick) (omega arith) (omega (arith, c.requires)) in
+    let k1 = field-on (low 4 s.narrow) g1 _ 4 _ k0 c.put_number.ensures.value (low-length 4 s.narrow) (omega arith) (omega (arith, c.requires)) in
+    let k2 = field-on (float_bytes (s.share ∷ [])) g2 _ 12 _ k1 c.put.ensures.value (floats-long (s.share ∷ []) 1 refl) (omega arith) (omega (arith, c.requires)) in
+    let k3 = field-on (low 4 s.limit) g3 _ 16 _ k2 c.put_number-2.ensures.value (low-length 4 s.limit) (omega arith) (omega (arith, c.requires)) in
+    let k4 = field-on (low 4 s.tick) [] _ 20 _ k3 c.put_number-3.ensures.value (low-length 4 s.tick) (omega arith) (omega (arith, c.requires)) in
     fields-end k4 c.requires

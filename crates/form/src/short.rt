@@ -1,0 +1,5 @@
+// A list that is too short for a call.
+
+// What is lent has no room for what goes there, or has too few bytes for what is read. It stays as it was.
+#[derive(Clone, Copy, Debug, PartialEq, Eq)]
+pub struct TooShort;
