@@ -13,8 +13,8 @@ use lib.Ieee.{Float}
 use Rattle.run.specs.Rules.Below.{any_below, how_many}
 use Rattle.run.specs.Rules.Arguments.{pose_at}
 use Rattle.run.specs.Rules.Wheel.{wheel_quad, quad_of}
-use Rattle.run.specs.Grader.Touch.{touched_by}
-use Rattle.run.specs.Steps.Touch.{sixteen_cells, Room, Looked, Creditable, AllCreditable, in_sets, entered_since, Credits, credits, credits_of}
+use Rattle.run.specs.Grader.Touch.{touched_by, sound_poses}
+use Rattle.run.specs.Steps.Touch.{Room, Creditable, AllCreditable, in_sets, entered_since, Credits, credits, credits_of}
 use Rattle.run.specs.declared.state.Pose.{Pose}
 use Rattle.run.specs.Grader.Words.{member, set_of}
 use Rattle.run.specs.Grader.Contact.{wheel_part, enters, entered, wheel_sets, contacted, contact_of}
@@ -22,7 +22,7 @@ use Rattle.run.proofs.WordLaws.{Fit, member-set_of, set_of-cong, length-set_of, 
 use Rattle.run.proofs.CreditLaws.{few, how_many-false}
 use Rattle.run.proofs.BelowLaws.{any-cong}
 use Rattle.run.proofs.TouchLaws.{untouched}
-use Rattle.run.proofs.CellLaws.{own-cells}
+use Rattle.run.proofs.CellLaws.{own-sound}
 
 -- ---- the sets of k wheels, and that of wheel w among them
 size : (a m : ℕ) → a + m - a ≡ m
@@ -243,9 +243,9 @@ module _ (m : ℕ) (W₀ : List ℕ) (P : ℕ → ℕ → Bool) (W : List ℕ) (
       ((ap (λ (r : Credits). r.zero) h ∙ entered-is 0 b) i)
 
 -- what four wheels touch by sound look-ups may be credited
-pub touched-creditable : (m m' n : ℕ) (W₀ W : List ℕ) (ts : List Float) (offs l ks : List ℕ) (ps : List Pose) → W ≡ wheel_sets m (λ w. touched_by ts offs l (quad_of ps w)) 4 → m' ≡ m → length W₀ ≡ 4 * m
-    → 64 * m < 2 ^ 32 → 0 < n → n ≤ 64 * m → Looked offs l n (sixteen_cells ps) ks → AllCreditable m' n W₀ W
-touched-creditable m m' n W₀ W ts offs l ks ps e s lb small some few look =
+pub touched-creditable : (m m' n : ℕ) (W₀ W : List ℕ) (ts : List Float) (offs l : List ℕ) (ps : List Pose) → W ≡ wheel_sets m (λ w. touched_by ts offs l (quad_of ps w)) 4 → m' ≡ m → length W₀ ≡ 4 * m
+    → 64 * m < 2 ^ 32 → 0 < n → n ≤ 64 * m → sound_poses offs l n ps ≡ true → AllCreditable m' n W₀ W
+touched-creditable m m' n W₀ W ts offs l ps e s lb small some few look =
     let P : ℕ → ℕ → Bool = λ w. touched_by ts offs l (quad_of ps w) in
     let lw : length W ≡ 4 * m = ap length e ∙ sets-long m P 4 in
     subst (λ (x : ℕ). AllCreditable x n W₀ W) (sym s) (record {
@@ -257,6 +257,6 @@ touched-creditable m m' n W₀ W ts offs l ks ps e s lb small some few look =
         small = small;
         some = some;
         few = few;
-        past = λ t a u. in-set m W₀ P W e w t b u ∙ untouched ts offs l n (quad_of ps w) _ t (own-cells ps w look b refl) a;
+        past = λ t a u. in-set m W₀ P W e w t b u ∙ untouched ts offs l n (quad_of ps w) t (own-sound offs l n ps w look b) a;
       };
     })
