@@ -1,6 +1,9 @@
 -- A column that is written from the front: the entries so far, and the rest as it was. Assumes nothing.
-use Rattle.std.proofs.Common.{◌≡◌, ℕ, suc, ◌+◌, ◌-◌, ◌<◌, ◌≤◌, List, [], ◌∷◌, ◌++◌, length, get_or, take, drop, set, replicate, sym, refl, ap, ap₂, ◌∙◌, append_assoc, add-one, arith, length-append, length-drop, length-set, length-take-le, take_at, drop-cons, drop-drop}
-use lib.Seq.{drop-append-add, set_at, append_snoc}
+use Rattle.std.proofs.Common.{◌≡◌, ℕ, suc, ◌+◌, ◌-◌, ◌<◌, ◌≤◌, List, [], ◌∷◌, ◌++◌, length, get_or, take, drop, set, replicate, sym, refl, ap, ap₂, ◌∙◌, append_assoc, add-one, arith, length-append, length-drop, length-set, length-take, length-take-le, take_at, drop-cons, drop-drop}
+use Rattle.std.specs.Prelude.{Option, Some, MatchOption}
+use Rattle.std.specs.Array.{IsFirstChunk}
+use Rattle.std.proofs.lemmas.Option.{MatchOption-at_some}
+use lib.Seq.{drop-append-add, set_at, append_snoc, take_all}
 use lib.Ieee.{Float}
 use Rattle.course.specs.Steps.Tiles.{puts}
 
@@ -37,6 +40,13 @@ module _ {A : Type 0} where
   part-filled l r n m v few room e =
       let long : length (take (m - n) (drop n l)) ≡ m - n = length-take-le (m - n) (drop n l) (omega (arith, length-drop n l)) in
       part-put l r _ n m few (e ∙ ap (λ (k : ℕ). replicate k v) long)
+
+-- k entries of a column from a on, as an array of that length
+pub part-cut : {A X : Type 0} (now : X → List A) (a k : ℕ) (l : List A) (N : Type 0) {o : Option X} {y : X} → MatchOption o N (λ x. IsFirstChunk (take (a + k - a) (drop a l)) (now x) k) → o ≡ Some y
+    → now y ≡ take k (drop a l)
+part-cut now a k l N m e =
+    let size : a + k - a ≡ k = omega arith in
+    (MatchOption-at_some N _ _ e m).same ∙ ap (λ (j : ℕ). take k (take j (drop a l))) size ∙ take_all k (take k (drop a l)) (omega (arith, length-take k (drop a l)))
 
 -- what stands beyond is not touched by what is in front
 pub drop_past : {A : Type 0} (p l : List A) (i m : ℕ) → length p ≡ i → i ≤ m → drop m (p ++ drop i l) ≡ drop m l

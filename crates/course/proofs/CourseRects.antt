@@ -1,10 +1,13 @@
 -- The tiles of a course: their rectangles lie in the grid, and the cells summed are the index's length. Assumes nothing.
-use Rattle.std.proofs.Common.{◌≡◌, ℕ, zero, suc, ◌+◌, ◌*◌, ◌≤◌, Bool, false, cond, ltb, List, ◌++◌, length, drop, sym, refl, ap, ◌∙◌, add-one, arith, le-ltb}
-use lib.Ieee.{Float}
+use Rattle.std.proofs.Common.{◌≡◌, ℕ, zero, suc, ◌+◌, ◌*◌, ◌≤◌, Bool, false, cond, ltb, T, List, ◌++◌, length, get_or, get_or-take, take, drop, sym, refl, ap, ◌∙◌, add-one, add-zero, arith, ltb→lt, le-ltb}
+use Rattle.std.proofs.lemmas.List.{get_or-drop}
+use lib.Ieee.{Float, nan}
 use Rattle.course.specs.Rules.Lengths.{cell_count, offset_count}
+use Rattle.course.specs.Rules.Tiles.{tile_of}
 use Rattle.course.specs.Grader.Index.{start, offsets_of, index_of}
 use Rattle.course.specs.Rules.Rect.{Rect, rect_of, holds_of, area_of, needed}
-use Rattle.course.specs.Steps.Index.{rect_as, Small, Built}
+use Rattle.course.specs.Grader.Rect.{rect_as}
+use Rattle.course.specs.Steps.Index.{Small, Built}
 use Rattle.course.specs.declared.rect.Rect.{Rect as CodeRect}
 use Rattle.course.proofs.Cells.{cell-high}
 use Rattle.course.proofs.IndexLaws.{start-tile, start-no-tile}
@@ -17,6 +20,15 @@ rect-small tiles i = record { left = cell-high _; bottom = cell-high _; right = 
 -- the code's rectangle keeps within the grid
 pub sides : (r : CodeRect) → Small (rect_as r)
 sides r = record { left = r.left; bottom = r.bottom; right = r.right; top = r.top }
+
+-- the eight numbers of a tile, as the column has them
+pub tile-numbers : (tiles numbers : List Float) (i : ℕ) → numbers ≡ take 8 (drop (i * 8) tiles) → tile_of numbers 0 ≡ tile_of tiles i
+unfolding tile_of
+tile-numbers tiles numbers i e =
+    rw (at 0 tt, at 1 tt, at 2 tt, at 3 tt, at 4 tt, at 5 tt, at 6 tt, at 7 tt, add-zero (i * 8))
+  where
+    at : (k : ℕ) → T (ltb k 8) → get_or numbers k nan ≡ get_or tiles (i * 8 + k) nan
+    at k l = ap (λ (z : List Float). get_or z k nan) e ∙ get_or-take 8 (drop (i * 8) tiles) k nan (ltb→lt k 8 l) ∙ get_or-drop (i * 8) tiles k nan
 
 abbrev pub rect : ℕ → ℕ → ℕ → ℕ → Rect
 rect x0 x1 y0 y1 = record { x0 = x0; x1 = x1; y0 = y0; y1 = y1 }

@@ -3,6 +3,8 @@
 pub mod Cause
 -- what the calls of sine, cosine and atan2 answer
 pub mod Angle
+-- the code's rectangle of cells, by its sides
+pub mod Rect
 -- which ids each cell lists, and the look-up
 pub mod Index
 -- all that a list of points becomes

@@ -7,7 +7,8 @@ ghost use Rattle.course.specs.Rules.Lengths.{cell_count, most_points, offset_cou
 ghost use Rattle.course.specs.Rules.Cell.{cell_at};
 ghost use Rattle.course.specs.Rules.Rect.{holds, needed};
 ghost use Rattle.course.specs.Grader.Index.{start, index_of, offsets_of, part_ok, lookup};
-ghost use Rattle.course.specs.Steps.Index.{rect_as, Built, is_short, length_needed, Inside, RunCounted, RectCounted, Counts, Summed, RunPlaced, RectPlaced, Placed, held_in, RectsPacked, RectsIn};
+ghost use Rattle.course.specs.Grader.Rect.{rect_as};
+ghost use Rattle.course.specs.Steps.Index.{Built, is_short, length_needed, Inside, RunCounted, RectCounted, Counts, Summed, RunPlaced, RectPlaced, Placed, held_in, RectsPacked, RectsIn};
 
 use crate::cell::cell_at;
 use crate::constants::{GRID_DIM, OFFSET_COUNT};

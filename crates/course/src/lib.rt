@@ -16,7 +16,7 @@ pub mod lay;
 pub mod lent;
 pub mod numeric;
 pub mod points;
-mod rect;
+pub mod rect;
 pub mod root;
 mod step;
 pub mod tiles;

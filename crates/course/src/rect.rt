@@ -1,12 +1,13 @@
-// A tile's rectangle of cells (document 01, "Tiles and index").
+// A quad's rectangle of cells (document 01, "Tiles and index").
 ghost use Rattle.std.specs.Prelude.{◌≤◌};
 
 use crate::cell::cell_of;
 use crate::numeric::{greatest, least};
+use crate::tiles;
 
 // A rectangle of the grid's 67 rows and columns: its first and last column and row.
 #[derive(Clone, Copy)]
-pub(crate) struct Rect {
+pub struct Rect {
     pub x0: usize,
     pub x1: usize,
     pub y0: usize,
@@ -20,28 +21,29 @@ pub(crate) struct Rect {
 impl Rect {
     ghost use Rattle.std.specs.Prelude.{◌≡◌, ◌+◌, ◌*◌, ◌<◌, length};
     ghost use Rattle.course.specs.Rules.Lengths.{most_points};
-    ghost use Rattle.course.specs.Rules.Rect.{rect_of, area_of};
-    ghost use Rattle.course.specs.Steps.Index.{rect_as, Packs, Packed, rect_in};
+    ghost use Rattle.course.specs.Rules.Rect.{rect_around, rect_of, area_of};
+    ghost use Rattle.course.specs.Grader.Rect.{rect_as};
+    ghost use Rattle.course.specs.Steps.Index.{Packs, Packed, rect_in};
 
-    // The cells from the least to the greatest coordinates of tile i.
-    pub(crate) fn of_tile(tiles: &[f64], i: usize) -> Rect
-        requires { (i < most_points) × (i * 8 + 8 ≤ length tiles.now) }
-        ensures { rect_as result ≡ rect_of tiles.now i }
+    // The cells from the least to the greatest coordinates of a quad.
+    pub fn of_quad(q: &[[f64; 2]; 4]) -> Rect
+        ensures { rect_as result ≡ rect_around q.now }
     {
-        let q = i * 8;
-        let xa = tiles[q];
-        let ya = tiles[q + 1];
-        let xb = tiles[q + 2];
-        let yb = tiles[q + 3];
-        let xc = tiles[q + 4];
-        let yc = tiles[q + 5];
-        let xd = tiles[q + 6];
-        let yd = tiles[q + 7];
+        let [[xa, ya], [xb, yb], [xc, yc], [xd, yd]] = *q;
         let x0 = cell_of(least(xa, xb, xc, xd));
         let x1 = cell_of(greatest(xa, xb, xc, xd));
         let y0 = cell_of(least(ya, yb, yc, yd));
         let y1 = cell_of(greatest(ya, yb, yc, yd));
         Rect { x0, x1, y0, y1 }
+    }
+
+    // The same of tile i.
+    pub(crate) fn of_tile(tiles: &[f64], i: usize) -> Rect
+        requires { (i < most_points) × (i * 8 + 8 ≤ length tiles.now) }
+        ensures { rect_as result ≡ rect_of tiles.now i }
+    {
+        let numbers = tiles[i * 8..i * 8 + 8].first_chunk().unwrap();
+        Rect::of_quad(&tiles::read_quad(numbers))
     }
 
     // The number of its cells.

@@ -1,7 +1,7 @@
 // The quads of a course's tiles (document 01, "Tiles and index").
 ghost use Rattle.std.specs.Prelude.{◌≡◌, ◌+◌, ◌-◌, ◌*◌, ◌<◌, ◌≤◌, ◌++◌, length, drop, slice_index_or, slice_set};
 ghost use Rattle.std.specs.Float.{nan};
-ghost use Rattle.course.specs.Rules.Tiles.{point_at, points_of, before_of, eight, tiles_to};
+ghost use Rattle.course.specs.Rules.Tiles.{point_at, points_of, before_of, eight, tile_of, tiles_to};
 ghost use Rattle.course.specs.Steps.Tiles.{puts, edges_at, quad_between};
 
 use crate::constants::TRACK_WIDTH;
@@ -80,6 +80,14 @@ pub(crate) fn before(i: usize, n: usize) -> usize
         return n - 1;
     }
     i - 1
+}
+
+// The quad of a tile's eight numbers.
+pub fn read_quad(numbers: &[f64; 8]) -> [[f64; 2]; 4]
+    ensures { result ≡ tile_of numbers.now 0 }
+{
+    let [ax, ay, bx, by, cx, cy, dx, dy] = *numbers;
+    [[ax, ay], [bx, by], [cx, cy], [dx, dy]]
 }
 
 // The quad's eight numbers stand from number `at` on.

@@ -25,11 +25,13 @@ pub record Rect : Type 0 where
   pub y0 : ℕ
   pub y1 : ℕ
 
--- ---- from the cells of a tile's least to those of its greatest coordinates
+-- ---- from the cells of a quad's least to those of its greatest coordinates
+abbrev pub rect_around : List (List Float) → Rect
+rect_around q = record { x0 = cell_of (least_x q); x1 = cell_of (greatest_x q); y0 = cell_of (least_y q); y1 = cell_of (greatest_y q) }
+
+-- the same of tile i
 unfoldable pub rect_of : List Float → ℕ → Rect
-rect_of tiles i =
-    let q = tile_of tiles i in
-    record { x0 = cell_of (least_x q); x1 = cell_of (greatest_x q); y0 = cell_of (least_y q); y1 = cell_of (greatest_y q) }
+rect_of tiles i = rect_around (tile_of tiles i)
 
 -- cell c stands in row c / 67 and column c % 67: its number is row times 67 plus column
 unfoldable pub holds : Rect → ℕ → Bool

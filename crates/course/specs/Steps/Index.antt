@@ -6,11 +6,6 @@ use Rattle.course.specs.Rules.Lengths.{cell_count, most_points, offset_count}
 use Rattle.course.specs.Rules.Counting.{digit}
 use Rattle.course.specs.Grader.Index.{listed, start, offsets_of, index_of}
 use Rattle.course.specs.Rules.Rect.{Rect, rect_of, holds, holds_of, needed}
-use Rattle.course.specs.declared.rect.Rect.{Rect as CodeRect}
-
--- the code's struct as the definitions' own
-abbrev pub rect_as : CodeRect → Rect
-rect_as r = record { x0 = r.x0; x1 = r.x1; y0 = r.y0; y1 = r.y1 }
 
 -- a test on places: whether k is from a up to below b
 pub record Inside (a b k : ℕ) : Type 0 where

@@ -1,7 +1,8 @@
 -- `course::index::count_all` meets its contract. Assumes nothing.
 use Rattle.std.proofs.Common.{ap, sym, arith}
 use Rattle.course.specs.Rules.Rect.{Rect, holds}
-use Rattle.course.specs.Steps.Index.{rect_as, held_in}
+use Rattle.course.specs.Grader.Rect.{rect_as}
+use Rattle.course.specs.Steps.Index.{held_in}
 use Rattle.course.proofs.TileSteps.{counts-more, counts-small}
 use Rattle.course.proofs.index.count_all.Goals as goal
 

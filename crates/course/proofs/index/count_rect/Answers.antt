@@ -1,7 +1,7 @@
 -- `course::index::count_rect` meets its contract. Assumes nothing.
 use Rattle.course.specs.Rules.Constants.{grid_dim}
 use Rattle.course.specs.Rules.Lengths.{offset_count}
-use Rattle.course.specs.Steps.Index.{rect_as}
+use Rattle.course.specs.Grader.Rect.{rect_as}
 use Rattle.std.proofs.Common.{◌≡◌, ◌+◌, ◌*◌, ◌<◌, min, refl, arith}
 use Rattle.course.proofs.CourseRects.{sides}
 use Rattle.course.proofs.RowSweeps.{CountedTo, count_none, count-row, count-done}

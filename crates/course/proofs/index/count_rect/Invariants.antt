@@ -1,6 +1,6 @@
 -- `course::index::count_rect` meets its contract. Assumes nothing.
 use Rattle.course.specs.Rules.Constants.{grid_dim}
-use Rattle.course.specs.Steps.Index.{rect_as}
+use Rattle.course.specs.Grader.Rect.{rect_as}
 use Rattle.std.proofs.Common.{◌*◌, ◌≤◌}
 use Rattle.course.proofs.RowSweeps.{CountedTo}
 use Rattle.course.proofs.index.count_rect.Given as goal

@@ -1,7 +1,8 @@
 -- `course::index::place_all` meets its contract. Assumes nothing.
 use Rattle.std.proofs.Common.{length, sym, ap, arith}
 use Rattle.course.specs.Rules.Rect.{Rect, holds}
-use Rattle.course.specs.Steps.Index.{rect_as, held_in}
+use Rattle.course.specs.Grader.Rect.{rect_as}
+use Rattle.course.specs.Steps.Index.{held_in}
 use Rattle.course.specs.Rules.Lengths.{most_points, cell_count}
 use Rattle.course.proofs.TileSteps.{placed-near, placed-more}
 use Rattle.course.proofs.IndexLaws.{start_small}

@@ -1,5 +1,5 @@
 -- `course::rect::Rect::pack` meets its contract. Assumes nothing.
-use Rattle.course.specs.Steps.Index.{rect_as}
+use Rattle.course.specs.Grader.Rect.{rect_as}
 use Rattle.course.proofs.CourseRects.{sides}
 use Rattle.course.proofs.PackedRects.{packs, packs-bits}
 use Rattle.course.proofs.rect.Rect.pack.Goals as goal
