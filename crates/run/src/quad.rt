@@ -6,9 +6,9 @@ ghost use Rattle.run.specs.Steps.Touch.{span_on, spans_apart, first_side, beyond
 
 use crate::dynamics::{SIZE, WHEEL_R};
 use crate::state::Pose;
-use course::cell::cell_of;
 use course::constants::GRID_DIM;
 use course::numeric::{greatest, least};
+use course::rect::Rect;
 
 const WHEEL_W: f64 = 14.0;
 
@@ -154,15 +154,10 @@ pub fn wheel_quad(p: Pose) -> [[f64; 2]; 4]
 pub fn box_cells(q: [[f64; 2]; 4]) -> [usize; 4]
     ensures { result ≡ box_cells q }
 {
-    let x0 = least(q[0][0], q[1][0], q[2][0], q[3][0]);
-    let y0 = least(q[0][1], q[1][1], q[2][1], q[3][1]);
-    let x1 = greatest(q[0][0], q[1][0], q[2][0], q[3][0]);
-    let y1 = greatest(q[0][1], q[1][1], q[2][1], q[3][1]);
-    let c0 = cell_of(x0);
-    let c1 = cell_of(x1);
-    let r0 = cell_of(y0) * GRID_DIM;
-    let r1 = cell_of(y1) * GRID_DIM;
-    [r0 + c0, r0 + c1, r1 + c0, r1 + c1]
+    let r = Rect::of_quad(&q);
+    let low = r.y0 * GRID_DIM;
+    let high = r.y1 * GRID_DIM;
+    [low + r.x0, low + r.x1, high + r.x0, high + r.x1]
 }
 
 // The cells of four wheels' boxes.

@@ -10,7 +10,7 @@ ghost use Rattle.run.specs.Steps.Touch.{overlaps_tile, Tests, Room, Looked};
 
 use crate::quad::Sided;
 use crate::words;
-use course::index;
+use course::{index, tiles};
 
 // A course's columns as a host lends them: the corners of its tiles, and for each cell of the grid which part of the list is its tiles.
 #[derive(Clone, Copy)]
@@ -26,13 +26,8 @@ impl Columns<'_> {
         requires { t * 8 + 8 ≤ length self.tiles.now }
         ensures { result ≡ tile_of self.entry.tiles.now t }
     {
-        let tiles = self.tiles;
-        let k = t * 8;
-        let a = [tiles[k], tiles[k + 1]];
-        let b = [tiles[k + 2], tiles[k + 3]];
-        let c = [tiles[k + 4], tiles[k + 5]];
-        let d = [tiles[k + 6], tiles[k + 7]];
-        [a, b, c, d]
+        let numbers = self.tiles[t * 8..t * 8 + 8].first_chunk().unwrap();
+        tiles::read_quad(numbers)
     }
 
     // The cell may be looked up: no cause 10.

@@ -36,13 +36,13 @@ loop-cell-preserved c =
     let last = among_last c.args.cells.now i b in
     elim c.if-ne.branch [
       | then-ne w ↦ (
-          cells_are (one_cell h b w.cell_tiles-ids.ensures w.touch_ids.auto.tested w.touch_ids.auto.touched w.touch_ids.ensures) w.tested-is w.touched-is,
-          subst (λ o. IfSome o (Among c.args.cells.now (i + 1))) (sym w.before-is) last,
-        )
+        cells_are (one_cell h b w.cell_tiles-ids.ensures w.touch_ids.auto.tested w.touch_ids.auto.touched w.touch_ids.ensures) w.tested-is w.touched-is,
+        subst (λ o. IfSome o (Among c.args.cells.now (i + 1))) (sym w.before-is) last,
+      )
       | else-ne w ↦ (
-          cells_are (same-cell h b (as-before _ (Among c.args.cells.now i) c.loop-cell.invariant.1 c.ne.ensures w.if-ne.false)) w.tested-is w.touched-is,
-          subst (λ o. IfSome o (Among c.args.cells.now (i + 1))) (sym w.before-is) last,
-        )
+        cells_are (same-cell h b (as-before _ (Among c.args.cells.now i) c.loop-cell.invariant.1 c.ne.ensures w.if-ne.false)) w.tested-is w.touched-is,
+        subst (λ o. IfSome o (Among c.args.cells.now (i + 1))) (sym w.before-is) last,
+      )
     ]
 
 pub returns : goal.returns
