@@ -46,8 +46,12 @@ loop-i-preserved-then-entered-ne0 c =
     let i = enumerate_count c.loop-i.i-iterator in
     let fits : (j : ℕ) → get_or a.credited.now j 0 < 2 ^ 64 = λ j. search rules in
     let fc : get_or c.loop-i.credited i 0 < 2 ^ 64 = omega (arith, n.kept i (omega arith), fits i) in
-    let b : i < length c.loop-i.credited = omega (arith, p.within,
-        within _ _ c.requires.few, n.long) in
+    let b : i < length c.loop-i.credited = omega (
+      arith,
+      p.within,
+      within _ _ c.requires.few,
+      n.long,
+    ) in
     (p.rest, rw (p.number, p.here 0, p.beside 0, p.next) (one_more _ _ _ _ _ _ n b fc (c.type_inv.before i).fits (c.type_inv.wheel i).fits))
 
 pub loop-i-preserved : goal.loop-i-preserved
@@ -58,8 +62,12 @@ loop-i-preserved c =
     let i = enumerate_count c.loop-i.i-iterator in
     let fits : (j : ℕ) → get_or a.credited.now j 0 < 2 ^ 64 = λ j. search rules in
     let fc : get_or c.loop-i.credited i 0 < 2 ^ 64 = omega (arith, n.kept i (omega arith), fits i) in
-    let b : i < length c.loop-i.credited = omega (arith, p.within,
-        within _ _ c.requires.few, n.long) in
+    let b : i < length c.loop-i.credited = omega (
+      arith,
+      p.within,
+      within _ _ c.requires.few,
+      n.long,
+    ) in
     (p.rest, rw p.next (none_more _ _ _ _ _ _ n b fc (c.type_inv.before i).fits (c.type_inv.wheel i).fits (rw (p.here 0, p.beside 0) at c.if-entered-ne0.false)))
 
 pub shape_of-credited : goal.shape_of-credited
