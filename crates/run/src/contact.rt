@@ -65,12 +65,10 @@ fn credit_sets(credited: &mut [u64], before: &[u64], wheels: &[u64], n: usize) -
     let m = credited.len();
     let mut fresh: u32 = 0;
     let mut zero = false;
-    for w in 0..4 {
-        let from = w * m;
-        let to = from + m;
-        let k = credit_set(credited, &before[from..to], &wheels[from..to], n);
+    for (last, now) in before.chunks_exact(m).zip(wheels.chunks_exact(m)) {
+        let k = credit_set(credited, last, now, n);
         fresh += k.fresh;
-        zero = zero | k.zero;
+        zero |= k.zero;
     }
     Contact { fresh, zero }
 }
