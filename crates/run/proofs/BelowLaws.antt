@@ -10,7 +10,7 @@ use lib.Dec.{ltb, eqb, eqb-suc-suc}
 use borrow.Author.Tests.{lt-ltb, le-ltb, ne_eqb}
 use Rattle.course.specs.Rules.Counting.{digit, how_many}
 use Rattle.run.specs.Rules.Below.{any_below, every_below}
-use Rattle.course.proofs.BoolLaws.{and-not, left_false, right-false}
+use Rattle.course.proofs.BoolLaws.{and-not, and_left, and_right, left_false, right-false}
 use Rattle.run.proofs.WordLaws.{how_many-add}
 use Rattle.run.proofs.CreditLaws.{few}
 
@@ -18,6 +18,16 @@ pub any-cong : (n : ℕ) (p q : ℕ → Bool) → ((i : ℕ) → i < n → p i �
 unfolding any_below
 any-cong zero p q h = refl
 any-cong (suc n) p q h = ap₂ ◌||◌ (any-cong n p q (λ i l. h i (omega arith))) (h n (omega arith))
+
+-- what all numbers below n pass, each of them does
+pub every-at : (n t : ℕ) (p : ℕ → Bool) → every_below n p ≡ true → t < n → p t ≡ true
+unfolding every_below
+every-at zero t p e h = absurd (omega arith)
+every-at (suc n) t p e h =
+    elim (dec_lt t n) [
+      | yes l ↦ every-at n t p (and_left (every_below n p) (p n) e) l
+      | no l ↦ subst (λ (x : ℕ). p x ≡ true) (omega arith) (and_right (every_below n p) (p n) e)
+    ]
 
 -- ---- a test held to the numbers below n
 abbrev pub below : ℕ → (ℕ → Bool) → ℕ → Bool

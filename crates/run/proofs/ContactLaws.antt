@@ -10,11 +10,19 @@ use native.Mathlib.Decide.{ℕ_discrete}
 use lib.ListN.{length, take, drop, length-append, length-drop, drop_of_length-le}
 use lib.Seq.{take_at, drop_at, drop-drop, take_all, length-take-le, take-append-le, drop-append-le}
 use lib.Ieee.{Float}
+use denote.Ref.{Bor}
+use mathlib.Core.Logic.{inl, inr}
+use Rattle.std.specs.Prelude.{Option, Some, None}
+use Rattle.std.specs.declared.iter.Zip.{Zip}
+use Rattle.std.specs.declared.slice.ChunksExact.{ChunksExact}
+use Rattle.std.specs.Iterator.Adapters.{zip_first, zip_second}
+use Rattle.std.specs.Slice.Iter.{chunks_exact_rest, chunks_exact_size, chunks_exact_steps}
+use Rattle.std.proofs.lemmas.Iterator.{zips}
 use Rattle.run.specs.Rules.Below.{any_below, how_many}
 use Rattle.run.specs.Rules.Arguments.{pose_at}
 use Rattle.run.specs.Rules.Wheel.{wheel_quad, quad_of}
-use Rattle.run.specs.Grader.Touch.{touched_by}
-use Rattle.run.specs.Steps.Touch.{sixteen_cells, Room, Looked, Creditable, AllCreditable, in_sets, entered_since, Credits, credits, credits_of}
+use Rattle.run.specs.Grader.Touch.{touched_by, sound_poses}
+use Rattle.run.specs.Steps.Touch.{Room, Creditable, AllCreditable, in_sets, entered_since, Credits, credits, credits_of}
 use Rattle.run.specs.declared.state.Pose.{Pose}
 use Rattle.run.specs.Grader.Words.{member, set_of}
 use Rattle.run.specs.Grader.Contact.{wheel_part, enters, entered, wheel_sets, contacted, contact_of}
@@ -22,7 +30,7 @@ use Rattle.run.proofs.WordLaws.{Fit, member-set_of, set_of-cong, length-set_of, 
 use Rattle.run.proofs.CreditLaws.{few, how_many-false}
 use Rattle.run.proofs.BelowLaws.{any-cong}
 use Rattle.run.proofs.TouchLaws.{untouched}
-use Rattle.run.proofs.CellLaws.{own-cells}
+use Rattle.run.proofs.CellLaws.{own-sound}
 
 -- ---- the sets of k wheels, and that of wheel w among them
 size : (a m : ℕ) → a + m - a ≡ m
@@ -170,56 +178,91 @@ module _ (c₀ c : List ℕ) (E : ℕ → Bool) {new : ℕ} {first : Bool} (h : 
 abbrev by_wheels : List ℕ → List ℕ → List ℕ → ℕ → ℕ → Bool
 by_wheels c₀ B W w t = any_below w (λ v. enters (length c₀) B (in_sets (length c₀) W) v t)
 
+-- what is left of the sets before and now after w wheels, m words to a wheel
+pub record Parts (m : ℕ) (B W : List ℕ) (it : Zip (ChunksExact ℕ) (ChunksExact ℕ)) (w : ℕ) : Type 0 where
+  pub bound : w ≤ 4
+  pub first-size : chunks_exact_size (zip_first it) ≡ m
+  pub second-size : chunks_exact_size (zip_second it) ≡ m
+  pub first : chunks_exact_rest (zip_first it) ≡ drop (w * m) B
+  pub second : chunks_exact_rest (zip_second it) ≡ drop (w * m) W
+
+-- the next of them
+part-next : (m w : ℕ) (B x r s : List ℕ) → s ≡ drop (w * m) B → s ≡ x ++ r → length x ≡ m → (x ≡ wheel_part m B w) × (r ≡ drop ((w + 1) * m) B)
+unfolding wheel_part
+part-next m w B x r s d e l =
+    let a = sym e ∙ d in (
+      sym (take_at x r m l) ∙ ap (take m) a,
+      sym (drop_at x r m l) ∙ ap (drop m) a ∙ drop-drop m (w * m) B ∙ ap (λ k. drop k B) (next w m),
+    )
+
+-- x and y are the parts of wheel w
+pub record NextParts (m : ℕ) (B W : List ℕ) (jt : Zip (ChunksExact ℕ) (ChunksExact ℕ)) (w : ℕ) (x y : List ℕ) : Type 0 where
+  pub less : w < 4
+  pub before : x ≡ wheel_part m B w
+  pub now : y ≡ wheel_part m W w
+  pub rest : Parts m B W jt (w + 1)
+
+some_words : {m n : ℕ} {B W : List ℕ} → AllCreditable m n B W → 0 < m
+some_words a = let k = a.each 0 (omega arith) in omega (arith, k.some, k.few)
+
+module _ {m n : ℕ} {B W : List ℕ} {it : Zip (ChunksExact ℕ) (ChunksExact ℕ)} (jt : Zip (ChunksExact ℕ) (ChunksExact ℕ)) {r : Option (Bor (List ℕ) × Bor (List ℕ))} {w : ℕ} (all : AllCreditable m n B W) (h : Parts m B W it w)
+    (step : zips chunks_exact_steps chunks_exact_steps it r jt) where
+  pub next-parts : {p q : Bor (List ℕ)} → r ≡ Some (p, q) → NextParts m B W jt w p.now q.now
+  next-parts {p} {q} e =
+      let s = subst (λ o. zips chunks_exact_steps chunks_exact_steps it o jt) e step in
+      let a = part-next m w B p.now _ _ h.first s.0.1.0 (s.0.1.1 ∙ h.first-size) in
+      let b = part-next m w W q.now _ _ h.second s.1.1.0 (s.1.1.1 ∙ h.second-size) in
+      let less : w < 4 =
+      elim (ℕ_discrete w 4) [
+        | yes four ↦ absurd (omega (arith, ap (λ (x : ℕ). x * m) four, ap length (sym h.first ∙ s.0.1.0), length-drop (w * m) B, length-append p.now (chunks_exact_rest (zip_first jt)), s.0.1.1, h.first-size, all.last, some_words all))
+        | no more ↦ omega (arith, h.bound)
+      ] in
+      record { less = less; before = a.0; now = b.0; rest = record { bound = omega (arith, less); first-size = s.0.0 ∙ h.first-size; second-size = s.1.0 ∙ h.second-size; first = a.1; second = b.1 } }
+
+  pub no-parts : r ≡ None → w ≡ 4
+  no-parts e =
+      elim (ℕ_discrete w 4) [
+        | yes four ↦ four
+        | no more ↦
+            let ends = end-within w 4 m (omega (arith, h.bound)) in
+            elim (subst (λ o. zips chunks_exact_steps chunks_exact_steps it o jt) e step) [
+              | inl u ↦ absurd (omega (arith, u.1.1.0, h.first-size, ap length h.first, length-drop (w * m) B, all.last, ends))
+              | inr u ↦ absurd (omega (arith, u.1.1.0, h.second-size, ap length h.second, length-drop (w * m) W, all.long, ends))
+            ]
+      ]
+
 -- after w wheels
-pub record Credited (c₀ B W c : List ℕ) (new : ℕ) (first : Bool) (w : ℕ) : Type 0 where
-  pub before-ends : w < 4 → w * length c₀ + length c₀ ≤ length B
-  pub now-ends : w < 4 → w * length c₀ + length c₀ ≤ length W
-  pub credit : credits c new first ≡ credits_of c₀ (by_wheels c₀ B W w)
+abbrev pub Credited : List ℕ → List ℕ → List ℕ → List ℕ → ℕ → Bool → ℕ → Type 0
+Credited c₀ B W c new first w = credits c new first ≡ credits_of c₀ (by_wheels c₀ B W w)
 
-pub no-credit : {n : ℕ} {c B W : List ℕ} → AllCreditable (length c) n B W → Fit c → Credited c B W c 0 false 0
+pub no-credit : (c B W : List ℕ) → Fit c → Credited c B W c 0 false 0
 unfolding credits_of any_below
-no-credit {c = c} a f =
-    record {
-      before-ends = λ b. part-ends 0 (length c) a.last b;
-      now-ends = λ b. part-ends 0 (length c) a.long b;
-      credit = λ i. credits (is-set_of (length c) c (λ t. member c t || false) refl f (λ t _. sym (or-false (member c t))) i) (sym (how_many-false (64 * length c)) i) false;
-    }
+no-credit c B W f =
+    λ i. credits (is-set_of (length c) c (λ t. member c t || false) refl f (λ t _. sym (or-false (member c t))) i) (sym (how_many-false (64 * length c)) i) false
 
-module _ {c₀ B W c : List ℕ} {new : ℕ} {first : Bool} {w : ℕ} (h : Credited c₀ B W c new first w) where
+module _ (c₀ B W c : List ℕ) {new : ℕ} {first : Bool} (w : ℕ) (h : Credited c₀ B W c new first w) where
   abbrev m : ℕ
   m = length c₀
 
   pub credited-long : length c ≡ m
-  credited-long = credits-long c₀ c (by_wheels c₀ B W w) h.credit
+  credited-long = credits-long c₀ c (by_wheels c₀ B W w) h
 
-  -- one wheel more, by its parts of the four wheels' words
+  -- one wheel more
   module _ {n : ℕ} (a : AllCreditable m n B W) (b : w < 4) where
-    pub own-credit : Creditable (length c) n (take (w * m + m - w * m) (drop (w * m) B)) (take (w * m + m - w * m) (drop (w * m) W))
-    own-credit =
-        let k = subst (λ (x : ℕ). Creditable x n (wheel_part m B w) (wheel_part m W w)) (sym credited-long) (a.each w b) in
-        let l = subst (λ (x : List ℕ). Creditable (length c) n x (wheel_part m W w)) (lent-part m w B) k in
-        subst (λ (x : List ℕ). Creditable (length c) n (take (w * m + m - w * m) (drop (w * m) B)) x) (lent-part m w W) l
+    pub own-credit : Creditable (length c) n (wheel_part m B w) (wheel_part m W w)
+    own-credit = subst (λ (x : ℕ). Creditable x n (wheel_part m B w) (wheel_part m W w)) (sym credited-long) (a.each w b)
 
-    module _ {c' : List ℕ} {f : ℕ} {z : Bool}
-        (k : credits c' f z ≡ credits_of c (λ t. member (take (w * m + m - w * m) (drop (w * m) W)) t && not (member (take (w * m + m - w * m) (drop (w * m) B)) t))) where
+    module _ (c' : List ℕ) {f : ℕ} {z : Bool} (k : credits c' f z ≡ credits_of c (λ t. member (wheel_part m W w) t && not (member (wheel_part m B w) t))) where
       pub one-credit : Credited c₀ B W c' (new + f) (first || z) (w + 1)
       unfolding any_below enters
-      one-credit =
-          record {
-            before-ends = λ d. part-ends (w + 1) m a.last d;
-            now-ends = λ d. part-ends (w + 1) m a.long d;
-            credit =
-                more-credit c₀ c (by_wheels c₀ B W w) h.credit c' (λ t. enters m B (in_sets m W) w t)
-                (k ∙ ap₂ (λ (x y : List ℕ). credits_of c (λ t. member x t && not (member y t))) (sym (lent-part m w W)) (sym (lent-part m w B)))
-                ∙ ap (λ (j : ℕ). credits_of c₀ (by_wheels c₀ B W j)) (sym (add-one w));
-          }
+      one-credit = more-credit c₀ c (by_wheels c₀ B W w) h c' (λ t. enters m B (in_sets m W) w t) k ∙ ap (λ (j : ℕ). credits_of c₀ (by_wheels c₀ B W j)) (sym (add-one w))
 
       pub few-new : new + f < 2 ^ 32
-      few-new = omega (arith, few-credits c₀ c' (by_wheels c₀ B W (w + 1)) one-credit.credit, (a.each w b).small)
+      few-new = omega (arith, few-credits c₀ c' (by_wheels c₀ B W (w + 1)) one-credit, (a.each w b).small)
 
   pub four-credits : w ≡ 4 → credits c new first ≡ credits_of c₀ (entered_since m B W)
   unfolding entered
-  four-credits four = h.credit ∙ ap (λ (k : ℕ). credits_of c₀ (by_wheels c₀ B W k)) four
+  four-credits four = h ∙ ap (λ (k : ℕ). credits_of c₀ (by_wheels c₀ B W k)) four
 
 -- ---- the contact: touch, then credit
 module _ (m : ℕ) (W₀ : List ℕ) (P : ℕ → ℕ → Bool) (W : List ℕ) (e : W ≡ wheel_sets m P 4) where
@@ -243,9 +286,9 @@ module _ (m : ℕ) (W₀ : List ℕ) (P : ℕ → ℕ → Bool) (W : List ℕ) (
       ((ap (λ (r : Credits). r.zero) h ∙ entered-is 0 b) i)
 
 -- what four wheels touch by sound look-ups may be credited
-pub touched-creditable : (m m' n : ℕ) (W₀ W : List ℕ) (ts : List Float) (offs l ks : List ℕ) (ps : List Pose) → W ≡ wheel_sets m (λ w. touched_by ts offs l (quad_of ps w)) 4 → m' ≡ m → length W₀ ≡ 4 * m
-    → 64 * m < 2 ^ 32 → 0 < n → n ≤ 64 * m → Looked offs l n (sixteen_cells ps) ks → AllCreditable m' n W₀ W
-touched-creditable m m' n W₀ W ts offs l ks ps e s lb small some few look =
+pub touched-creditable : (m m' n : ℕ) (W₀ W : List ℕ) (ts : List Float) (offs l : List ℕ) (ps : List Pose) → W ≡ wheel_sets m (λ w. touched_by ts offs l (quad_of ps w)) 4 → m' ≡ m → length W₀ ≡ 4 * m
+    → 64 * m < 2 ^ 32 → 0 < n → n ≤ 64 * m → sound_poses offs l n ps ≡ true → AllCreditable m' n W₀ W
+touched-creditable m m' n W₀ W ts offs l ps e s lb small some few look =
     let P : ℕ → ℕ → Bool = λ w. touched_by ts offs l (quad_of ps w) in
     let lw : length W ≡ 4 * m = ap length e ∙ sets-long m P 4 in
     subst (λ (x : ℕ). AllCreditable x n W₀ W) (sym s) (record {
@@ -257,6 +300,6 @@ touched-creditable m m' n W₀ W ts offs l ks ps e s lb small some few look =
         small = small;
         some = some;
         few = few;
-        past = λ t a u. in-set m W₀ P W e w t b u ∙ untouched ts offs l n (quad_of ps w) _ t (own-cells ps w look b refl) a;
+        past = λ t a u. in-set m W₀ P W e w t b u ∙ untouched ts offs l n (quad_of ps w) t (own-sound offs l n ps w look b) a;
       };
     })

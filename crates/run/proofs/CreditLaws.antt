@@ -10,6 +10,8 @@ use lib.ListN.{length, get_or, set, replicate, length-replicate, length-set, get
 use lib.Seq.{get_or-set_same, get_or-set_other, set-get_or}
 use lib.Bits.{bit_or, bit_and, and_le_l, or_lt, or_zero_r, and_zero_l}
 use lib.Count.{ones}
+use Rattle.std.specs.Int.{div_ceil}
+use Rattle.std.proofs.lemmas.Grind.{div_ceil_times}
 use lib.Dec.{lit<}
 use borrow.Author.Count.{below_more}
 use Rattle.run.specs.Grader.Words.{bit_of, member, word_of, set_of}
@@ -24,9 +26,13 @@ flipped w = 2 ^ 64 - 1 - w
 pub ones-bits : (w : ℕ) → w < 2 ^ 64 → ones w ≡ how_many 64 (bit_of w)
 ones-bits w h = ap ones (word-ext 64 w (word_of 64 (bit_of w)) h (word_lt 64 (bit_of w)) (λ i l. sym (word-bit 64 i (bit_of w) l))) ∙ ones-word 64 (bit_of w)
 
--- a word that is gone through is one of the set's
-pub within : (n m i : ℕ) → n ≤ 64 * m → i < (n + 63) / 64 → i < m
-within n m i h b = omega arith
+-- the words of the tiles below n are among the set's
+pub within : (n m : ℕ) → n ≤ 64 * m → div_ceil n 64 ≤ m
+within n m h = omega (arith, (div_ceil_times n 64 (omega arith)).1)
+
+-- and have them all
+pub beyond_words : (n i t : ℕ) → div_ceil n 64 ≤ i → 64 * i ≤ t → n ≤ t
+beyond_words n i t h b = omega (arith, (div_ceil_times n 64 (omega arith)).0)
 
 pub few : (n : ℕ) (p : ℕ → Bool) → how_many n p ≤ n
 unfolding how_many

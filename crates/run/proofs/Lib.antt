@@ -1,5 +1,6 @@
 pub mod WordLaws
 pub mod CreditLaws
+pub mod PairLaws
 pub mod TouchLaws
 pub mod CellLaws
 pub mod BelowLaws

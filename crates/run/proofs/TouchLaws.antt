@@ -19,7 +19,7 @@ use Rattle.run.specs.Grader.Words.{member, set_of}
 use Rattle.course.specs.Grader.Index.{part_ok, lookup}
 use Rattle.run.specs.Rules.Overlap.{overlap_of}
 use Rattle.run.specs.Rules.Wheel.{box_cells}
-use Rattle.run.specs.Grader.Touch.{lists, listed_by, touched_by, sound_cell}
+use Rattle.run.specs.Grader.Touch.{lists, listed_by, touched_by, sound_cell, sound_quad}
 use Rattle.run.specs.Steps.Touch.{Tested, Tests, Room, Looked}
 use Rattle.run.proofs.WordLaws.{member-set_of, set_of-cong, or-chain}
 
@@ -136,11 +136,12 @@ pub room_for : {k n : ℕ} {ts : List Float} {a b : List ℕ} (i : ℕ) (a' b' :
 room_for {k = k} i a' b' h l p q = record { sets = q ∙ h.sets ∙ ap (λ (x : ℕ). k * x) (sym p); words = omega (arith, h.words, p, l); tiles = omega (arith, h.tiles, l) }
 
 -- the ids that a sound cell lists
-pub sound-ids : {offs l : List ℕ} {n : ℕ} {wanted ks ids : List ℕ} {i : ℕ} → Looked offs l n wanted ks → i < length ks → ids ≡ lookup offs l (get_or ks i 0) → every_of (λ t. ltb t n) ids ≡ true
-unfolding sound_cell
+pub sound-ids : {offs l : List ℕ} {n : ℕ} {q : List (List Float)} {ks ids : List ℕ} {i : ℕ} → Looked offs l n q ks → i < length ks → ids ≡ lookup offs l (get_or ks i 0) → every_of (λ t. ltb t n) ids ≡ true
+unfolding sound_cell sound_quad
 sound-ids {offs} {l} {n} {ks = ks} {i = i} h b r =
     ap (every_of (λ t. ltb t n)) r
-    ∙ and_right (part_ok offs l (get_or ks i 0)) (every_of (λ t. ltb t n) (lookup offs l (get_or ks i 0))) (every-at (sound_cell offs l n) ks i h.sound b)
+    ∙ and_right (part_ok offs l (get_or ks i 0)) (every_of (λ t. ltb t n) (lookup offs l (get_or ks i 0)))
+    (every-at (sound_cell offs l n) ks i (ap (every_of (sound_cell offs l n)) h.are ∙ h.sound) b)
 
 -- nothing tested yet
 pub none-tested : (m a b : ℕ) (o N : ℕ → Bool) (tested touched : List ℕ) → tested ≡ set_of a (λ t. false) → touched ≡ set_of b (λ t. false) → m ≡ a → b ≡ a → ((t : ℕ) → N t ≡ false)
@@ -167,7 +168,6 @@ none-in-cells offs l n t (k ∷ ks) b e =
     let own : every_of (λ u. ltb u n) ids ≡ true = and_right (part_ok offs l k) (every_of (λ u. ltb u n) ids) (and_left (sound_cell offs l n k) (every_of (sound_cell offs l n) ks) e) in
     ap₂ ◌||◌ (none-listed n t ids b own) (none-in-cells offs l n t ks b (and_right (sound_cell offs l n k) (every_of (sound_cell offs l n) ks) e))
 
-pub untouched : (ts : List Float) (offs l : List ℕ) (n : ℕ) (q : List (List Float)) (ks : List ℕ) (t : ℕ) → Looked offs l n (box_cells q) ks → n ≤ t → touched_by ts offs l q t ≡ false
-unfolding touched_by listed_by
-untouched ts offs l n q ks t h b =
-    ap (λ (x : Bool). x && overlap_of q (tile_of ts t)) (ap (some_of (λ c. lists (lookup offs l c) t)) (sym h.are) ∙ none-in-cells offs l n t ks b h.sound)
+pub untouched : (ts : List Float) (offs l : List ℕ) (n : ℕ) (q : List (List Float)) (t : ℕ) → sound_quad offs l n q ≡ true → n ≤ t → touched_by ts offs l q t ≡ false
+unfolding touched_by listed_by sound_quad
+untouched ts offs l n q t h b = ap (λ (x : Bool). x && overlap_of q (tile_of ts t)) (none-in-cells offs l n t (box_cells q) b h)

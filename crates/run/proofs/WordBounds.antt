@@ -21,7 +21,7 @@ use Rattle.run.specs.Rules.Below.{every_below, how_many}
 use Rattle.run.specs.Grader.Words.{bit_of, member}
 use Rattle.run.specs.Grader.Saved.{all_below}
 use Rattle.run.proofs.WordLaws.{Fit, how_many-none, word-ext, member-at, bit-none, how_many-add, how_many-cong}
-use Rattle.run.proofs.BelowLaws.{by_side}
+use Rattle.run.proofs.BelowLaws.{by_side, every-at}
 use Rattle.run.proofs.CreditLaws.{ones-bits}
 
 -- ---- a set's tiles are counted word by word
@@ -50,15 +50,6 @@ every_true : (n : ℕ) (p : ℕ → Bool) → ((t : ℕ) → t < n → p t ≡ t
 unfolding every_below
 every_true zero p h = refl
 every_true (suc n) p h = ap₂ ◌&&◌ (every_true n p (λ t l. h t (omega arith))) (h n (omega arith))
-
-every-at : (n t : ℕ) (p : ℕ → Bool) → every_below n p ≡ true → t < n → p t ≡ true
-unfolding every_below
-every-at zero t p e h = absurd (omega arith)
-every-at (suc n) t p e h =
-    elim (dec_lt t n) [
-      | yes l ↦ every-at n t p (and_left (every_below n p) (p n) e) l
-      | no l ↦ subst (λ (x : ℕ). p x ≡ true) (omega arith) (and_right (every_below n p) (p n) e)
-    ]
 
 -- the bits of a word moved down
 bit_moved : (w r k : ℕ) → bit_of (w / 2 ^ r) k ≡ bit_of w (r + k)

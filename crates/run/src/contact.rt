@@ -3,7 +3,7 @@
 ghost use Rattle.std.specs.Prelude.{◌≡◌, true, not, ◌&&◌, ◌*◌, ◌<◌, ◌≤◌, length};
 ghost use Rattle.run.specs.Grader.Words.{member};
 ghost use Rattle.run.specs.Rules.Wheel.{quad_of};
-ghost use Rattle.run.specs.Steps.Touch.{sixteen_cells, Room, Looked, Creditable, AllCreditable, credits, credits_of, entered_since};
+ghost use Rattle.run.specs.Steps.Touch.{Room, Creditable, AllCreditable, credits, credits_of, entered_since};
 ghost use Rattle.run.specs.Grader.Touch.{touched_by, sound_poses};
 ghost use Rattle.run.specs.Grader.Contact.{wheel_sets, contacted, contact_of};
 ghost use Rattle.run.specs.Grader.Widths.{full_words, most_tiles};
@@ -23,7 +23,7 @@ pub(crate) struct Contact {
 // The sets of the four wheels become what each touches now, every one made anew; `tested` is scratch.
 fn touch_sets(stance: &Stance, columns: Columns, n: usize, tested: &mut [u64], wheels: &mut [u64])
     requires room { Room 4 n columns.tiles.now tested.old wheels.old }
-    requires looked { Looked columns.offsets.now columns.list.now n (sixteen_cells stance.now.poses) stance.now.cells }
+    requires looked { sound_poses columns.offsets.now columns.list.now n stance.now.poses ≡ true }
     ensures { wheels.new
         ≡ wheel_sets (length tested.old)
         (λ w. touched_by columns.entry.tiles.now columns.entry.offsets.now columns.entry.list.now
@@ -34,7 +34,7 @@ fn touch_sets(stance: &Stance, columns: Columns, n: usize, tested: &mut [u64], w
         let from = wheel * m;
         touch::touch_quad(
             quad::wheel_quad(stance.poses[wheel]),
-            &stance.cells[wheel * 4..wheel * 4 + 4],
+            &stance.cells[wheel],
             columns,
             n,
             tested,
@@ -65,12 +65,10 @@ fn credit_sets(credited: &mut [u64], before: &[u64], wheels: &[u64], n: usize) -
     let m = credited.len();
     let mut fresh: u32 = 0;
     let mut zero = false;
-    for w in 0..4 {
-        let from = w * m;
-        let to = from + m;
-        let k = credit_set(credited, &before[from..to], &wheels[from..to], n);
+    for (last, now) in before.chunks_exact(m).zip(wheels.chunks_exact(m)) {
+        let k = credit_set(credited, last, now, n);
         fresh += k.fresh;
-        zero = zero | k.zero;
+        zero |= k.zero;
     }
     Contact { fresh, zero }
 }

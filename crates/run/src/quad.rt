@@ -1,37 +1,45 @@
 // Quads of four corners: a wheel's, a tile's, and whether two of them overlap (document 01, "Touch").
-ghost use Rattle.std.specs.Prelude.{◌≡◌, not, ◌||◌, ◌+◌, ◌*◌};
-ghost use Rattle.run.specs.Rules.Overlap.{least_on, greatest_on, apart_on, apart_by_edges, overlap_of};
+ghost use Rattle.std.specs.Prelude.{◌≡◌, not, ◌||◌};
+ghost use Rattle.run.specs.Rules.Overlap.{apart_on, apart_by_edges, overlap_of};
 ghost use Rattle.run.specs.Rules.Wheel.{placed, wheel_quad, box_cells};
-ghost use Rattle.run.specs.Steps.Touch.{first_side, beyond, apart_by_others, sixteen_cells};
+ghost use Rattle.run.specs.Steps.Touch.{span_on, spans_apart, first_side, beyond, apart_by_others, sixteen_cells};
 
 use crate::dynamics::{SIZE, WHEEL_R};
 use crate::state::Pose;
-use course::cell::cell_of;
 use course::constants::GRID_DIM;
 use course::numeric::{greatest, least};
+use course::rect::Rect;
 
 const WHEEL_W: f64 = 14.0;
 
 // The least and the greatest projection of a quad on an axis.
 #[derive(Clone, Copy)]
-struct Span {
-    low: f64,
-    high: f64,
+pub(crate) struct Span {
+    pub low: f64,
+    pub high: f64,
 }
 
-// The projections of a quad's corners on the axis (nx, ny), from the least to the greatest.
-#[tactic(auto, unfolding(crate::specs::Rules::Overlap::least_on, crate::specs::Rules::Overlap::greatest_on))]
-fn span_on(nx: f64, ny: f64, q: [[f64; 2]; 4]) -> Span
-    ensures low { result.low ≡ least_on nx ny q }
-    ensures high { result.high ≡ greatest_on nx ny q }
-{
-    let a = nx * q[0][0] + ny * q[0][1];
-    let b = nx * q[1][0] + ny * q[1][1];
-    let c = nx * q[2][0] + ny * q[2][1];
-    let d = nx * q[3][0] + ny * q[3][1];
-    Span {
-        low: least(a, b, c, d),
-        high: greatest(a, b, c, d),
+impl Span {
+    // The projections of a quad's corners on the axis (nx, ny).
+    #[tactic(auto, unfolding(crate::specs::Rules::Overlap::least_on, crate::specs::Rules::Overlap::greatest_on))]
+    fn on(nx: f64, ny: f64, q: [[f64; 2]; 4]) -> Span
+        ensures { result ≡ span_on nx ny q }
+    {
+        let a = nx * q[0][0] + ny * q[0][1];
+        let b = nx * q[1][0] + ny * q[1][1];
+        let c = nx * q[2][0] + ny * q[2][1];
+        let d = nx * q[3][0] + ny * q[3][1];
+        Span {
+            low: least(a, b, c, d),
+            high: greatest(a, b, c, d),
+        }
+    }
+
+    // One of the two ends before the other begins.
+    fn is_apart(self, other: Span) -> bool
+        ensures { result ≡ spans_apart self other }
+    {
+        (self.high < other.low) | (other.high < self.low)
     }
 }
 
@@ -40,9 +48,7 @@ fn span_on(nx: f64, ny: f64, q: [[f64; 2]; 4]) -> Span
 fn apart_on(nx: f64, ny: f64, a: [[f64; 2]; 4], b: [[f64; 2]; 4]) -> bool
     ensures { result ≡ apart_on nx ny a b }
 {
-    let p = span_on(nx, ny, a);
-    let r = span_on(nx, ny, b);
-    (p.high < r.low) | (r.high < p.low)
+    Span::on(nx, ny, a).is_apart(Span::on(nx, ny, b))
 }
 
 // The quads lie apart on a normal of one of the edges of q after the first.
@@ -63,35 +69,6 @@ fn apart_by_edges(q: [[f64; 2]; 4], a: [[f64; 2]; 4], b: [[f64; 2]; 4]) -> bool
     apart_on(q[1][1] - q[0][1], q[0][0] - q[1][0], a, b) || apart_by_others(q, a, b)
 }
 
-// The normal (nx, ny) of a quad's first edge, and the quad's least and greatest projection on it.
-#[derive(Clone, Copy)]
-pub(crate) struct Side {
-    pub nx: f64,
-    pub ny: f64,
-    pub low: f64,
-    pub high: f64,
-}
-
-// The first side of a quad. Made once for a wheel: most tiles of a cell lie apart from the wheel on it.
-#[tactic(auto, unfolding(crate::specs::Steps::Touch::first_side))]
-pub(crate) fn first_side(q: [[f64; 2]; 4]) -> Side
-    ensures { result ≡ first_side q }
-{
-    let nx = q[1][1] - q[0][1];
-    let ny = q[0][0] - q[1][0];
-    let Span { low, high } = span_on(nx, ny, q);
-    Side { nx, ny, low, high }
-}
-
-// The quad lies apart from the side's own quad on the side's normal.
-#[tactic(auto, unfolding(crate::specs::Steps::Touch::beyond))]
-fn is_beyond(s: Side, q: [[f64; 2]; 4]) -> bool
-    ensures { result ≡ beyond s q }
-{
-    let p = span_on(s.nx, s.ny, q);
-    (s.high < p.low) | (p.high < s.low)
-}
-
 // Neither the other edges of `a` nor those of `b` part the quads. Apart from the test of the first side, which is compiled into its caller:
 // most pairs need no more.
 fn overlap_past_first(a: [[f64; 2]; 4], b: [[f64; 2]; 4]) -> bool
@@ -100,20 +77,58 @@ fn overlap_past_first(a: [[f64; 2]; 4], b: [[f64; 2]; 4]) -> bool
     !(apart_by_others(a, a, b) || apart_by_edges(b, a, b))
 }
 
-// Whether two quads overlap, by the eight normals of their edges; the first side of `a` is made already.
-pub(crate) fn overlap_from(side: Side, a: [[f64; 2]; 4], b: [[f64; 2]; 4]) -> bool
-    requires { side ≡ first_side a }
-    ensures { result ≡ overlap_of a b }
-{
-    !is_beyond(side, b) && overlap_past_first(a, b)
+// The normal (nx, ny) of a quad's first edge, and the quad's own span on it.
+#[derive(Clone, Copy)]
+pub(crate) struct Side {
+    pub nx: f64,
+    pub ny: f64,
+    pub span: Span,
 }
 
-// Whether two quads overlap, the first side made here. No contact calls it: it is for a caller who has two quads alone, and does not go through
-// `overlap_from`, so that this has one caller and is compiled into the contact.
+// A quad with its first side. Made once for a wheel: most tiles of a cell lie apart from the wheel on it.
+#[derive(Clone, Copy)]
+pub(crate) struct Sided {
+    pub quad: [[f64; 2]; 4],
+    side: Side,
+    ghost own_side: { side ≡ first_side quad },
+}
+
+impl Sided {
+    // The quad with its side.
+    #[tactic(auto, unfolding(crate::specs::Steps::Touch::first_side))]
+    pub(crate) fn new(quad: [[f64; 2]; 4]) -> Sided
+        ensures { result.quad ≡ quad }
+    {
+        let nx = quad[1][1] - quad[0][1];
+        let ny = quad[0][0] - quad[1][0];
+        let span = Span::on(nx, ny, quad);
+        let side = Side { nx, ny, span };
+        Sided { quad, side }
+    }
+
+    // The other quad lies apart on the normal of the first edge.
+    #[tactic(auto, unfolding(crate::specs::Steps::Touch::beyond))]
+    fn is_beyond(&self, other: [[f64; 2]; 4]) -> bool
+        ensures { result ≡ beyond self.now.side other }
+    {
+        let side = self.side;
+        side.span.is_apart(Span::on(side.nx, side.ny, other))
+    }
+
+    // Whether two quads overlap, by the eight normals of their edges.
+    #[inline(always)]
+    pub(crate) fn overlaps(&self, other: [[f64; 2]; 4]) -> bool
+        ensures { result ≡ overlap_of self.now.quad other }
+    {
+        !self.is_beyond(other) && overlap_past_first(self.quad, other)
+    }
+}
+
+// Whether two quads overlap. No contact calls it: it is for a caller who has two quads alone.
 pub fn quad_overlap(a: [[f64; 2]; 4], b: [[f64; 2]; 4]) -> bool
     ensures { result ≡ overlap_of a b }
 {
-    !is_beyond(first_side(a), b) && overlap_past_first(a, b)
+    Sided::new(a).overlaps(b)
 }
 
 // The place (u, v) of a wheel's own frame under its pose.
@@ -139,34 +154,29 @@ pub fn wheel_quad(p: Pose) -> [[f64; 2]; 4]
 pub fn box_cells(q: [[f64; 2]; 4]) -> [usize; 4]
     ensures { result ≡ box_cells q }
 {
-    let x0 = least(q[0][0], q[1][0], q[2][0], q[3][0]);
-    let y0 = least(q[0][1], q[1][1], q[2][1], q[3][1]);
-    let x1 = greatest(q[0][0], q[1][0], q[2][0], q[3][0]);
-    let y1 = greatest(q[0][1], q[1][1], q[2][1], q[3][1]);
-    let c0 = cell_of(x0);
-    let c1 = cell_of(x1);
-    let r0 = cell_of(y0) * GRID_DIM;
-    let r1 = cell_of(y1) * GRID_DIM;
-    [r0 + c0, r0 + c1, r1 + c0, r1 + c1]
+    let r = Rect::of_quad(&q);
+    let low = r.y0 * GRID_DIM;
+    let high = r.y1 * GRID_DIM;
+    [low + r.x0, low + r.x1, high + r.x0, high + r.x1]
 }
 
-// The cells of four wheels' boxes, four to a wheel.
-fn wheel_cells(poses: &[Pose; 4]) -> [usize; 16]
+// The cells of four wheels' boxes.
+fn wheel_cells(poses: &[Pose; 4]) -> [[usize; 4]; 4]
     ensures { result ≡ sixteen_cells poses.now }
 {
-    let mut cells = [0usize; 16];
-    for w in 0..4 {
-        cells[4 * w..4 * w + 4].copy_from_slice(&box_cells(wheel_quad(poses[w])));
+    let mut cells = [[0; 4]; 4];
+    for (w, pose) in poses.iter().enumerate() {
+        cells[w] = box_cells(wheel_quad(*pose));
     }
     cells
 }
 
-// The poses of four wheels, and the cells of the wheels' boxes. These are made before any of them is looked up: the wheels do not wait for
+// The poses of four wheels, and the cells of each wheel's box. These are made before any of them is looked up: the wheels do not wait for
 // each other.
 #[derive(Clone, Copy)]
 pub(crate) struct Stance {
     pub poses: [Pose; 4],
-    pub cells: [usize; 16],
+    pub cells: [[usize; 4]; 4],
     ghost own_cells: { cells ≡ sixteen_cells poses },
 }
 

@@ -1,17 +1,16 @@
 // Which tiles a wheel touches, by the lent tiles and index (document 01, "Touch"). Each tile is tested
 // once for a wheel, however many cells list it and however often.
-ghost use Rattle.std.specs.Prelude.{◌≡◌, true, ◌||◌, ◌+◌, ◌*◌, ◌<◌, ◌≤◌, eqb, ltb, length, get_or};
-ghost use Rattle.std.specs.List.{list_all};
+ghost use Rattle.std.specs.Prelude.{◌≡◌, true, ◌+◌, ◌*◌, ◌≤◌, eqb, ltb, length};
+ghost use Rattle.std.specs.List.{list_all, flat_map};
 ghost use Rattle.course.specs.Rules.Tiles.{tile_of};
 ghost use Rattle.run.specs.Rules.Below.{every_of};
 ghost use Rattle.run.specs.Grader.Words.{set_of};
 ghost use Rattle.run.specs.Grader.Touch.{lists, touched_by, sound_cell};
-ghost use Rattle.run.specs.Rules.Wheel.{box_cells};
-ghost use Rattle.run.specs.Steps.Touch.{first_side, again, overlaps_tile, Tests, Room, Looked};
+ghost use Rattle.run.specs.Steps.Touch.{overlaps_tile, Tests, Room, Looked};
 
-use crate::quad::Side;
-use crate::{quad, words};
-use course::index;
+use crate::quad::Sided;
+use crate::words;
+use course::{index, tiles};
 
 // A course's columns as a host lends them: the corners of its tiles, and for each cell of the grid which part of the list is its tiles.
 #[derive(Clone, Copy)]
@@ -27,13 +26,8 @@ impl Columns<'_> {
         requires { t * 8 + 8 ≤ length self.tiles.now }
         ensures { result ≡ tile_of self.entry.tiles.now t }
     {
-        let tiles = self.tiles;
-        let k = t * 8;
-        let a = [tiles[k], tiles[k + 1]];
-        let b = [tiles[k + 2], tiles[k + 3]];
-        let c = [tiles[k + 4], tiles[k + 5]];
-        let d = [tiles[k + 6], tiles[k + 7]];
-        [a, b, c, d]
+        let numbers = self.tiles[t * 8..t * 8 + 8].first_chunk().unwrap();
+        tiles::read_quad(numbers)
     }
 
     // The cell may be looked up: no cause 10.
@@ -45,13 +39,17 @@ impl Columns<'_> {
     }
 
     // All cells may be looked up. One that is the same as the cell before it needs no look-up of its own.
-    pub(crate) fn cells_sound(self, n: usize, cells: &[usize]) -> bool
-        ensures { result ≡ every_of (sound_cell self.entry.offsets.now self.entry.list.now n) cells.now }
+    pub(crate) fn cells_sound(self, n: usize, cells: &[[usize; 4]]) -> bool
+        ensures { result
+            ≡ every_of (sound_cell self.entry.offsets.now self.entry.list.now n)
+            (flat_map (λ x. x) cells.now) }
     {
-        for i in 0..cells.len() {
-            if !is_again(cells, i) && !self.cell_sound(n, cells[i]) {
+        let mut before = None;
+        for cell in cells.as_flattened() {
+            if before != Some(*cell) && !self.cell_sound(n, *cell) {
                 return false;
             }
+            before = Some(*cell);
         }
         true
     }
@@ -64,41 +62,24 @@ fn ids_below(ids: &[u32], n: usize) -> bool
     ids.iter().all(|id| (*id as usize) < n)
 }
 
-// Cell i is the same as the cell before it, as most of a box's are: one look-up is enough for both.
-fn is_again(cells: &[usize], i: usize) -> bool
-    requires { i < length cells.now }
-    ensures { result ≡ again cells.now i }
-{
-    i > 0 && cells[i] == cells[i - 1]
-}
-
 // Tile `id` is tested, unless it was before.
-fn touch_one(
-    q: [[f64; 2]; 4],
-    side: Side,
-    columns: Columns,
-    id: usize,
-    tested: &mut [u64],
-    touched: &mut [u64],
-)
-    requires room { Room 1 (id + 1) columns.tiles.now tested.old touched.old }
-    requires side_value { side ≡ first_side q }
-    ensures { Tests (overlaps_tile q columns.entry.tiles.now) (λ t. eqb t id) tested.old touched.old
+fn touch_one(wheel: &Sided, columns: Columns, id: usize, tested: &mut [u64], touched: &mut [u64])
+    requires { Room 1 (id + 1) columns.tiles.now tested.old touched.old }
+    ensures { Tests (overlaps_tile wheel.now.quad columns.entry.tiles.now) (λ t. eqb t id) tested.old touched.old
         tested.new touched.new }
 {
     if words::has(tested, id) {
         return;
     }
     words::put(tested, id);
-    if quad::overlap_from(side, q, columns.tile(id)) {
+    if wheel.overlaps(columns.tile(id)) {
         words::put(touched, id);
     }
 }
 
 // The tiles of a list are tested.
 fn touch_ids(
-    q: [[f64; 2]; 4],
-    side: Side,
+    wheel: &Sided,
     columns: Columns,
     ids: &[u32],
     n: usize,
@@ -106,12 +87,12 @@ fn touch_ids(
     touched: &mut [u64],
 )
     requires room { Room 1 n columns.tiles.now tested.old touched.old }
-    requires ids_value { (every_of (λ t. ltb t n) ids.now ≡ true) × (side ≡ first_side q) }
-    ensures { Tests (overlaps_tile q columns.entry.tiles.now) (lists ids.now) tested.old
+    requires ids_below { every_of (λ t. ltb t n) ids.now ≡ true }
+    ensures { Tests (overlaps_tile wheel.now.quad columns.entry.tiles.now) (lists ids.now) tested.old
         touched.old tested.new touched.new }
 {
     for id in ids {
-        touch_one(q, side, columns, *id as usize, tested, touched);
+        touch_one(wheel, columns, *id as usize, tested, touched);
     }
 }
 
@@ -119,25 +100,28 @@ fn touch_ids(
 // the cells of the quad's box.
 pub(crate) fn touch_quad(
     q: [[f64; 2]; 4],
-    cells: &[usize],
+    cells: &[usize; 4],
     columns: Columns,
     n: usize,
     tested: &mut [u64],
     touched: &mut [u64],
 )
     requires room { Room 1 n columns.tiles.now tested.old touched.old }
-    requires looked { Looked columns.offsets.now columns.list.now n (box_cells q) cells.now }
+    requires looked { Looked columns.offsets.now columns.list.now n q cells.now }
     ensures { touched.new
         ≡ set_of (length tested.old)
         (touched_by columns.entry.tiles.now columns.entry.offsets.now columns.entry.list.now q) }
 {
-    let side = quad::first_side(q);
+    let wheel = Sided::new(q);
     words::clear(tested);
     words::clear(touched);
-    for i in 0..cells.len() {
-        if !is_again(cells, i) {
-            let ids = index::cell_tiles(columns.offsets, columns.list, cells[i]);
-            touch_ids(q, side, columns, ids, n, tested, touched);
+    let mut before = None;
+    for cell in cells {
+        // Most of a box's cells are the same as the cell before, whose tiles are tested already.
+        if before != Some(*cell) {
+            let ids = index::cell_tiles(columns.offsets, columns.list, *cell);
+            touch_ids(&wheel, columns, ids, n, tested, touched);
         }
+        before = Some(*cell);
     }
 }

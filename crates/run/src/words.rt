@@ -1,5 +1,7 @@
-// Sets of tiles kept as words of 64 bits: tile t is bit t % 64 of word t / 64. Every function takes
-// slices of any number of words, so that states of several widths share it.
+// Sets of tiles kept as words of 64 bits: tile t is bit t % 64 of word t / 64. A set is lent as a slice: the credited tiles' is an array,
+// and a wheel's is a part of the four wheels' words.
+// Kept as functions: to `[u64]` Rust adds methods by a trait alone, which for this one type would say each contract over a word of its own
+// for `Self`, so that `touched.put(id)` stands for `words::put(touched, id)`.
 ghost use Rattle.std.specs.Prelude.{◌≡◌, false, not, ◌&&◌, ◌||◌, ◌*◌, ◌^◌, ◌<◌, eqb, length};
 ghost use Rattle.run.specs.Rules.Below.{how_many};
 ghost use Rattle.std.specs.List.{list_all};
@@ -31,28 +33,25 @@ pub(crate) fn clear(set: &mut [u64])
     set.fill(0);
 }
 
-// What is in `cur` and not in `last` is credited; how many of these tiles were not credited before. A
+// What is in `wheel` and not in `before` is credited; how many of these tiles were not credited before. A
 // course has few tiles for the words at hand: those after the word of tile n - 1 are not gone through.
-#[tactic(auto, using(crate::proofs::CreditLaws::within))]
-pub(crate) fn credit(credited: &mut [u64], last: &[u64], cur: &[u64], n: usize) -> u32
-    requires { Creditable (length credited.old) n last.now cur.now }
+pub(crate) fn credit(credited: &mut [u64], before: &[u64], wheel: &[u64], n: usize) -> u32
+    requires { Creditable (length credited.old) n before.now wheel.now }
     ensures credited_after { credited.new
         ≡ set_of (length credited.old)
-        (λ t. member credited.old t || (member cur.now t && not (member last.now t))) }
+        (λ t. member credited.old t || (member wheel.now t && not (member before.now t))) }
     ensures value { result
         ≡ how_many (64 * length credited.old)
-        (λ t. (member cur.now t && not (member last.now t))
+        (λ t. (member wheel.now t && not (member before.now t))
         && not (member credited.old t)) }
 {
-    let end = (n + 63) / 64;
     let mut fresh: u32 = 0;
-    for i in 0..end {
-        let entered = cur[i] & !last[i];
-        let before = credited[i];
+    for (i, (now, last)) in wheel[..n.div_ceil(64)].iter().zip(before).enumerate() {
+        let entered = now & !last;
         // Mostly nothing was entered, and the count is dear where the processor has no instruction for it.
         if entered != 0 {
-            fresh += u64::count_ones(entered & !before);
-            credited[i] = before | entered;
+            fresh += u64::count_ones(entered & !credited[i]);
+            credited[i] |= entered;
         }
     }
     fresh

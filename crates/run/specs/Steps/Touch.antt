@@ -1,22 +1,31 @@
--- Only functions that no other crate can call cite this, most in `quad`, `touch`, `contact` and `words`: a wheel's first side, the cells of four
+-- Only functions that no other crate can call cite this, most in `quad`, `touch`, `contact` and `words`: a quad's first side, the cells of four
 -- wheels, the tiles of a wheel that were tested so far with those of them that it touches, what these steps are given, and credit apart from
 -- touch. Assumes nothing.
-use Rattle.std.specs.Prelude.{◌≡◌, Bool, true, false, not, ◌&&◌, ◌||◌, List, ◌++◌, ℕ, zero, suc, ◌*◌, ◌^◌, ◌≤◌, ◌<◌, eqb, Float, length, get_or}
+use Rattle.std.specs.Prelude.{◌≡◌, Bool, true, false, not, ◌&&◌, ◌||◌, List, [], ◌∷◌, ℕ, ◌*◌, ◌^◌, ◌≤◌, ◌<◌, Float, length}
 use Rattle.std.specs.Float.Ieee.{lt}
 use Rattle.course.specs.Rules.Arithmetic.{◌⊖◌}
 use Rattle.course.specs.Rules.Tiles.{corner, tile_of}
 use Rattle.run.specs.Rules.Overlap.{least_on, greatest_on, apart_along, overlap_of}
 use Rattle.run.specs.Rules.Wheel.{quad_of, box_cells}
-use Rattle.run.specs.Rules.Below.{every_of, how_many}
-use Rattle.run.specs.Grader.Touch.{sound_cell}
+use Rattle.run.specs.Rules.Below.{how_many}
+use Rattle.run.specs.Grader.Touch.{sound_quad}
 use Rattle.run.specs.Grader.Contact.{wheel_part, entered}
 use Rattle.run.specs.Grader.Words.{member, set_of}
 use Rattle.run.specs.declared.state.Pose.{Pose}
+use Rattle.run.specs.declared.quad.Span.{Span}
 use Rattle.run.specs.declared.quad.Side.{Side}
 
--- the normal (nx, ny) with the quad's own projections on it
+-- a quad's least and greatest projection on the axis (nx, ny)
+abbrev pub span_on : Float → Float → List (List Float) → Span
+span_on nx ny q = record { low = least_on nx ny q; high = greatest_on nx ny q }
+
+-- one of the two ends before the other begins
+abbrev pub spans_apart : Span → Span → Bool
+spans_apart p r = lt p.high r.low || lt r.high p.low
+
+-- the normal (nx, ny) with the quad's own span on it
 abbrev pub side_along : Float → Float → List (List Float) → Side
-side_along nx ny q = record { nx = nx; ny = ny; low = least_on nx ny q; high = greatest_on nx ny q }
+side_along nx ny q = record { nx = nx; ny = ny; span = span_on nx ny q }
 
 -- the side of a quad's edge from corner 0 to corner 1
 unfoldable pub first_side : List (List Float) → Side
@@ -24,20 +33,15 @@ first_side q = side_along (corner q 1 1 ⊖ corner q 0 1) (corner q 0 0 ⊖ corn
 
 -- the quad lies apart on the side's normal from the quad that the side is of
 unfoldable pub beyond : Side → List (List Float) → Bool
-beyond s q = lt s.high (least_on s.nx s.ny q) || lt (greatest_on s.nx s.ny q) s.low
+beyond s q = spans_apart s.span (span_on s.nx s.ny q)
 
 -- the quads lie apart on a normal of one of the edges of q after the first
 unfoldable pub apart_by_others : List (List Float) → List (List Float) → List (List Float) → Bool
 apart_by_others q a b = apart_along q 1 2 a b || (apart_along q 2 3 a b || apart_along q 3 0 a b)
 
--- the cells of four wheels' boxes, one wheel after the other
-unfoldable pub sixteen_cells : List Pose → List ℕ
-sixteen_cells ps = box_cells (quad_of ps 0) ++ (box_cells (quad_of ps 1) ++ (box_cells (quad_of ps 2) ++ box_cells (quad_of ps 3)))
-
--- cell i of the list is the same as the cell before it
-unfoldable pub again : List ℕ → ℕ → Bool
-again ks zero = false
-again ks (suc i) = eqb (get_or ks (suc i) 0) (get_or ks i 0)
+-- the cells of four wheels' boxes
+unfoldable pub sixteen_cells : List Pose → List (List ℕ)
+sixteen_cells ps = box_cells (quad_of ps 0) ∷ box_cells (quad_of ps 1) ∷ box_cells (quad_of ps 2) ∷ box_cells (quad_of ps 3) ∷ []
 
 -- the quad overlaps tile t of the lent tiles
 abbrev pub overlaps_tile : List (List Float) → List Float → ℕ → Bool
@@ -60,10 +64,10 @@ pub record Room (k n : ℕ) (ts : List Float) (tested touched : List ℕ) : Type
   pub words : n ≤ 64 * length tested
   pub tiles : n * 8 ≤ length ts
 
--- the cells are those that are wanted, and each may be looked up
-pub record Looked (offs l : List ℕ) (n : ℕ) (wanted cells : List ℕ) : Type 0 where
-  pub are : cells ≡ wanted
-  pub sound : every_of (sound_cell offs l n) cells ≡ true
+-- the cells are those of the quad's box, and each may be looked up
+pub record Looked (offs l : List ℕ) (n : ℕ) (q : List (List Float)) (cells : List ℕ) : Type 0 where
+  pub are : cells ≡ box_cells q
+  pub sound : sound_quad offs l n q ≡ true
 
 -- a wheel's sets before and now have m words, and no tile from n on is in the set now
 pub record Creditable (m n : ℕ) (before wheel : List ℕ) : Type 0 where

@@ -1,23 +1,43 @@
 -- `run::contact::credit_sets` meets its contract. Assumes nothing.
-use Rattle.run.proofs.ContactLaws.{no-credit, own-credit, one-credit, few-new, credited-long, four-credits}
+use Rattle.run.specs.Steps.Touch.{credits, credits_of}
+use Rattle.run.specs.Grader.Words.{member}
+use Rattle.run.proofs.ContactLaws.{Parts, Credited, next-parts, no-parts, no-credit, own-credit, one-credit, few-new, credited-long, four-credits}
+use Rattle.std.proofs.lemmas.List.{length_push}
+use lib.ListN.{length}
+use mathlib.Core.Bool.{not, ◌&&◌}
+use mathlib.Core.Path.{◌≡◌, sym, subst}
 use native.Mathlib.Omega.{arith}
 use borrow.Author.Rules.{rules}
 use Rattle.run.proofs.contact.credit_sets.Goals as goal
 
-pub loop-w-init : goal.loop-w-init
-loop-w-init c = no-credit c.requires (λ j. search rules)
+pub loop-last-init : goal.loop-last-init
+loop-last-init c = (
+  record { bound = omega arith; first-size = search rules; second-size = search rules; first = search rules; second = search rules },
+  no-credit _ _ _ (λ j. search rules),
+)
 
 pub credit_set-k-requires : goal.credit_set-k-requires
-credit_set-k-requires c = own-credit c.loop-w.invariant c.requires c.loop-w-test.true
+credit_set-k-requires c =
+    let h = c.loop-last.invariant in
+    let p = next-parts c.next.new.self c.requires h.0 c.next.ensures.steps c.in-Some.is in
+    rw (p.before, p.now) (own-credit _ _ _ _ _ h.1 c.requires p.less)
 
 pub overflow_add-fresh : goal.overflow_add-fresh
-overflow_add-fresh c = record { fits = omega (arith, few-new c.loop-w.invariant c.requires c.loop-w-test.true c.credit_set-k.ensures) }
+overflow_add-fresh c =
+    let h = c.loop-last.invariant in
+    let p = next-parts c.next.new.self c.requires h.0 c.next.ensures.steps c.in-Some.is in
+    record { fits = few-new _ _ _ _ _ h.1 c.requires p.less _ (rw (p.before, p.now) at c.credit_set-k.ensures) }
 
-pub loop-w-preserved : goal.loop-w-preserved
-loop-w-preserved c = one-credit c.loop-w.invariant c.requires c.loop-w-test.true c.credit_set-k.ensures
+pub loop-last-preserved : goal.loop-last-preserved
+loop-last-preserved c =
+    let h = c.loop-last.invariant in
+    let p = next-parts c.next.new.self c.requires h.0 c.next.ensures.steps c.in-Some.is in
+    rw (length_push c.loop-last.yielded (c.in-Some.last, c.in-Some.now)) (p.rest, one-credit _ _ _ _ _ h.1 c.requires p.less _ (rw (p.before, p.now) at c.credit_set-k.ensures))
 
 pub shape_of-credited : goal.shape_of-credited
-shape_of-credited c = credited-long c.loop-w.invariant
+shape_of-credited c = credited-long _ _ _ _ _ c.loop-last.invariant.1
 
 pub returns : goal.returns
-returns c = four-credits c.loop-w.invariant (omega (arith, c.loop-w-test.false))
+returns c =
+    let h = c.loop-last.invariant in
+    four-credits _ _ _ _ _ h.1 (no-parts c.next.new.self c.requires h.0 c.next.ensures.steps c.in-None.is)

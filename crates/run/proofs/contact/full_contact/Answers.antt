@@ -5,19 +5,18 @@ use lib.ListN.{length}
 use Rattle.run.specs.Grader.Widths.{full_words}
 use native.Mathlib.Omega.{arith}
 use lib.Dec.{lit<}
-use Rattle.run.proofs.CellLaws.{all-cells}
 use Rattle.run.proofs.ContactLaws.{touched-creditable, contact-made}
 use borrow.Author.Rules.{rules}
 use Rattle.run.proofs.contact.full_contact.Goals as goal
 
 pub touch_sets-requires : goal.touch_sets-requires
-touch_sets-requires c = record { room = search rules; looked = all-cells _ _ _ _ _ c.args.stance.now.own_cells c.requires.3 }
+touch_sets-requires c = record { room = search rules; looked = c.requires.3 }
 
 pub credit_sets-requires : goal.credit_sets-requires
 credit_sets-requires c =
     let e : length c.args.credited.now ≡ full_words = search rules in
     let w : length c.args.wheels.now ≡ 4 * full_words = search rules in
-    touched-creditable full_words _ c.args.n _ _ _ _ _ _ _ c.touch_sets.ensures e w (lit< tt) c.requires.0 (omega (arith, c.requires.1)) (all-cells _ _ _ _ _ c.args.stance.now.own_cells c.requires.3)
+    touched-creditable full_words _ c.args.n _ _ _ _ _ _ c.touch_sets.ensures e w (lit< tt) c.requires.0 (omega (arith, c.requires.1)) c.requires.3
 
 pub returns : goal.returns
 returns c =

@@ -13,7 +13,7 @@ pub touch_quad-requires : goal.touch_quad-requires
 touch_quad-requires c =
     let l = c.loop-wheel in
     let b = c.loop-wheel-test.true in
-    record { room = own_room c.requires.room.sets l.invariant b c.requires.room.words c.requires.room.tiles; looked = own-cells _ l.wheel c.requires.looked b (wheel-is _ _ c.wheel_quad.ensures) }
+    record { room = own_room c.requires.room.sets l.invariant b c.requires.room.words c.requires.room.tiles; looked = own-cells _ l.wheel c.args.stance.now.own_cells c.requires.looked b (wheel-is _ _ c.wheel_quad.ensures) }
 
 pub loop-wheel-preserved : goal.loop-wheel-preserved
 loop-wheel-preserved c =

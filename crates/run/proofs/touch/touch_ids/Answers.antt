@@ -19,8 +19,8 @@ loop-id-init c =
 
 pub touch_one-requires : goal.touch_one-requires
 touch_one-requires c =
-    let b : get_or c.args.ids.now c.loop-id.id-index 0 < c.args.n = ltb-true _ _ (every-at (λ t. ltb t c.args.n) c.args.ids.now c.loop-id.id-index c.requires.ids_value.0 c.loop-id-test.true) in
-    record { room = room_for _ _ _ c.requires.room (omega (arith, b)) c.loop-id.invariant.0 c.loop-id.invariant.1; side_value = c.requires.ids_value.1 }
+    let b : get_or c.args.ids.now c.loop-id.id-index 0 < c.args.n = ltb-true _ _ (every-at (λ t. ltb t c.args.n) c.args.ids.now c.loop-id.id-index c.requires.ids_below c.loop-id-test.true) in
+    room_for _ _ _ c.requires.room (omega (arith, b)) c.loop-id.invariant.0 c.loop-id.invariant.1
 
 pub loop-id-preserved : goal.loop-id-preserved
 loop-id-preserved c =

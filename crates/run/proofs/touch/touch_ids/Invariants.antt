@@ -7,4 +7,4 @@ use Rattle.run.proofs.touch.touch_ids.Given as goal
 
 abbrev pub invariant-loop-id : goal.invariant-loop-id
 invariant-loop-id l = (length l.tested ≡ length l.initial.tested) × (length l.touched ≡ length l.initial.touched)
-    × Tests (overlaps_tile l.q l.columns.tiles.now) (lists (take l.id-index l.ids)) l.initial.tested l.initial.touched l.tested l.touched
+    × Tests (overlaps_tile l.wheel.quad l.columns.tiles.now) (lists (take l.id-index l.ids)) l.initial.tested l.initial.touched l.tested l.touched

@@ -11,20 +11,20 @@ use Rattle.run.proofs.TouchLaws.{tested-before, tested-hit, tested-miss}
 use Rattle.run.proofs.touch.touch_one.Goals as goal
 
 pub returns-then-has : goal.returns-then-has
-returns-then-has c = λ L h. tested-before _ _ L _ _ _ (omega (arith, c.requires.room.words)) h (sym c.has.ensures ∙ c.if-has.true)
+returns-then-has c = λ L h. tested-before _ _ L _ _ _ (omega (arith, c.requires.words)) h (sym c.has.ensures ∙ c.if-has.true)
 
-pub returns-then-overlap_from : goal.returns-then-overlap_from
-returns-then-overlap_from c =
+pub returns-then-overlaps : goal.returns-then-overlaps
+returns-then-overlaps c =
     λ L h.
-    let e : length c.args.touched.now ≡ length c.args.tested.now = omega (arith, c.requires.room.sets) in
-    tested-hit _ _ L _ _ _ (omega (arith, c.requires.room.words)) h _ _
-    (sym (c.overlap_from.ensures ∙ ap (overlap_of _) c.tile.ensures) ∙ c.if-overlap_from.true)
+    let e : length c.args.touched.now ≡ length c.args.tested.now = omega (arith, c.requires.sets) in
+    tested-hit _ _ L _ _ _ (omega (arith, c.requires.words)) h _ _
+    (sym (c.overlaps.ensures ∙ ap (overlap_of _) c.tile.ensures) ∙ c.if-overlaps.true)
     c.put.ensures
-    (c.put-then-overlap_from.ensures ∙ ap (λ (m : ℕ). set_of m (λ t. member c.args.touched.now t || eqb t c.args.id)) e)
+    (c.put-then-overlaps.ensures ∙ ap (λ (m : ℕ). set_of m (λ t. member c.args.touched.now t || eqb t c.args.id)) e)
 
-pub returns-else-overlap_from : goal.returns-else-overlap_from
-returns-else-overlap_from c =
+pub returns-else-overlaps : goal.returns-else-overlaps
+returns-else-overlaps c =
     λ L h.
-    tested-miss _ _ L _ _ _ (omega (arith, c.requires.room.words)) h _
-    (sym (c.overlap_from.ensures ∙ ap (overlap_of _) c.tile.ensures) ∙ c.if-overlap_from.false)
+    tested-miss _ _ L _ _ _ (omega (arith, c.requires.words)) h _
+    (sym (c.overlaps.ensures ∙ ap (overlap_of _) c.tile.ensures) ∙ c.if-overlaps.false)
     c.put.ensures

@@ -1,56 +1,85 @@
 -- `run::words::credit` meets its contract. Assumes nothing.
 use Rattle.run.proofs.WordLaws.{how_many-none}
-use Rattle.run.proofs.CreditLaws.{within, New, one_more, none_more, credited-is, rest-credited, all-credited, all-counted, few, ones-few, new-lt}
+use Rattle.run.proofs.CreditLaws.{New, within, beyond_words, one_more, none_more, rest-credited, all-credited, all-counted, few, ones-few, new-lt}
+use Rattle.run.proofs.PairLaws.{no_pair_yet, one_pair, no_pair}
+use Rattle.std.specs.Int.{div_ceil}
+use Rattle.std.specs.Iterator.Adapters.{enumerate_count}
 use lib.ListN.{length, get_or}
 use Prim.Native.Nat.{ℕ, ◌*◌, ◌^◌, ◌≤◌, ◌<◌}
-use mathlib.Core.Path.{refl, sym}
+use mathlib.Core.Path.{◌≡◌, refl, sym}
 use native.Mathlib.Omega.{arith}
 use borrow.Author.Rules.{rules}
 use Rattle.run.proofs.words.credit.Goals as goal
-use Rattle.run.proofs.words.credit.Goals.{then-entered-ne0, else-entered-ne0}
 
 pub loop-i-init : goal.loop-i-init
-loop-i-init c = record { bound = omega arith; long = refl; small = λ j h. absurd (omega arith); done = λ j h. absurd (omega arith); kept = λ j h. refl; count = sym (how_many-none _) }
+loop-i-init c =
+    let none : enumerate_count c.into_iter-i-iterator.result ≡ 0 = search rules in (
+      no_pair_yet _ _ _ (search rules) (search rules) none,
+      rw none (record { bound = omega arith; long = refl; small = λ j h. absurd (omega arith); done = λ j h. absurd (omega arith); kept = λ j h. refl; count = sym (how_many-none _) }),
+    )
 
 pub overflow_add-fresh : goal.overflow_add-fresh
 overflow_add-fresh c =
-    let fits : (j : ℕ) → get_or c.args.credited.now j 0 < 2 ^ 64 = λ j. search rules in
-    let n = c.loop-i.invariant in
     let a = c.args in
-    let fc : get_or c.loop-i.credited c.loop-i.i 0 < 2 ^ 64 = omega (arith, n.kept c.loop-i.i (omega arith), fits c.loop-i.i) in
-    record {
+    let p = one_pair (div_ceil a.n 64) a.wheel.now a.before.now c.next.new.self c.loop-i.invariant.0 c.next.ensures.steps c.in-Some.is in
+    let n = c.loop-i.invariant.1 in
+    let i = enumerate_count c.loop-i.i-iterator in
+    let fits : (j : ℕ) → get_or a.credited.now j 0 < 2 ^ 64 = λ j. search rules in
+    let fc : get_or c.loop-i.credited i 0 < 2 ^ 64 = omega (arith, n.kept i (omega arith), fits i) in
+    rw (p.number, p.here 0, p.beside 0) (record {
       fits = omega (
         arith,
         n.count,
-        few (64 * c.loop-i.i) (New a.credited.now a.last.now a.cur.now),
-        ones-few _ (new-lt _ _ _ fc (c.type_inv.last c.loop-i.i).fits (c.type_inv.cur c.loop-i.i).fits),
+        few (64 * i) (New a.credited.now a.before.now a.wheel.now),
+        ones-few _ (new-lt _ _ _ fc (c.type_inv.before i).fits (c.type_inv.wheel i).fits),
         c.requires.small,
-        within _ _ _ c.requires.few c.loop-i-test.true,
+        p.within,
+        within _ _ c.requires.few,
       );
-    }
+    })
+
+pub loop-i-preserved-then-entered-ne0 : goal.loop-i-preserved-then-entered-ne0
+loop-i-preserved-then-entered-ne0 c =
+    let a = c.args in
+    let p = one_pair (div_ceil a.n 64) a.wheel.now a.before.now c.next.new.self c.loop-i.invariant.0 c.next.ensures.steps c.in-Some.is in
+    let n = c.loop-i.invariant.1 in
+    let i = enumerate_count c.loop-i.i-iterator in
+    let fits : (j : ℕ) → get_or a.credited.now j 0 < 2 ^ 64 = λ j. search rules in
+    let fc : get_or c.loop-i.credited i 0 < 2 ^ 64 = omega (arith, n.kept i (omega arith), fits i) in
+    let b : i < length c.loop-i.credited = omega (
+      arith,
+      p.within,
+      within _ _ c.requires.few,
+      n.long,
+    ) in
+    (p.rest, rw (p.number, p.here 0, p.beside 0, p.next) (one_more _ _ _ _ _ _ n b fc (c.type_inv.before i).fits (c.type_inv.wheel i).fits))
 
 pub loop-i-preserved : goal.loop-i-preserved
 loop-i-preserved c =
-    let fits : (j : ℕ) → get_or c.args.credited.now j 0 < 2 ^ 64 = λ j. search rules in
-    let i = c.loop-i.i in
-    let fl = (c.type_inv.last i).fits in
-    let fe = (c.type_inv.cur i).fits in
-    let n = c.loop-i.invariant in
+    let a = c.args in
+    let p = one_pair (div_ceil a.n 64) a.wheel.now a.before.now c.next.new.self c.loop-i.invariant.0 c.next.ensures.steps c.in-Some.is in
+    let n = c.loop-i.invariant.1 in
+    let i = enumerate_count c.loop-i.i-iterator in
+    let fits : (j : ℕ) → get_or a.credited.now j 0 < 2 ^ 64 = λ j. search rules in
     let fc : get_or c.loop-i.credited i 0 < 2 ^ 64 = omega (arith, n.kept i (omega arith), fits i) in
-    let t = c.loop-i-test.true in
-    let b : i < length c.loop-i.credited = omega (arith, within _ _ _ c.requires.few t, n.long) in
-    elim c.if-entered-ne0.branch [
-      | then-entered-ne0 w ↦ credited-is _ _ _ w.credited-is w.fresh-is (one_more _ _ _ _ _ _ n b fc fl fe)
-      | else-entered-ne0 w ↦ credited-is _ _ _ w.credited-is w.fresh-is (none_more _ _ _ _ _ _ n b fc fl fe w.if-entered-ne0.false)
-    ]
+    let b : i < length c.loop-i.credited = omega (
+      arith,
+      p.within,
+      within _ _ c.requires.few,
+      n.long,
+    ) in
+    (p.rest, rw p.next (none_more _ _ _ _ _ _ n b fc (c.type_inv.before i).fits (c.type_inv.wheel i).fits (rw (p.here 0, p.beside 0) at c.if-entered-ne0.false)))
 
 pub shape_of-credited : goal.shape_of-credited
-shape_of-credited c = c.loop-i.invariant.long
+shape_of-credited c = c.loop-i.invariant.1.long
 
 pub returns : goal.returns
 returns c =
-    let fits : (j : ℕ) → get_or c.args.credited.now j 0 < 2 ^ 64 = λ j. search rules in
-    let n = c.loop-i.invariant in
-    let past : (t : ℕ) → 64 * c.loop-i.i ≤ t → c.args.n ≤ t = λ t b. omega (arith, c.loop-i-test.false) in
-    let r = rest-credited _ _ _ _ _ _ fits c.requires.long (λ t b u. c.requires.past t (past t b) (omega (arith, u, c.requires.long))) n in
+    let a = c.args in
+    let fits : (j : ℕ) → get_or a.credited.now j 0 < 2 ^ 64 = λ j. search rules in
+    let n = c.loop-i.invariant.1 in
+    let i = enumerate_count c.loop-i.i-iterator in
+    let w = within _ _ c.requires.few in
+    let whole = no_pair (div_ceil a.n 64) a.wheel.now a.before.now c.next.new.self c.loop-i.invariant.0 c.next.ensures.steps c.in-None.is (omega (arith, w, c.requires.long)) (omega (arith, w, c.requires.last)) in
+    let r = rest-credited _ _ _ _ _ _ fits c.requires.long (λ t b u. c.requires.past t (beyond_words a.n i t whole b) (omega (arith, u, c.requires.long))) n in
     record { credited_after = all-credited _ _ _ _ _ _ refl r; value = all-counted _ _ _ _ _ _ refl r }

@@ -1,10 +1,13 @@
 -- `run::touch::Columns::cells_sound` meets its contract. Assumes nothing.
 use Rattle.run.specs.Rules.Below.{every_of}
 use Rattle.run.specs.Grader.Touch.{sound_cell}
+use Rattle.std.specs.Prelude.{IfSome}
 use lib.ListN.{take}
 use mathlib.Core.Bool.{true}
 use mathlib.Core.Path.{◌≡◌}
 use Rattle.run.proofs.touch.Columns.cells_sound.Given as goal
 
-abbrev pub invariant-loop-i : goal.invariant-loop-i
-invariant-loop-i l = every_of (sound_cell l.self.offsets.now l.self.list.now l.n) (take l.i l.cells) ≡ true
+abbrev pub invariant-loop-cell : goal.invariant-loop-cell
+invariant-loop-cell l =
+    let sound = sound_cell l.self.offsets.now l.self.list.now l.n in
+    (every_of sound (take l.cell-index l.cell-items) ≡ true) × IfSome l.before (λ c. sound c ≡ true)
