@@ -10,7 +10,7 @@ ghost use Rattle.run.specs.Steps.Drive.{wheel_as, any_stands};
 
 use crate::dynamics::{Force, Motion, Turned};
 use crate::state::{Car, Progress, Run, Setup, WheelCtl};
-use crate::widths::{FULL_WORDS, MOST_TILES, WHEEL_WORDS};
+use crate::widths::{FULL_WORDS, WHEEL_WORDS};
 use crate::{dynamics, state};
 use course::cause::Cause;
 use course::numeric;
@@ -149,15 +149,14 @@ fn motions_ok(m: [Motion; 4]) -> bool
 // Refused by the first cause that holds.
 #[tactic(auto, unfolding(crate::specs::Grader::Drive::drive_check))]
 fn drive_check(
-    most: u32,
     setup: Setup,
     progress: Progress,
     action: u32,
     motion: [Motion; 4],
 ) -> Result<(), Cause>
-    ensures { result ≡ drive_check most setup progress action motion }
+    ensures { result ≡ drive_check most_tiles setup progress action motion }
 {
-    if state::is_unfit(most, setup, progress) | progress.ended {
+    if state::is_unfit(setup, progress) | progress.ended {
         return Err(Cause::State);
     }
     if progress.driven {
@@ -187,7 +186,7 @@ pub fn drive_parts(
     ensures { drove_parts result progress.new car.new
         ≡ drive_parts_of full_words most_tiles setup progress.old car.old wheels.now action motion }
 {
-    drive_check(MOST_TILES, setup, *progress, action, motion)?;
+    drive_check(setup, *progress, action, motion)?;
     let roads = roads_of(wheels, FULL_WORDS);
     let p = pass(*car, action, motion, roads);
     *car = p.car;

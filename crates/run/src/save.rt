@@ -11,7 +11,7 @@ ghost use Rattle.run.specs.Steps.Save.{first_fields, last_fields, first_bytes, l
 use crate::numbers::CAR_NUMBERS;
 use crate::saved::ALL_BYTES;
 use crate::state::{Progress, Run, Setup};
-use crate::widths::{FULL_WORDS, MOST_TILES};
+use crate::widths::FULL_WORDS;
 use crate::{numbers, saved, state};
 use course::cause::Cause;
 use form::table::Fields;
@@ -28,12 +28,12 @@ const SET_FROM: usize = 20;
 
 const SET_END: usize = SET_FROM + 8 * FULL_WORDS;
 
-// Refused by the first of the causes 4, 5 and 2 that holds; n is at most `most`.
+// Refused by the first of the causes 4, 5 and 2 that holds.
 #[tactic(auto, unfolding(crate::specs::Grader::Save::save_check))]
-fn save_check(most: u32, setup: Setup, progress: Progress, room: usize) -> Result<(), Cause>
-    ensures { result ≡ save_check most setup progress room }
+fn save_check(setup: Setup, progress: Progress, room: usize) -> Result<(), Cause>
+    ensures { result ≡ save_check most_tiles setup progress room }
 {
-    if state::is_unfit(most, setup, progress) {
+    if state::is_unfit(setup, progress) {
         return Err(Cause::State);
     }
     if progress.driven {
@@ -128,7 +128,7 @@ pub fn save(run: Run, out: &mut [u8]) -> Result<u32, Cause>
 {
     let setup = run.setup;
     let progress = run.progress;
-    save_check(MOST_TILES, setup, progress, out.len())?;
+    save_check(setup, progress, out.len())?;
     let mut full = [0u8; ALL_BYTES];
     put_fields(run, &mut full);
     let rows = saved::rows();

@@ -8,7 +8,7 @@ use crate::numbers::POSE_NUMBERS;
 use crate::quad::Stance;
 use crate::state::{Pose, Progress, Run, Setup};
 use crate::touch::Columns;
-use crate::widths::{FULL_WORDS, MOST_TILES, WHEEL_WORDS};
+use crate::widths::{FULL_WORDS, WHEEL_WORDS};
 use crate::{contact, lap, numbers, state};
 use course::cause::Cause;
 
@@ -22,10 +22,9 @@ pub struct SettleValues {
     pub ended: bool,
 }
 
-// Refused by the first of the causes 4, 5, 6, 2, 8 and 10 that holds; n is at most `most`.
+// Refused by the first of the causes 4, 5, 6, 2, 8 and 10 that holds.
 #[tactic(auto, unfolding(crate::specs::Grader::Settle::settle_check, crate::specs::Grader::State::short_of, crate::specs::Rules::Arguments::places_ok))]
 fn settle_check(
-    most: u32,
     setup: Setup,
     progress: Progress,
     columns: Columns<'_>,
@@ -34,10 +33,10 @@ fn settle_check(
     stance: &Stance,
 ) -> Result<(), Cause>
     ensures { result
-        ≡ settle_check most setup progress (lent_columns columns.entry) x
+        ≡ settle_check most_tiles setup progress (lent_columns columns.entry) x
         y stance.now.poses }
 {
-    if state::is_unfit(most, setup, progress) | progress.ended {
+    if state::is_unfit(setup, progress) | progress.ended {
         return Err(Cause::State);
     }
     if !progress.driven {
@@ -91,7 +90,7 @@ pub fn settle_parts(
         last.old (lent_columns columns.entry) x y poses }
 {
     let stance = Stance::at(poses);
-    settle_check(MOST_TILES, setup, *progress, columns, x, y, &stance)?;
+    settle_check(setup, *progress, columns, x, y, &stance)?;
     let c = contact::full_contact(&stance, columns, setup.n as usize, credited, wheels);
     let off = lap::is_off(x, y);
     let next = settled_progress(setup, *progress, c.fresh, c.zero, off);

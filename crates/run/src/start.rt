@@ -38,22 +38,19 @@ pub(crate) fn settings_ok(share: f64, limit: u32) -> bool
     ((0.0 <= share) & (share <= 1.0)) & ((1 <= limit) & (limit <= 1000000))
 }
 
-// Refused by the first of the causes 1, 2, 8 and 10 that holds; n is at most `most`.
+// Refused by the first of the causes 1, 2, 8 and 10 that holds.
 #[tactic(auto, unfolding(crate::specs::Grader::Start::start_check, crate::specs::Grader::Start::start_short, crate::specs::Grader::State::short_of))]
-fn start_check(
-    most: u32,
-    columns: Columns<'_>,
-    settings: Settings,
-    stance: &Stance,
-) -> Result<(), Cause>
+fn start_check(columns: Columns<'_>, settings: Settings, stance: &Stance) -> Result<(), Cause>
     requires { stance.now.poses ≡ settings.poses }
-    ensures { result ≡ start_check most (lent_columns columns.entry) settings }
+    ensures { result ≡ start_check most_tiles (lent_columns columns.entry) settings }
 {
     let n = settings.n;
     if !settings_ok(settings.share, settings.limit) {
         return Err(Cause::Settings);
     }
-    if state::is_short(n, columns.tiles.len(), columns.offsets.len()) | ((n < 1) | (most < n)) {
+    if state::is_short(n, columns.tiles.len(), columns.offsets.len())
+        | ((n < 1) | (MOST_TILES < n))
+    {
         return Err(Cause::Length);
     }
     if !state::poses_ok(settings.poses) {
@@ -83,7 +80,7 @@ pub fn start(columns: Columns<'_>, settings: Settings) -> Answered<StartValues>
         ≡ start_of full_words most_tiles (lent_columns columns.entry) settings }
 {
     let stance = Stance::at(settings.poses);
-    let check = start_check(MOST_TILES, columns, settings, &stance);
+    let check = start_check(columns, settings, &stance);
     if let Err(cause) = check {
         return Answered {
             answer: Err(cause),

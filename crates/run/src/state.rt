@@ -1,13 +1,13 @@
 // The state of a run, and the tests of arguments and states that the calls share (document 01,
 // "Refusals by cause").
 ghost use Rattle.std.specs.Prelude.{◌≡◌};
-ghost use Rattle.run.specs.Grader.Widths.{full_words};
+ghost use Rattle.run.specs.Grader.Widths.{full_words, most_tiles};
 ghost use Rattle.run.specs.Grader.State.{unfit, view};
 ghost use Rattle.run.specs.Grader.Start.{zero_state};
 ghost use Rattle.run.specs.Rules.Arguments.{in_range, pose_ok, poses_ok, short_columns};
 
 use crate::numbers::POSE_NUMBERS;
-use crate::widths::{FULL_WORDS, WHEEL_WORDS};
+use crate::widths::{FULL_WORDS, MOST_TILES, WHEEL_WORDS};
 use course::cause::Cause;
 use course::constants::OFFSET_COUNT;
 use course::{constants, numeric};
@@ -137,10 +137,10 @@ pub fn is_short(n: u32, tiles: usize, offsets: usize) -> bool
     short | (offsets < OFFSET_COUNT)
 }
 
-// Cause 4 but for its ended part, where sets hold `most` tiles: the sheet's whole cause.
+// Cause 4 but for its ended part: the sheet's whole cause.
 #[tactic(auto, unfolding(crate::specs::Grader::State::unfit))]
-pub fn is_unfit(most: u32, setup: Setup, progress: Progress) -> bool
-    ensures { result ≡ unfit most setup progress }
+pub fn is_unfit(setup: Setup, progress: Progress) -> bool
+    ensures { result ≡ unfit most_tiles setup progress }
 {
-    (setup.n < 1) | (most < setup.n) | (setup.n < progress.visited_count)
+    (setup.n < 1) | (MOST_TILES < setup.n) | (setup.n < progress.visited_count)
 }
