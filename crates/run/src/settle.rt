@@ -12,6 +12,14 @@ use crate::widths::{FULL_WORDS, WHEEL_WORDS};
 use crate::{contact, lap, numbers, state};
 use course::cause::Cause;
 
+// Where the car stands after physics: the hull's place, and the wheels' poses.
+#[derive(Clone, Copy)]
+pub struct Places {
+    pub x: f64,
+    pub y: f64,
+    pub poses: [Pose; 4],
+}
+
 // New tiles, the course's tile count, whether the hull is off the playfield, a lap is complete, and the run has ended.
 #[derive(Clone, Copy)]
 pub struct SettleValues {
@@ -28,13 +36,13 @@ fn settle_check(
     setup: Setup,
     progress: Progress,
     columns: Columns<'_>,
-    x: f64,
-    y: f64,
+    places: Places,
     stance: &Stance,
 ) -> Result<(), Cause>
+    requires { stance.now.poses ≡ places.poses }
     ensures { result
-        ≡ settle_check most_tiles setup progress (lent_columns columns.entry) x
-        y stance.now.poses }
+        ≡ settle_check most_tiles setup progress (lent_columns columns.entry)
+        places.x places.y places.poses }
 {
     if state::is_unfit(setup, progress) | progress.ended {
         return Err(Cause::State);
@@ -48,7 +56,7 @@ fn settle_check(
     if state::is_short(setup.n, columns.tiles.len(), columns.offsets.len()) {
         return Err(Cause::Length);
     }
-    if !((state::in_range(x) & state::in_range(y)) & state::poses_ok(stance.poses)) {
+    if !((state::in_range(places.x) & state::in_range(places.y)) & state::poses_ok(places.poses)) {
         return Err(Cause::Range);
     }
     if !columns.cells_sound(setup.n as usize, &stance.cells) {
@@ -81,21 +89,19 @@ pub fn settle_parts(
     wheels: &mut [u64; WHEEL_WORDS],
     last: &mut [f64; POSE_NUMBERS],
     columns: Columns<'_>,
-    x: f64,
-    y: f64,
-    poses: [Pose; 4],
+    places: Places,
 ) -> Result<SettleValues, Cause>
     ensures { settled_poses (settled_parts result progress.new credited.new wheels.new) last.new
         ≡ settle_poses_of full_words most_tiles setup progress.old credited.old wheels.old
-        last.old (lent_columns columns.entry) x y poses }
+        last.old (lent_columns columns.entry) places.x places.y places.poses }
 {
-    let stance = Stance::at(poses);
-    settle_check(setup, *progress, columns, x, y, &stance)?;
+    let stance = Stance::at(places.poses);
+    settle_check(setup, *progress, columns, places, &stance)?;
     let c = contact::full_contact(&stance, columns, setup.n as usize, credited, wheels);
-    let off = lap::is_off(x, y);
+    let off = lap::is_off(places.x, places.y);
     let next = settled_progress(setup, *progress, c.fresh, c.zero, off);
     *progress = next;
-    numbers::put_poses(poses, last);
+    numbers::put_poses(places.poses, last);
     Ok(SettleValues {
         new_tiles: c.fresh,
         n: setup.n,
@@ -106,16 +112,10 @@ pub fn settle_parts(
 }
 
 // The contact after physics; a refusal leaves the state.
-pub fn settle(
-    run: &mut Run,
-    columns: Columns<'_>,
-    x: f64,
-    y: f64,
-    poses: [Pose; 4],
-) -> Result<SettleValues, Cause>
+pub fn settle(run: &mut Run, columns: Columns<'_>, places: Places) -> Result<SettleValues, Cause>
     ensures { after_settle result (view run.new)
         ≡ settle_of full_words most_tiles (view run.old)
-        (lent_columns columns.entry) x y poses }
+        (lent_columns columns.entry) places.x places.y places.poses }
 {
     settle_parts(
         run.setup,
@@ -124,8 +124,6 @@ pub fn settle(
         &mut run.wheels,
         &mut run.poses,
         columns,
-        x,
-        y,
-        poses,
+        places,
     )
 }

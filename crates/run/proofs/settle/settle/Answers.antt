@@ -8,5 +8,5 @@ pub returns : goal.returns
 unfolding view
 returns c =
     let a = c.args in
-    settled-from full_words most_tiles (view a.run.now) (lent_columns a.columns) a.x a.y a.poses c.settle_parts.result _ _ _ _
+    settled-from full_words most_tiles (view a.run.now) (lent_columns a.columns) a.places.x a.places.y a.places.poses c.settle_parts.result _ _ _ _
     c.settle_parts.ensures
