@@ -11,6 +11,7 @@ pub mod Literals
 pub mod SmallForces
 pub mod MotorLaw
 pub mod AnyLaws
+pub mod ActionLaws
 pub mod DriveLaws
 pub mod RoadLaws
 pub mod PointQuads

@@ -1,9 +1,6 @@
 -- The bits of constants: what the compiled code has in the place of the Rust's expressions. Assumes nothing.
 use mathlib.Core.Path.{◌≡◌, refl}
-use mathlib.Core.Bool.{Bool, true, false}
-use lib.IntN.{pos}
-use Rattle.std.specs.Int.{from_bool}
-use Rattle.run.specs.Rules.Pass.{indicator, no_force}
+use Rattle.run.specs.Rules.Pass.{no_force}
 use Rattle.run.specs.declared.dynamics.Force.{Force}
 use lib.Ieee.{binary64, of_bits, of_int, round, mul, div}
 use Rattle.course.specs.Rules.Arithmetic.{natural, decimal}
@@ -75,19 +72,9 @@ pub six-tenths : decimal 6 10 ≡ of_bits binary64 0x3fe3333333333333
 unfolding decimal round of_bits
 six-tenths = refl
 
-pub eight-tenths : decimal 8 10 ≡ of_bits binary64 0x3fe999999999999a
-unfolding decimal round of_bits
-eight-tenths = refl
-
 pub nine-tenths : decimal 9 10 ≡ of_bits binary64 0x3feccccccccccccd
 unfolding decimal round of_bits
 nine-tenths = refl
-
--- a test as a number
-pub indicator-from : (b : Bool) → of_int binary64 (pos (from_bool b)) ≡ indicator b
-unfolding indicator natural
-indicator-from true = refl
-indicator-from false = refl
 
 -- a force of zeros, as the default is
 pub zero-force : (f : Force) → (f.motor ≡ of_bits binary64 0) × ((f.fx ≡ of_bits binary64 0) × (f.fy ≡ of_bits binary64 0)) → f ≡ no_force
