@@ -164,13 +164,15 @@ pub(crate) fn read_four<T: Numbers>(numbers: &[f64], i: usize) -> [T; 4]
 }
 
 // The numbers of four wheels' records are written, one wheel after the other.
+// Kept with the place of a wheel's numbers: tried with `chunks_exact_mut` beside the records, of whose parts no proof knows what they hold
+// after the loop.
 pub(crate) fn write_four<T: Numbers>(records: [T; 4], numbers: &mut [f64])
     requires { length numbers.old ≡ 4 * T.COUNT }
     ensures { numbers.new ≡ flat_map T.list records }
 {
-    for w in 0..4 {
+    for (w, record) in records.iter().enumerate() {
         let from = w * T::COUNT;
-        records[w].write(&mut numbers[from..from + T::COUNT]);
+        record.write(&mut numbers[from..from + T::COUNT]);
     }
 }
 
