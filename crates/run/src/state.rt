@@ -76,6 +76,7 @@ pub struct Run {
     pub credited: [u64; FULL_WORDS],
     pub wheels: [u64; WHEEL_WORDS],
     // The wheels' poses at the last contact, each x, y, cos, sin.
+    // Kept as numbers: the C interface lends a settle these sixteen, and so records would be made of them and written back at every settle.
     pub poses: [f64; POSE_NUMBERS],
     // The course's seed, as start was told it.
     pub seed: u64,
