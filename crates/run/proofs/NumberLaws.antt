@@ -4,7 +4,7 @@ use mathlib.Core.Path.{◌≡◌, refl, sym, ap, ap₂, ◌∙◌}
 use Prim.Native.Nat.{ℕ, zero, suc, ◌+◌, ◌*◌, ◌≤◌, ◌<◌}
 use native.Mathlib.Omega.{arith}
 use lib.ListN.{length, get_or, set, take, drop, length-append, length-drop, drop_of_length-le}
-use lib.Seq.{sets, sets-eq, drop-cons, split_at, take_at, drop_at, drop-drop, take-suc, length-take-le}
+use lib.Seq.{drop-cons, split_at, take_at, drop_at, drop-drop, take-suc, length-take-le}
 use native.Mathlib.Nat.{suc-mul}
 use native.Mathlib.Numerals.{add-one}
 use Rattle.std.proofs.lemmas.List.Concat.{flat_map-append}
@@ -20,12 +20,6 @@ use Rattle.run.specs.declared.dynamics.Force.{Force}
 use Rattle.run.specs.Rules.Arguments.{pose_at}
 use Rattle.run.specs.Rules.Pass.{ctl_at}
 use Rattle.run.specs.Grader.Numbers.{control_count, wheel_from, wheel_list, car_from, car_numbers, pose_from, pose_list, poses_at, pose_numbers, force_list, force_at, force_numbers, four_from}
-
--- ---- writing
-
--- as many values as a column has, written from its front on, are the column
-pub written_over : {A : Type 0} (vs l : List A) → length l ≡ length vs → sets l 0 vs ≡ vs
-written_over {A} vs l e = sets-eq vs l 0 (omega arith) ∙ ap (λ (r : List A). vs ++ r) (drop_of_length-le l {i = 0 + length vs} (omega arith)) ∙ append-nil vs
 
 -- ---- four records of k numbers each, one after the other
 module _ {T : Type 0} (f : T → List Float) (k : ℕ) (rs : List T) where

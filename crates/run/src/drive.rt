@@ -254,6 +254,7 @@ pub fn drive_parts(
 }
 
 // Forces for the host; a refusal leaves the state.
+#[tactic(auto, unfolding(crate::specs::Grader::State::view, crate::specs::Grader::Drive::drive_of))]
 pub fn drive(run: &mut Run, action: u32, motion: [Motion; 4]) -> Result<[Force; 4], Cause>
     ensures { driven result (view run.new)
         ≡ drive_of full_words most_tiles (view run.old) action motion }

@@ -62,11 +62,7 @@ impl Numbers for WheelCtl {
     }
 
     fn write(self, numbers: &mut [f64]) {
-        numbers[0] = self.gas;
-        numbers[1] = self.brake;
-        numbers[2] = self.steer;
-        numbers[3] = self.omega;
-        numbers[4] = self.phase;
+        numbers.copy_from_slice(&[self.gas, self.brake, self.steer, self.omega, self.phase]);
     }
 }
 
@@ -90,10 +86,7 @@ impl Numbers for Pose {
     }
 
     fn write(self, numbers: &mut [f64]) {
-        numbers[0] = self.x;
-        numbers[1] = self.y;
-        numbers[2] = self.cos;
-        numbers[3] = self.sin;
+        numbers.copy_from_slice(&[self.x, self.y, self.cos, self.sin]);
     }
 }
 
@@ -118,11 +111,7 @@ impl Numbers for Motion {
     }
 
     fn write(self, numbers: &mut [f64]) {
-        numbers[0] = self.joint_angle;
-        numbers[1] = self.sin;
-        numbers[2] = self.cos;
-        numbers[3] = self.vx;
-        numbers[4] = self.vy;
+        numbers.copy_from_slice(&[self.joint_angle, self.sin, self.cos, self.vx, self.vy]);
     }
 }
 
@@ -145,9 +134,7 @@ impl Numbers for Force {
     }
 
     fn write(self, numbers: &mut [f64]) {
-        numbers[0] = self.motor;
-        numbers[1] = self.fx;
-        numbers[2] = self.fy;
+        numbers.copy_from_slice(&[self.motor, self.fx, self.fy]);
     }
 }
 
@@ -196,6 +183,7 @@ pub fn put_car(car: Car, numbers: &mut [f64; CAR_NUMBERS])
 }
 
 // The four poses that their numbers hold.
+#[tactic(auto, unfolding(crate::specs::Grader::Numbers::poses_at))]
 pub fn poses_from(numbers: &[f64; POSE_NUMBERS]) -> [Pose; 4]
     ensures { result ≡ poses_at numbers.now 0 }
 {
@@ -210,6 +198,7 @@ pub fn put_poses(poses: [Pose; 4], numbers: &mut [f64; POSE_NUMBERS])
 }
 
 // The four wheels' motions that their numbers hold.
+#[tactic(auto, unfolding(crate::specs::Grader::Numbers::motions_from))]
 pub fn motions_from(numbers: &[f64; MOTION_NUMBERS]) -> [Motion; 4]
     ensures { result ≡ motions_from numbers.now }
 {
@@ -217,6 +206,7 @@ pub fn motions_from(numbers: &[f64; MOTION_NUMBERS]) -> [Motion; 4]
 }
 
 // The four wheels' poses of a settle, behind the hull's place.
+#[tactic(auto, unfolding(crate::specs::Grader::Numbers::poses_at))]
 pub fn settle_poses(numbers: &[f64; MOTION_NUMBERS]) -> [Pose; 4]
     ensures { result ≡ poses_from numbers.now }
 {

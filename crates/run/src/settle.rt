@@ -66,6 +66,7 @@ fn settle_check(
 }
 
 // The progress after a contact with `fresh` new tiles.
+#[tactic(auto, unfolding(crate::specs::Grader::Settle::settled_progress))]
 fn settled_progress(setup: Setup, progress: Progress, fresh: u32, zero: bool, off: bool) -> Progress
     requires { (progress.visited_count + fresh < 4294967296) × (progress.tick < setup.tick_limit) }
     ensures { result ≡ settled_progress setup progress fresh zero off }
@@ -112,6 +113,7 @@ pub fn settle_parts(
 }
 
 // The contact after physics; a refusal leaves the state.
+#[tactic(auto, unfolding(crate::specs::Grader::State::view, crate::specs::Grader::Settle::settle_of))]
 pub fn settle(run: &mut Run, columns: Columns<'_>, places: Places) -> Result<SettleValues, Cause>
     ensures { after_settle result (view run.new)
         ≡ settle_of full_words most_tiles (view run.old)

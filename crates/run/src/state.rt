@@ -130,6 +130,7 @@ pub fn poses_ok(p: [Pose; 4]) -> bool
 }
 
 // A column lent with a course of n points is short, by the lengths of tiles and offsets (cause 2).
+#[tactic(auto, unfolding(crate::specs::Rules::Arguments::short_columns))]
 pub fn is_short(n: u32, tiles: usize, offsets: usize) -> bool
     ensures { result ≡ short_columns n tiles offsets }
 {
