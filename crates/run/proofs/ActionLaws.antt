@@ -12,45 +12,45 @@ use Rattle.run.specs.Steps.Drive.{action_number, told}
 use Rattle.run.specs.declared.drive.Action.{Action}
 use Rattle.run.specs.declared.drive.Action.TheVariants.{Nothing, Right, Left, Gas, Brake}
 
-pub steer-right : neg (of_bits binary64 0x3fe3333333333333) ≡ steer_of 1
+pub steer_right : neg (of_bits binary64 0x3fe3333333333333) ≡ steer_of 1
 unfolding steer_of indicator natural decimal of_int of_bits round mul add neg
-steer-right = refl
+steer_right = refl
 
-pub steer-left : of_bits binary64 0x3fe3333333333333 ≡ steer_of 2
+pub steer_left : of_bits binary64 0x3fe3333333333333 ≡ steer_of 2
 unfolding steer_of indicator natural decimal of_int of_bits round mul add neg
-steer-left = refl
+steer_left = refl
 
-pub steer-none : (a : Action) → (a ≡ Right → ⊥) → (a ≡ Left → ⊥) → of_bits binary64 0 ≡ steer_of (action_number a)
+pub steer_none : (a : Action) → (a ≡ Right → ⊥) → (a ≡ Left → ⊥) → of_bits binary64 0 ≡ steer_of (action_number a)
 unfolding steer_of indicator natural decimal of_int of_bits round mul add neg
-steer-none Nothing r l = refl
-steer-none Right r l = absurd (r refl)
-steer-none Left r l = absurd (l refl)
-steer-none Gas r l = refl
-steer-none Brake r l = refl
+steer_none Nothing r l = refl
+steer_none Right r l = absurd (r refl)
+steer_none Left r l = absurd (l refl)
+steer_none Gas r l = refl
+steer_none Brake r l = refl
 
-pub gas-wished : of_bits binary64 0x3fc999999999999a ≡ gas_of 3
+pub gas_wished : of_bits binary64 0x3fc999999999999a ≡ gas_of 3
 unfolding gas_of clamp_of indicator natural decimal of_int of_bits round mul lt
-gas-wished = refl
+gas_wished = refl
 
-pub gas-none : (a : Action) → (a ≡ Gas → ⊥) → of_bits binary64 0 ≡ gas_of (action_number a)
+pub gas_none : (a : Action) → (a ≡ Gas → ⊥) → of_bits binary64 0 ≡ gas_of (action_number a)
 unfolding gas_of clamp_of indicator natural decimal of_int of_bits round mul lt
-gas-none Nothing g = refl
-gas-none Right g = refl
-gas-none Left g = refl
-gas-none Gas g = absurd (g refl)
-gas-none Brake g = refl
+gas_none Nothing g = refl
+gas_none Right g = refl
+gas_none Left g = refl
+gas_none Gas g = absurd (g refl)
+gas_none Brake g = refl
 
-pub brake-on : of_bits binary64 0x3fe999999999999a ≡ brake_of 4
+pub brake_on : of_bits binary64 0x3fe999999999999a ≡ brake_of 4
 unfolding brake_of indicator natural decimal of_int of_bits round mul
-brake-on = refl
+brake_on = refl
 
-pub brake-none : (a : Action) → (a ≡ Brake → ⊥) → of_bits binary64 0 ≡ brake_of (action_number a)
+pub brake_none : (a : Action) → (a ≡ Brake → ⊥) → of_bits binary64 0 ≡ brake_of (action_number a)
 unfolding brake_of indicator natural decimal of_int of_bits round mul
-brake-none Nothing b = refl
-brake-none Right b = refl
-brake-none Left b = refl
-brake-none Gas b = refl
-brake-none Brake b = absurd (b refl)
+brake_none Nothing b = refl
+brake_none Right b = refl
+brake_none Left b = refl
+brake_none Gas b = refl
+brake_none Brake b = absurd (b refl)
 
 -- ---- a check that tells the action's number
 

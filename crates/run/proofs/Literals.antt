@@ -60,6 +60,10 @@ pub fifty : natural 50 ≡ of_bits binary64 0x4049000000000000
 unfolding natural of_int of_bits
 fifty = refl
 
+pub million : natural 1000000 ≡ of_bits binary64 0x412e848000000000
+unfolding natural of_int of_bits
+million = refl
+
 pub tenth : decimal 1 10 ≡ of_bits binary64 0x3fb999999999999a
 unfolding decimal round of_bits
 tenth = refl

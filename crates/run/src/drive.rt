@@ -53,6 +53,7 @@ impl TryFrom<u32> for Action {
 
 impl Action {
     // Where the front wheels are steered; clockwise is below 0.
+    #[tactic(auto, using(crate::proofs::ActionLaws::steer_right, crate::proofs::ActionLaws::steer_left, crate::proofs::ActionLaws::steer_none))]
     fn steer(self) -> f64
         ensures { result ≡ steer_of (action_number self) }
     {
@@ -64,6 +65,7 @@ impl Action {
     }
 
     // The gas that is wished for.
+    #[tactic(auto, using(crate::proofs::ActionLaws::gas_wished, crate::proofs::ActionLaws::gas_none))]
     fn gas(self) -> f64
         ensures { result ≡ gas_of (action_number self) }
     {
@@ -73,6 +75,7 @@ impl Action {
         }
     }
 
+    #[tactic(auto, using(crate::proofs::ActionLaws::brake_on, crate::proofs::ActionLaws::brake_none))]
     fn brake(self) -> f64
         ensures { result ≡ brake_of (action_number self) }
     {
@@ -96,6 +99,7 @@ fn front(w: WheelCtl, action: Action) -> WheelCtl
 }
 
 // The controls of a rear wheel: gas rises by at most 0.1 and falls at once, the brake is set, steering stays.
+#[tactic(auto, unfolding(crate::specs::Rules::Pass::rear_of, crate::specs::Rules::Pass::raised_of), using(crate::proofs::Literals::tenth))]
 fn rear(w: WheelCtl, action: Action) -> WheelCtl
     ensures { result ≡ rear_of (action_number action) w }
 {
@@ -199,6 +203,7 @@ fn roads_of(wheels: &[u64], words: usize) -> [bool; 4]
 }
 
 // The four wheels' numbers are in range.
+#[tactic(auto, unfolding(crate::specs::Rules::Arguments::motions_ok), using(crate::proofs::FourItems::all_four))]
 fn motions_ok(m: [Motion; 4]) -> bool
     ensures { result ≡ motions_ok m }
 {

@@ -164,6 +164,7 @@ pub(crate) fn write_four<T: Numbers>(records: [T; 4], numbers: &mut [f64])
 }
 
 // The car that its numbers hold.
+#[tactic(auto, unfolding(crate::specs::Grader::Numbers::car_from), using(crate::proofs::NumberLaws::car_read))]
 pub fn car_from(numbers: &[f64; CAR_NUMBERS]) -> Car
     ensures value { result ≡ car_from numbers.now }
     ensures result_value { car_numbers result ≡ numbers.now }
@@ -175,6 +176,7 @@ pub fn car_from(numbers: &[f64; CAR_NUMBERS]) -> Car
 }
 
 // The car's numbers are written.
+#[tactic(auto, using(crate::proofs::NumberLaws::car_written))]
 pub fn put_car(car: Car, numbers: &mut [f64; CAR_NUMBERS])
     ensures { numbers.new ≡ car_numbers car }
 {
@@ -191,6 +193,7 @@ pub fn poses_from(numbers: &[f64; POSE_NUMBERS]) -> [Pose; 4]
 }
 
 // The poses' numbers are written.
+#[tactic(auto, using(crate::proofs::NumberLaws::poses_written))]
 pub fn put_poses(poses: [Pose; 4], numbers: &mut [f64; POSE_NUMBERS])
     ensures { numbers.new ≡ pose_numbers poses }
 {
@@ -214,6 +217,7 @@ pub fn settle_poses(numbers: &[f64; MOTION_NUMBERS]) -> [Pose; 4]
 }
 
 // The forces' numbers are written.
+#[tactic(auto, using(crate::proofs::NumberLaws::forces_written))]
 pub fn put_forces(forces: [Force; 4], numbers: &mut [f64; FORCE_NUMBERS])
     ensures { numbers.new ≡ force_numbers forces }
 {

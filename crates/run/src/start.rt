@@ -32,6 +32,7 @@ pub struct StartValues {
 }
 
 // Lap share and tick limit are in range (cause 1).
+#[tactic(auto, unfolding(crate::specs::Rules::Arguments::settings_ok), using(crate::proofs::Literals::zero_bits, crate::proofs::Literals::one))]
 pub(crate) fn settings_ok(share: f64, limit: u32) -> bool
     ensures { result ≡ settings_ok share limit }
 {

@@ -108,6 +108,7 @@ pub struct Answered<T> {
 }
 
 // Finite and within a million of 0 (cause 8).
+#[tactic(auto, unfolding(crate::specs::Rules::Arguments::in_range), using(crate::proofs::Literals::million))]
 pub fn in_range(x: f64) -> bool
     ensures { result ≡ in_range x }
 {
@@ -123,6 +124,7 @@ pub fn pose_ok(p: Pose) -> bool
 }
 
 // Four poses are in range.
+#[tactic(auto, unfolding(crate::specs::Rules::Arguments::poses_ok), using(crate::proofs::FourItems::all_four))]
 pub fn poses_ok(p: [Pose; 4]) -> bool
     ensures { result ≡ poses_ok p }
 {
