@@ -60,13 +60,13 @@ untold action (Ok none) = refl
 untold action (Err c) = refl
 
 -- it ends as the check
-pub told-refused : (action : ℕ) (r : Result Unit Cause) {c : Cause} → Err c ≡ told action r → Err c ≡ r
-told-refused action r e = ap (λ (x : Result ℕ Cause). result_map_both (λ n. tt) (λ c. c) x) e ∙ untold action r
+pub told_refused : (action : ℕ) (r : Result Unit Cause) {c : Cause} → Err c ≡ told action r → Err c ≡ r
+told_refused action r e = ap (λ (x : Result ℕ Cause). result_map_both (λ n. tt) (λ c. c) x) e ∙ untold action r
 
-pub told-passed : (action n : ℕ) (r : Result Unit Cause) → Ok n ≡ told action r → Ok tt ≡ r
-told-passed action n r e = ap (λ (x : Result ℕ Cause). result_map_both (λ n. tt) (λ c. c) x) e ∙ untold action r
+pub told_passed : (action n : ℕ) (r : Result Unit Cause) → Ok n ≡ told action r → Ok tt ≡ r
+told_passed action n r e = ap (λ (x : Result ℕ Cause). result_map_both (λ n. tt) (λ c. c) x) e ∙ untold action r
 
 -- and tells that number
-pub told-number : (action n : ℕ) (r : Result Unit Cause) → Ok n ≡ told action r → n ≡ action
-told-number action n (Ok none) e = ap (λ (x : Result ℕ Cause). result_unwrap_or x n) e
-told-number action n (Err c) e = absurd (cc)
+pub told_number : (action n : ℕ) (r : Result Unit Cause) → Ok n ≡ told action r → n ≡ action
+told_number action n (Ok none) e = ap (λ (x : Result ℕ Cause). result_unwrap_or x n) e
+told_number action n (Err c) e = absurd (cc)

@@ -48,17 +48,17 @@ pass-from car action ms roads w₀ w₁ w₂ w₃ a b c d e₀ e₁ e₂ e₃ ha
 
 -- ---- the call on its parts, by its cause
 module _ (m most : ℕ) (u : Setup) (p : Progress) (car : Car) (wheels : List ℕ) (action : ℕ) (ms : List Motion) where
-  pub drive-refused : (r : Result (List Force) Cause) (c : Cause) → Err c ≡ drive_check most u p action ms → r ≡ Err c
+  pub drive_refused : (r : Result (List Force) Cause) (c : Cause) → Err c ≡ drive_check most u p action ms → r ≡ Err c
       → drove_parts r p car ≡ drive_parts_of m most u p car wheels action ms
   unfolding drive_parts_of drive_at
-  drive-refused r c e h =
+  drive_refused r c e h =
       ap (λ (x : Result (List Force) Cause). drove_parts x p car) h
       ∙ ap (λ (x : Result Unit Cause). drive_at x p car (pass_of car action ms (roads_of m wheels))) e
 
-  pub drive-accepted : (after : Car) (fs : List Force) → Ok tt ≡ drive_check most u p action ms → tyres_passed after fs ≡ pass_of car action ms (roads_of m wheels)
+  pub drive_accepted : (after : Car) (fs : List Force) → Ok tt ≡ drive_check most u p action ms → tyres_passed after fs ≡ pass_of car action ms (roads_of m wheels)
       → drove_parts (Ok fs) (awaiting p) after ≡ drive_parts_of m most u p car wheels action ms
   unfolding drive_parts_of drive_at
-  drive-accepted after fs e h =
+  drive_accepted after fs e h =
       ap (λ (d : Passed). drove_parts (Ok d.forces) (awaiting p) d.car) h
       ∙ ap (λ (x : Result Unit Cause). drive_at x p car (pass_of car action ms (roads_of m wheels))) e
 

@@ -29,6 +29,6 @@ unfolding still_wheel
 still-wheel w h = λ i. record { gas = (h.0) i; brake = (h.1.0) i; steer = (h.1.1.0) i; omega = (h.1.1.1.0) i; phase = (h.1.1.1.1) i }
 
 -- a car
-pub still-car : {c : Car} → AllOfLen Still c.ctl 4 × (c.fuel_spent ≡ of_bits binary64 0) → c ≡ still_car
+pub still_car_is : {c : Car} → AllOfLen Still c.ctl 4 × (c.fuel_spent ≡ of_bits binary64 0) → c ≡ still_car
 unfolding still_car
-still-car h = λ i. record { ctl = (alike still-wheel h.0) i; fuel_spent = (h.1) i }
+still_car_is h = λ i. record { ctl = (alike still-wheel h.0) i; fuel_spent = (h.1) i }

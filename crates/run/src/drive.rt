@@ -160,6 +160,7 @@ fn motion_ok(m: Motion) -> bool
 
 // Whether one of `count` words from `from` on is not 0.
 // Kept as a loop that reads them all: one of known length the compiler unrolls, and it reads several words at a time.
+#[tactic(auto, using(crate::proofs::RoadLaws::stands_none, crate::proofs::RoadLaws::stands_more))]
 fn any_stands(wheels: &[u64], from: usize, count: usize) -> bool
     requires { from + count ≤ length wheels.now }
     ensures { result ≡ any_stands count wheels.now from }
@@ -180,6 +181,7 @@ fn first_words(words: usize) -> usize
 
 // Whether wheel w touched a tile at the last contact, by sets of `words` words to a wheel. The first words are looked at
 // alone: on most courses they answer for a wheel on the road.
+#[tactic(auto, using(crate::proofs::RoadLaws::first_stands))]
 fn on_road(wheels: &[u64], words: usize, w: usize) -> bool
     requires { w * words + words ≤ length wheels.now }
     ensures { result ≡ on_road words wheels.now w }
@@ -191,6 +193,7 @@ fn on_road(wheels: &[u64], words: usize, w: usize) -> bool
 
 // Which wheels touched a tile at the last contact.
 // Kept as a loop: it is the one place that calls the test, so that this is compiled into it.
+#[tactic(auto, unfolding(crate::specs::Steps::Drive::roads_to), using(crate::proofs::RoadLaws::roads_more, crate::proofs::RoadLaws::roads_all))]
 fn roads_of(wheels: &[u64], words: usize) -> [bool; 4]
     requires { 4 * words ≤ length wheels.now }
     ensures { result ≡ roads_of words wheels.now }

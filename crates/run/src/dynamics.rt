@@ -120,6 +120,7 @@ pub(crate) fn limit(road: bool) -> f64
 }
 
 // Whether s is so small that its root is certainly not above the limit: by the limit's square.
+#[tactic(auto, using(crate::proofs::SmallForces::small_road, crate::proofs::SmallForces::small_grass))]
 fn is_small(road: bool, s: f64) -> bool
     ensures { result ≡ true → lt (limit_of road) (sqrt_of s) ≡ false }
 {

@@ -84,6 +84,7 @@ pub struct Run {
 
 // The state of zeros.
 impl Default for Run {
+    #[tactic(auto, unfolding(crate::specs::Grader::State::view, crate::specs::Grader::Start::zero_state, crate::specs::Grader::Start::first_progress), using(crate::proofs::Zeros::still_car_is))]
     fn default() -> Run
         ensures { view result ≡ zero_state full_words }
     {

@@ -1,6 +1,6 @@
 -- `run::start::start` meets its contract. Assumes nothing.
 use Rattle.run.proofs.CallLaws.{start-facts, start-refused, start-accepted}
-use Rattle.run.proofs.Zeros.{still-car}
+use Rattle.run.proofs.Zeros.{still_car_is}
 use Rattle.run.specs.Grader.Widths.{most_tiles, full_words}
 use Rattle.run.specs.Grader.State.{view, lent_columns}
 use Rattle.run.specs.Grader.Touch.{sound_poses}
@@ -25,4 +25,4 @@ returns c =
     let t = c.full_contact-c in
     let l = lent_columns c.args.columns in
     start-accepted full_words most_tiles l c.args.settings k.result _ _ t.result.fresh t.result.zero c.update_lap-lap.result c.first_progress-progress.result
-    c.default-car.result _ k.ensures c.in_default.is (t.ensures ∙ ap (first_contact full_words l) c.at-stance.ensures) c.update_lap-lap.ensures c.first_progress-progress.ensures (still-car c.default-car.ensures) c.put_poses.ensures
+    c.default-car.result _ k.ensures c.in_default.is (t.ensures ∙ ap (first_contact full_words l) c.at-stance.ensures) c.update_lap-lap.ensures c.first_progress-progress.ensures (still_car_is c.default-car.ensures) c.put_poses.ensures
