@@ -16,14 +16,17 @@ use Rattle.course.specs.Rules.Lengths.{most_points, column_length, quad_numbers,
 use Rattle.course.proofs.LengthLaws.{points-fit}
 use Rattle.run.specs.Grader.State.{State, state_of, Columns, short_of, unfit}
 use Rattle.run.specs.Rules.Arguments.{poses_ok, short_columns, settings_ok, places_ok}
-use Rattle.run.specs.Grader.Touch.{sound_poses, touched_by}
+use Rattle.run.specs.Grader.Touch.{sound_cell, sound_poses, touched_by}
 use Rattle.run.specs.Rules.Wheel.{quad_of}
 use Rattle.run.specs.Grader.Words.{member}
 use Rattle.run.specs.Grader.Contact.{entered, Contacted, contacted, contact_of}
 use Rattle.course.proofs.BoolLaws.{or_no}
 use Rattle.run.proofs.CheckLaws.{passed}
 use Rattle.run.proofs.CheckLaws.{cause-by, none-number, met-none}
+use Rattle.run.proofs.CellLaws.{cells-sound-is}
 use Rattle.run.proofs.CreditLaws.{few}
+use Rattle.run.specs.Steps.Touch.{sixteen_cells}
+use Rattle.run.specs.Rules.Below.{every_of}
 use Rattle.run.specs.Grader.Numbers.{pose_numbers}
 use Rattle.run.specs.Rules.Lap.{lap_of, off_field}
 use Rattle.run.specs.declared.start.Settings.{Settings}
@@ -43,6 +46,10 @@ long tiles offsets n most h b m =
     let t = ltb-false tiles (quad_numbers (column_length n)) (or_no (ltb tiles (quad_numbers (column_length n))) (ltb offsets offset_count) h).0 in
     let k = points-fit n (omega (arith, ltb-false most n b, m)) in
     omega (arith, t, k)
+
+-- cause 10, by the cells of a stance at the poses
+pub cells_tell : (offs l : List ℕ) (n : ℕ) (ps at : List Pose) (ks : List ℕ) (b : Bool) → ks ≡ sixteen_cells at → at ≡ ps → b ≡ every_of (sound_cell offs l n) ks → b ≡ sound_poses offs l n ps
+cells_tell offs l n ps at ks b own e h = cells-sound-is offs l n ps (own ∙ ap sixteen_cells e) h
 
 -- ---- start
 pub record StartFacts (most : ℕ) (l : Columns) (a : Settings) : Type 0 where

@@ -31,7 +31,7 @@ pub struct SettleValues {
 }
 
 // Refused by the first of the causes 4, 5, 6, 2, 8 and 10 that holds.
-#[tactic(auto, unfolding(crate::specs::Grader::Settle::settle_check, crate::specs::Grader::State::short_of, crate::specs::Rules::Arguments::places_ok))]
+#[tactic(auto, unfolding(crate::specs::Grader::Settle::settle_check, crate::specs::Grader::State::short_of, crate::specs::Rules::Arguments::places_ok), using(crate::proofs::CallLaws::cells_tell))]
 fn settle_check(
     setup: Setup,
     progress: Progress,

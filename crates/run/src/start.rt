@@ -40,7 +40,7 @@ pub(crate) fn settings_ok(share: f64, limit: u32) -> bool
 }
 
 // Refused by the first of the causes 1, 2, 8 and 10 that holds.
-#[tactic(auto, unfolding(crate::specs::Grader::Start::start_check, crate::specs::Grader::Start::start_short, crate::specs::Grader::State::short_of))]
+#[tactic(auto, unfolding(crate::specs::Grader::Start::start_check, crate::specs::Grader::Start::start_short, crate::specs::Grader::State::short_of), using(crate::proofs::CallLaws::cells_tell))]
 fn start_check(columns: Columns<'_>, settings: Settings, stance: &Stance) -> Result<(), Cause>
     requires { stance.now.poses ≡ settings.poses }
     ensures { result ≡ start_check most_tiles (lent_columns columns.entry) settings }
