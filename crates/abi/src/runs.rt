@@ -18,7 +18,7 @@ use course::cause;
 use course::lent::LentColumns;
 use run::numbers::{CAR_NUMBERS, FORCE_NUMBERS, MOTION_NUMBERS, POSE_NUMBERS};
 use run::reward::Weights;
-use run::settle::SettleValues;
+use run::settle::{Places, SettleValues};
 use run::start::Settings;
 use run::state::{Progress, Setup};
 use run::touch::Columns;
@@ -129,15 +129,14 @@ pub extern "C" fn grader_settle_parts(
         poses.wheels }
 {
     let mut next = progress;
+    let given = poses.wheels;
+    let places = Places { x, y, poses: given };
     let columns = Columns {
         tiles,
         offsets,
         list,
     };
-    let given = poses.wheels;
-    let said = settle::settle_parts(
-        setup, &mut next, credited, wheels, last, columns, x, y, given,
-    );
+    let said = settle::settle_parts(setup, &mut next, credited, wheels, last, columns, places);
     let cause = cause::cause_number(&said);
     let v = said.unwrap_or(SettleValues {
         new_tiles: 0,

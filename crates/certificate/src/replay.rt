@@ -16,6 +16,7 @@ use course::cause::Cause;
 use course::lay;
 use course::lent::LentColumns;
 use course::points::{LaidCourse, LayError};
+use run::settle::Places;
 use run::sheet::RunSheet;
 use run::start::{Settings, StartValues};
 use run::state::{Pose, Run};
@@ -88,9 +89,11 @@ fn reply_settle(
     let said = settle::settle(
         run,
         columns,
-        given[0],
-        given[1],
-        numbers::settle_poses(given),
+        Places {
+            x: given[0],
+            y: given[1],
+            poses: numbers::settle_poses(given),
+        },
     );
     answer::put_settle(said, words, numbers);
 }

@@ -16,20 +16,23 @@ use Rattle.course.specs.Rules.Lengths.{most_points, column_length, quad_numbers,
 use Rattle.course.proofs.LengthLaws.{points-fit}
 use Rattle.run.specs.Grader.State.{State, state_of, Columns, short_of, unfit}
 use Rattle.run.specs.Rules.Arguments.{poses_ok, short_columns, settings_ok, places_ok}
-use Rattle.run.specs.Grader.Touch.{sound_poses, touched_by}
+use Rattle.run.specs.Grader.Touch.{sound_cell, sound_poses, touched_by}
 use Rattle.run.specs.Rules.Wheel.{quad_of}
 use Rattle.run.specs.Grader.Words.{member}
 use Rattle.run.specs.Grader.Contact.{entered, Contacted, contacted, contact_of}
 use Rattle.course.proofs.BoolLaws.{or_no}
 use Rattle.run.proofs.CheckLaws.{passed}
 use Rattle.run.proofs.CheckLaws.{cause-by, none-number, met-none}
+use Rattle.run.proofs.CellLaws.{cells-sound-is}
 use Rattle.run.proofs.CreditLaws.{few}
+use Rattle.run.specs.Steps.Touch.{sixteen_cells}
+use Rattle.run.specs.Rules.Below.{every_of}
 use Rattle.run.specs.Grader.Numbers.{pose_numbers}
 use Rattle.run.specs.Rules.Lap.{lap_of, off_field}
 use Rattle.run.specs.declared.start.Settings.{Settings}
 use Rattle.run.specs.Grader.Start.{start_short, start_check, setup_of, first_progress, zero_state, begun, first_contact, started_by, start_at, start_of}
 use Rattle.run.specs.Rules.Pass.{still_car}
-use Rattle.run.specs.Grader.Settle.{settle_check, settled_progress, SettledParts, settled_parts, settled_by, settle_at, settle_parts_of, poses_after, SettledPoses, settled_poses, settle_poses_of, after_settle, settle_of}
+use Rattle.run.specs.Grader.Settle.{settle_check, settled_progress, SettledParts, settled_parts, settled_by, settle_at, settle_parts_of, poses_after, settled_poses, settle_poses_of}
 use Rattle.run.specs.declared.state.Setup.{Setup}
 use Rattle.run.specs.declared.state.Progress.{Progress}
 use Rattle.run.specs.declared.state.Car.{Car}
@@ -43,6 +46,10 @@ long tiles offsets n most h b m =
     let t = ltb-false tiles (quad_numbers (column_length n)) (or_no (ltb tiles (quad_numbers (column_length n))) (ltb offsets offset_count) h).0 in
     let k = points-fit n (omega (arith, ltb-false most n b, m)) in
     omega (arith, t, k)
+
+-- cause 10, by the cells of a stance at the poses
+pub cells_tell : (offs l : List ℕ) (n : ℕ) (ps at : List Pose) (ks : List ℕ) (b : Bool) → ks ≡ sixteen_cells at → at ≡ ps → b ≡ every_of (sound_cell offs l n) ks → b ≡ sound_poses offs l n ps
+cells_tell offs l n ps at ks b own e h = cells-sound-is offs l n ps (own ∙ ap sixteen_cells e) h
 
 -- ---- start
 pub record StartFacts (most : ℕ) (l : Columns) (a : Settings) : Type 0 where
@@ -148,14 +155,6 @@ settle-accepted {m} {u = u} {p = p} {c = c} {w = w} {l = l} {x = x} {y = y} {ps 
     (λ i. settled_poses (settled_parts (Ok (record { new_tiles = f; n = u.n; off = o; lap = (h.progress i).lap; ended = (h.progress i).ended })) (h.progress i) c' w') (h.poses i))
     ∙ ap (λ (d : SettledParts). settled_poses d (poses_after d.answer ps last))
     (ap₂ (settled_by u p) h.off h.contact ∙ ap (λ (r : Result Unit Cause). settle_at m r u p c w l x y ps) h.none)
-
--- the call on a whole state, put together around the parts that it leaves
-pub settled-from : (m most : ℕ) (s : State) (l : Columns) (x y : Float) (ps : List Pose) (r : Result SettleValues Cause) (p : Progress) (c w : List ℕ) (last : List Float)
-    → settled_poses (settled_parts r p c w) last ≡ settle_poses_of m most s.setup s.progress s.credited s.wheels s.poses l x y ps
-    → after_settle r (state_of s.setup p s.car c w last s.seed) ≡ settle_of m most s l x y ps
-unfolding settle_of
-settled-from m most s l x y ps r p c w last e =
-    ap (λ (d : SettledPoses). after_settle d.parts.answer (state_of s.setup d.parts.progress s.car d.parts.credited d.parts.wheels d.poses s.seed)) e
 
 -- a contact has no more new tiles than its words have bits
 pub contact-few : (m : ℕ) (c w : List ℕ) (P : ℕ → ℕ → Bool) {c' w' : List ℕ} {f : ℕ} {z : Bool} → contacted c' w' f z ≡ contact_of m c w P → f ≤ 64 * m

@@ -10,11 +10,11 @@ use Rattle.course.specs.Grader.Cause.{number_of, cause_number}
 use Rattle.course.specs.declared.cause.Cause.{Cause}
 use Rattle.run.specs.Rules.Arguments.{motion_at, motions_ok}
 use Rattle.run.specs.Rules.Dynamics.{TyreForce, PassedWheel, turning_of, limit_of, held_of, push_of, finish_of, tyre_of}
-use Rattle.run.specs.Grader.State.{State, state_of, awaiting, unfit}
+use Rattle.run.specs.Grader.State.{awaiting, unfit}
 use Rattle.run.proofs.CheckLaws.{cause-by, none-number}
 use Rattle.run.specs.Grader.Grip.{roads_of}
 use Rattle.run.specs.Rules.Pass.{front_of, rear_of, ctl_at, road_at, Passed, tyres_passed, gathered_of, pass_of}
-use Rattle.run.specs.Grader.Drive.{drive_check, DroveParts, drove_parts, drive_at, drive_parts_of, driven, drive_of}
+use Rattle.run.specs.Grader.Drive.{drive_check, drove_parts, drive_at, drive_parts_of}
 use Rattle.run.specs.declared.state.WheelCtl.{WheelCtl}
 use Rattle.run.specs.declared.state.Setup.{Setup}
 use Rattle.run.specs.declared.state.Progress.{Progress}
@@ -48,17 +48,17 @@ pass-from car action ms roads w₀ w₁ w₂ w₃ a b c d e₀ e₁ e₂ e₃ ha
 
 -- ---- the call on its parts, by its cause
 module _ (m most : ℕ) (u : Setup) (p : Progress) (car : Car) (wheels : List ℕ) (action : ℕ) (ms : List Motion) where
-  pub drive-refused : (r : Result (List Force) Cause) (c : Cause) → Err c ≡ drive_check most u p action ms → r ≡ Err c
+  pub drive_refused : (r : Result (List Force) Cause) (c : Cause) → Err c ≡ drive_check most u p action ms → r ≡ Err c
       → drove_parts r p car ≡ drive_parts_of m most u p car wheels action ms
   unfolding drive_parts_of drive_at
-  drive-refused r c e h =
+  drive_refused r c e h =
       ap (λ (x : Result (List Force) Cause). drove_parts x p car) h
       ∙ ap (λ (x : Result Unit Cause). drive_at x p car (pass_of car action ms (roads_of m wheels))) e
 
-  pub drive-accepted : (after : Car) (fs : List Force) → Ok tt ≡ drive_check most u p action ms → tyres_passed after fs ≡ pass_of car action ms (roads_of m wheels)
+  pub drive_accepted : (after : Car) (fs : List Force) → Ok tt ≡ drive_check most u p action ms → tyres_passed after fs ≡ pass_of car action ms (roads_of m wheels)
       → drove_parts (Ok fs) (awaiting p) after ≡ drive_parts_of m most u p car wheels action ms
   unfolding drive_parts_of drive_at
-  drive-accepted after fs e h =
+  drive_accepted after fs e h =
       ap (λ (d : Passed). drove_parts (Ok d.forces) (awaiting p) d.car) h
       ∙ ap (λ (x : Result Unit Cause). drive_at x p car (pass_of car action ms (roads_of m wheels))) e
 
@@ -78,10 +78,3 @@ module _ (m most : ℕ) (u : Setup) (p : Progress) (car : Car) (wheels : List �
       → ((drive_parts_of m most u p car wheels action ms).progress ≡ p) × ((drive_parts_of m most u p car wheels action ms).car ≡ car)
   unfolding drive_parts_of
   refused-keeps c e = kept-at _ _ c e
-
--- ---- the call on a whole state, put together around the parts that it leaves
-pub drove-from : (m most : ℕ) (s : State) (action : ℕ) (ms : List Motion) {r : Result (List Force) Cause} {p : Progress} {car : Car}
-    → drove_parts r p car ≡ drive_parts_of m most s.setup s.progress s.car s.wheels action ms
-    → driven r (state_of s.setup p car s.credited s.wheels s.poses s.seed) ≡ drive_of m most s action ms
-unfolding drive_of
-drove-from m most s action ms e = ap (λ (d : DroveParts). driven d.answer (state_of s.setup d.progress d.car s.credited s.wheels s.poses s.seed)) e

@@ -16,9 +16,9 @@ four-items (a ∷ b ∷ c ∷ []) d h = absurd (omega (arith, h))
 four-items (a ∷ b ∷ c ∷ e ∷ f ∷ r) d h = absurd (omega (arith, h))
 
 -- a test of all of them is one of each
-pub all-four : {A : Type 0} (p : A → Bool) (xs : List A) (d : A) → length xs ≡ 4
+pub all_four : {A : Type 0} (p : A → Bool) (xs : List A) (d : A) → length xs ≡ 4
     → list_all p xs ≡ (((p (get_or xs 0 d) && p (get_or xs 1 d)) && p (get_or xs 2 d)) && p (get_or xs 3 d))
-all-four p xs d h =
+all_four p xs d h =
     let a = p (get_or xs 0 d) in
     let b = p (get_or xs 1 d) in
     let c = p (get_or xs 2 d) in

@@ -1,4 +1,5 @@
 pub mod WordLaws
+pub mod Zeros
 pub mod CreditLaws
 pub mod PairLaws
 pub mod TouchLaws
@@ -11,6 +12,7 @@ pub mod Literals
 pub mod SmallForces
 pub mod MotorLaw
 pub mod AnyLaws
+pub mod ActionLaws
 pub mod DriveLaws
 pub mod RoadLaws
 pub mod PointQuads

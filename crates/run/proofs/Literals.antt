@@ -1,9 +1,6 @@
 -- The bits of constants: what the compiled code has in the place of the Rust's expressions. Assumes nothing.
 use mathlib.Core.Path.{◌≡◌, refl}
-use mathlib.Core.Bool.{Bool, true, false}
-use lib.IntN.{pos}
-use Rattle.std.specs.Int.{from_bool}
-use Rattle.run.specs.Rules.Pass.{indicator, no_force}
+use Rattle.run.specs.Rules.Pass.{no_force}
 use Rattle.run.specs.declared.dynamics.Force.{Force}
 use lib.Ieee.{binary64, of_bits, of_int, round, mul, div}
 use Rattle.course.specs.Rules.Arithmetic.{natural, decimal}
@@ -13,29 +10,29 @@ use Rattle.run.specs.Rules.Wheel.{size, wheel_r}
 
 -- ---- the constants of the reference's dynamics.rs
 
-pub engine-power : engine_power ≡ of_bits binary64 0x40e3880000000000
+pub engine_power_bits : engine_power ≡ of_bits binary64 0x40e3880000000000
 unfolding engine_power size natural decimal of_int round of_bits mul
-engine-power = refl
+engine_power_bits = refl
 
-pub inertia : wheel_moment_of_inertia ≡ of_bits binary64 0x3ff999999999999a
+pub inertia_bits : wheel_moment_of_inertia ≡ of_bits binary64 0x3ff999999999999a
 unfolding wheel_moment_of_inertia size natural decimal of_int round of_bits mul
-inertia = refl
+inertia_bits = refl
 
-pub friction-limit : friction_limit ≡ of_bits binary64 0x4079000000000000
+pub friction_limit_bits : friction_limit ≡ of_bits binary64 0x4079000000000000
 unfolding friction_limit size natural decimal of_int round of_bits mul
-friction-limit = refl
+friction_limit_bits = refl
 
-pub wheel-rad : wheel_rad ≡ of_bits binary64 0x3fe147ae147ae148
+pub wheel_rad_bits : wheel_rad ≡ of_bits binary64 0x3fe147ae147ae148
 unfolding wheel_rad wheel_r size natural decimal of_int round of_bits mul
-wheel-rad = refl
+wheel_rad_bits = refl
 
-pub stiffness-bits : stiffness ≡ of_bits binary64 0x4054800000000000
+pub stiffness_bits : stiffness ≡ of_bits binary64 0x4054800000000000
 unfolding stiffness size natural decimal of_int round of_bits mul
-stiffness-bits = refl
+stiffness_bits = refl
 
-pub dt-bits : dt ≡ of_bits binary64 0x3f947ae147ae147b
+pub dt_bits : dt ≡ of_bits binary64 0x3f947ae147ae147b
 unfolding dt fps natural of_int of_bits div
-dt-bits = refl
+dt_bits = refl
 
 -- ---- literals
 
@@ -63,6 +60,10 @@ pub fifty : natural 50 ≡ of_bits binary64 0x4049000000000000
 unfolding natural of_int of_bits
 fifty = refl
 
+pub million : natural 1000000 ≡ of_bits binary64 0x412e848000000000
+unfolding natural of_int of_bits
+million = refl
+
 pub tenth : decimal 1 10 ≡ of_bits binary64 0x3fb999999999999a
 unfolding decimal round of_bits
 tenth = refl
@@ -71,23 +72,13 @@ pub two-tenths : decimal 2 10 ≡ of_bits binary64 0x3fc999999999999a
 unfolding decimal round of_bits
 two-tenths = refl
 
-pub six-tenths : decimal 6 10 ≡ of_bits binary64 0x3fe3333333333333
+pub six_tenths : decimal 6 10 ≡ of_bits binary64 0x3fe3333333333333
 unfolding decimal round of_bits
-six-tenths = refl
+six_tenths = refl
 
-pub eight-tenths : decimal 8 10 ≡ of_bits binary64 0x3fe999999999999a
+pub nine_tenths : decimal 9 10 ≡ of_bits binary64 0x3feccccccccccccd
 unfolding decimal round of_bits
-eight-tenths = refl
-
-pub nine-tenths : decimal 9 10 ≡ of_bits binary64 0x3feccccccccccccd
-unfolding decimal round of_bits
-nine-tenths = refl
-
--- a test as a number
-pub indicator-from : (b : Bool) → of_int binary64 (pos (from_bool b)) ≡ indicator b
-unfolding indicator natural
-indicator-from true = refl
-indicator-from false = refl
+nine_tenths = refl
 
 -- a force of zeros, as the default is
 pub zero-force : (f : Force) → (f.motor ≡ of_bits binary64 0) × ((f.fx ≡ of_bits binary64 0) × (f.fy ≡ of_bits binary64 0)) → f ≡ no_force

@@ -4,7 +4,7 @@ use mathlib.Core.Path.{◌≡◌, refl, sym, ap, ap₂, ◌∙◌}
 use Prim.Native.Nat.{ℕ, zero, suc, ◌+◌, ◌*◌, ◌≤◌, ◌<◌}
 use native.Mathlib.Omega.{arith}
 use lib.ListN.{length, get_or, set, take, drop, length-append, length-drop, drop_of_length-le}
-use lib.Seq.{sets, sets-eq, drop-cons, take_at, drop_at, drop-drop, take-suc, length-take-le}
+use lib.Seq.{drop-cons, take_at, drop_at, drop-drop, take-suc, length-take-le}
 use native.Mathlib.Nat.{suc-mul}
 use native.Mathlib.Numerals.{add-one}
 use Rattle.std.proofs.lemmas.List.Concat.{flat_map-append}
@@ -20,12 +20,6 @@ use Rattle.run.specs.declared.dynamics.Force.{Force}
 use Rattle.run.specs.Rules.Arguments.{pose_at}
 use Rattle.run.specs.Rules.Pass.{ctl_at}
 use Rattle.run.specs.Grader.Numbers.{control_count, wheel_from, wheel_list, car_from, car_numbers, pose_from, pose_list, poses_at, pose_numbers, force_list, force_at, force_numbers, four_from}
-
--- ---- writing
-
--- as many values as a column has, written from its front on, are the column
-pub written_over : {A : Type 0} (vs l : List A) → length l ≡ length vs → sets l 0 vs ≡ vs
-written_over {A} vs l e = sets-eq vs l 0 (omega arith) ∙ ap (λ (r : List A). vs ++ r) (drop_of_length-le l {i = 0 + length vs} (omega arith)) ∙ append-nil vs
 
 -- ---- four records of k numbers each, one after the other
 module _ {T : Type 0} (f : T → List Float) (k : ℕ) (rs : List T) where
@@ -79,10 +73,10 @@ unfolding entries car_numbers car_from wheel_from
 numbers-of-car l e = entries-all 21 0 nan l (sym e)
 
 -- a car that is read
-pub car-read : (l : List Float) (ctl : List WheelCtl) → length l ≡ 21 → ctl ≡ four_from wheel_from 5 l 0
+pub car_read : (l : List Float) (ctl : List WheelCtl) → length l ≡ 21 → ctl ≡ four_from wheel_from 5 l 0
     → let car : Car = record { ctl = ctl; fuel_spent = number_at l 20 } in (car ≡ car_from l) × (car_numbers car ≡ l)
 unfolding car_from
-car-read l ctl long e =
+car_read l ctl long e =
     let is : ◌≡◌ {A = Car} (record { ctl = ctl; fuel_spent = number_at l 20 }) (car_from l) = λ i. record { ctl = e i; fuel_spent = number_at l 20 } in
     (is, ap car_numbers is ∙ numbers-of-car l long)
 
@@ -91,8 +85,8 @@ four-written : (ctl : List WheelCtl) (fuel x : Float) → length ctl ≡ 4 → s
 unfolding car_numbers
 four-written ctl fuel x h = ap (λ (l : List WheelCtl). set (flat_map wheel_list l ++ (x ∷ [])) 20 fuel) (four-items ctl (ctl_at [] 0) h)
 
-pub car-written : (car : Car) (l : List Float) {ns : List Float} → length car.ctl ≡ 4 → length l ≡ 21 → ns ≡ flat_map wheel_list car.ctl → set (ns ++ drop 20 l) 20 car.fuel_spent ≡ car_numbers car
-car-written car l four long e =
+pub car_written : (car : Car) (l : List Float) {ns : List Float} → length car.ctl ≡ 4 → length l ≡ 21 → ns ≡ flat_map wheel_list car.ctl → set (ns ++ drop 20 l) 20 car.fuel_spent ≡ car_numbers car
+car_written car l four long e =
     let last : drop 20 l ≡ get_or l 20 nan ∷ [] = drop-cons l 20 nan (omega (arith, long)) ∙ ap (λ (r : List Float). get_or l 20 nan ∷ r) (drop_of_length-le l {i = 21} (omega (arith, long))) in
     ap₂ (λ (a b : List Float). set (a ++ b) 20 car.fuel_spent) e last ∙ four-written car.ctl car.fuel_spent (get_or l 20 nan) four
 
@@ -109,14 +103,14 @@ controls-taken car ns e = ap (λ (l : List Float). length (take control_count l)
 -- ---- four poses
 
 -- poses that are written
-pub poses-written : (ps : List Pose) → length ps ≡ 4 → flat_map pose_list ps ≡ pose_numbers ps
+pub poses_written : (ps : List Pose) → length ps ≡ 4 → flat_map pose_list ps ≡ pose_numbers ps
 unfolding pose_numbers
-poses-written ps h = ap (flat_map pose_list) (four-items ps (pose_at [] 0) h)
+poses_written ps h = ap (flat_map pose_list) (four-items ps (pose_at [] 0) h)
 
 -- forces that are written
-pub forces-written : (fs : List Force) → length fs ≡ 4 → flat_map force_list fs ≡ force_numbers fs
+pub forces_written : (fs : List Force) → length fs ≡ 4 → flat_map force_list fs ≡ force_numbers fs
 unfolding force_numbers
-forces-written fs h = ap (flat_map force_list) (four-items fs (force_at [] 0) h)
+forces_written fs h = ap (flat_map force_list) (four-items fs (force_at [] 0) h)
 
 -- each wheel's pose is read back from the numbers
 pub poses-back : (ps : List Pose) (w : ℕ) → w < 4 → pose_at (poses_at (pose_numbers ps) 0) w ≡ pose_at ps w

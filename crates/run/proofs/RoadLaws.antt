@@ -18,14 +18,14 @@ use Rattle.course.proofs.BoolLaws.{never-false, both_ways}
 use Rattle.run.proofs.AnyLaws.{any_none, any_false, any_found, none_found}
 
 -- no word looked at yet
-pub stands-none : (ws : List ℕ) (from : ℕ) → false ≡ any_stands 0 ws from
+pub stands_none : (ws : List ℕ) (from : ℕ) → false ≡ any_stands 0 ws from
 unfolding any_below any_stands
-stands-none ws from = refl
+stands_none ws from = refl
 
 -- one word more
-pub stands-more : (ws : List ℕ) (from i : ℕ) (b : Bool) → b ≡ any_stands i ws from → (b || not (eqb (get_or ws (from + i) 0) 0)) ≡ any_stands (i + 1) ws from
+pub stands_more : (ws : List ℕ) (from i : ℕ) (b : Bool) → b ≡ any_stands i ws from → (b || not (eqb (get_or ws (from + i) 0) 0)) ≡ any_stands (i + 1) ws from
 unfolding any_below any_stands stands
-stands-more ws from i b e = ap (λ (a : Bool). a || stands ws from i) e ∙ ap (λ (k : ℕ). any_below k (stands ws from)) one
+stands_more ws from i b e = ap (λ (a : Bool). a || stands ws from i) e ∙ ap (λ (k : ℕ). any_below k (stands ws from)) one
   where
     one : suc i ≡ i + 1
     one = omega arith
@@ -67,16 +67,16 @@ module _ (m w : ℕ) (ws : List ℕ) where
   empty-road z = none_found (wheel_part m ws w) m (λ j h. there j h ∙ z j h)
 
   -- a word that stands among the first k
-  pub first-stands : (k : ℕ) (b : Bool) → k ≤ m → b ≡ any_stands k ws (w * m) → b ≡ true → ((j : ℕ) → j < k → get_or ws (w * m + j) 0 < 2 ^ 64) → true ≡ on_road m ws w
-  first-stands k b l e t fits =
+  pub first_stands : (k : ℕ) (b : Bool) → k ≤ m → b ≡ any_stands k ws (w * m) → b ≡ true → ((j : ℕ) → j < k → get_or ws (w * m + j) 0 < 2 ^ 64) → true ≡ on_road m ws w
+  first_stands k b l e t fits =
       sym (never-false (on_road m ws w)
       (λ o. true≢false (sym t ∙ e ∙ all_none ws (w * m) k (λ j h. off-road o j (omega (arith, l, h)) (fits j h)))))
 
   -- none among the first k: the others decide
-  pub others-stand : (k : ℕ) (a b : Bool) → k ≤ m → a ≡ any_stands k ws (w * m) → a ≡ false → b ≡ any_stands (m - k) ws (w * m + k)
+  pub others_stand : (k : ℕ) (a b : Bool) → k ≤ m → a ≡ any_stands k ws (w * m) → a ≡ false → b ≡ any_stands (m - k) ws (w * m + k)
       → ((j : ℕ) → j < m - k → get_or ws (w * m + k + j) 0 < 2 ^ 64)
       → b ≡ on_road m ws w
-  others-stand k a b l e t p fits =
+  others_stand k a b l e t p fits =
       p
       ∙ both_ways (any_stands (m - k) ws (w * m + k)) (on_road m ws w)
       (λ n. empty-road (λ j h. zero-at n j h (dec_lt j k)))
@@ -97,12 +97,12 @@ module _ (m w : ℕ) (ws : List ℕ) where
           ap (λ (x : ℕ). get_or ws x 0) i ∙ none_of ws (w * m + k) (m - k) (j - k) n (omega (arith, q, h, l))
 
 -- ---- wheel by wheel
-pub roads-more : (m : ℕ) (ws : List ℕ) (k : ℕ) (l : List Bool) (b : Bool) → l ≡ roads_to m ws k → b ≡ on_road m ws k → set l k b ≡ roads_to m ws (k + 1)
+pub roads_more : (m : ℕ) (ws : List ℕ) (k : ℕ) (l : List Bool) (b : Bool) → l ≡ roads_to m ws k → b ≡ on_road m ws k → set l k b ≡ roads_to m ws (k + 1)
 unfolding roads_to
-roads-more m ws k l b e h = (λ i. set (e i) k (h i)) ∙ sym (ap (roads_to m ws) (add-one k))
+roads_more m ws k l b e h = (λ i. set (e i) k (h i)) ∙ sym (ap (roads_to m ws) (add-one k))
 
-pub roads-all : (m : ℕ) (ws : List ℕ) (k : ℕ) (l : List Bool) → l ≡ roads_to m ws k → k ≤ 4 → 4 ≤ k → l ≡ roads_of m ws
+pub roads_all : (m : ℕ) (ws : List ℕ) (k : ℕ) (l : List Bool) → l ≡ roads_to m ws k → k ≤ 4 → 4 ≤ k → l ≡ roads_of m ws
 unfolding roads_to roads_of
-roads-all m ws k l e a b =
+roads_all m ws k l e a b =
     let all : k ≡ 4 = omega (arith, a, b) in
     e ∙ ap (roads_to m ws) all

@@ -19,16 +19,16 @@ grass-bits : limit_of false ≡ of_bits binary64 0x406e000000000000
 unfolding limit_of friction_limit size natural decimal of_int round of_bits mul
 grass-bits = refl
 
-pub small-road : (s : Float) → T (fits binary64 s) → le s (of_bits binary64 0x4103880000000000) ≡ true → lt (limit_of true) (sqrt_of s) ≡ false
+pub small_road : (s : Float) → T (fits binary64 s) → le s (of_bits binary64 0x4103880000000000) ≡ true → lt (limit_of true) (sqrt_of s) ≡ false
 unfolding of_bits fits
-small-road s F h =
+small_road s F h =
     no-T (lt (limit_of true) (sqrt_of s)) (λ t.
     root-within 400 s (of_bits binary64 0x4079000000000000) (of_bits binary64 0x4103880000000000) F tt tt refl tt (refl, refl)
     (subst T (sym h) tt) (subst (λ (v : Float). T (lt v (sqrt_of s))) road-bits t))
 
-pub small-grass : (s : Float) → T (fits binary64 s) → le s (of_bits binary64 0x40ec200000000000) ≡ true → lt (limit_of false) (sqrt_of s) ≡ false
+pub small_grass : (s : Float) → T (fits binary64 s) → le s (of_bits binary64 0x40ec200000000000) ≡ true → lt (limit_of false) (sqrt_of s) ≡ false
 unfolding of_bits fits
-small-grass s F h =
+small_grass s F h =
     no-T (lt (limit_of false) (sqrt_of s)) (λ t.
     root-within 240 s (of_bits binary64 0x406e000000000000) (of_bits binary64 0x40ec200000000000) F tt tt refl tt (refl, refl)
     (subst T (sym h) tt) (subst (λ (v : Float). T (lt v (sqrt_of s))) grass-bits t))

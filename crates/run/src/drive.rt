@@ -1,16 +1,17 @@
 // The call `drive`: forces for the host (document 01, "Drive").
-ghost use Rattle.std.specs.Prelude.{◌≡◌, ℕ, ◌+◌, ◌*◌, ◌^◌, ◌≤◌, ◌<◌, length, get_or};
+ghost use Rattle.std.specs.Prelude.{◌≡◌, ℕ, ◌+◌, ◌*◌, ◌^◌, ◌≤◌, ◌<◌, length, get_or, cond, ltb, Ok, Err};
+ghost use Rattle.course.specs.declared.cause.Cause.{Cause};
 ghost use Rattle.run.specs.Grader.Widths.{full_words, most_tiles};
 ghost use Rattle.run.specs.Grader.State.{view};
 ghost use Rattle.run.specs.Grader.Grip.{on_road, roads_of};
 ghost use Rattle.run.specs.Rules.Arguments.{motion_ok, motions_ok};
-ghost use Rattle.run.specs.Rules.Pass.{front_of, rear_of, tyres_passed, pass_of};
+ghost use Rattle.run.specs.Rules.Pass.{steer_of, gas_of, brake_of, front_of, rear_of, tyres_passed, pass_of};
 ghost use Rattle.run.specs.Grader.Drive.{drive_check, drove_parts, drive_parts_of, driven, drive_of};
-ghost use Rattle.run.specs.Steps.Drive.{wheel_as, any_stands};
+ghost use Rattle.run.specs.Steps.Drive.{wheel_as, any_stands, action_number, numbered, told};
 
 use crate::dynamics::{Force, Motion, Turned};
 use crate::state::{Car, Progress, Run, Setup, WheelCtl};
-use crate::widths::{FULL_WORDS, MOST_TILES, WHEEL_WORDS};
+use crate::widths::{FULL_WORDS, WHEEL_WORDS};
 use crate::{dynamics, state};
 use course::cause::Cause;
 use course::numeric;
@@ -22,27 +23,89 @@ pub(crate) struct Passed {
     pub forces: [Force; 4],
 }
 
+// What the driver does in a tick, in the order of its numbers.
+#[derive(Clone, Copy, Debug, PartialEq, Eq)]
+pub enum Action {
+    Nothing,
+    Right,
+    Left,
+    Gas,
+    Brake,
+}
+
+// The action of a number; above 4 stands none (cause 7).
+impl TryFrom<u32> for Action {
+    type Error = Cause;
+
+    ghost try_from_gives = { λ n r. numbered r ≡ cond (ltb 4 n) (Err Cause.Action) (Ok n) };
+
+    fn try_from(number: u32) -> Result<Action, Cause> {
+        match number {
+            0 => Ok(Action::Nothing),
+            1 => Ok(Action::Right),
+            2 => Ok(Action::Left),
+            3 => Ok(Action::Gas),
+            4 => Ok(Action::Brake),
+            _ => Err(Cause::Action),
+        }
+    }
+}
+
+impl Action {
+    // Where the front wheels are steered; clockwise is below 0.
+    #[tactic(auto, using(crate::proofs::ActionLaws::steer_right, crate::proofs::ActionLaws::steer_left, crate::proofs::ActionLaws::steer_none))]
+    fn steer(self) -> f64
+        ensures { result ≡ steer_of (action_number self) }
+    {
+        match self {
+            Action::Right => -0.6,
+            Action::Left => 0.6,
+            _ => 0.0,
+        }
+    }
+
+    // The gas that is wished for.
+    #[tactic(auto, using(crate::proofs::ActionLaws::gas_wished, crate::proofs::ActionLaws::gas_none))]
+    fn gas(self) -> f64
+        ensures { result ≡ gas_of (action_number self) }
+    {
+        match self {
+            Action::Gas => 0.2,
+            _ => 0.0,
+        }
+    }
+
+    #[tactic(auto, using(crate::proofs::ActionLaws::brake_on, crate::proofs::ActionLaws::brake_none))]
+    fn brake(self) -> f64
+        ensures { result ≡ brake_of (action_number self) }
+    {
+        match self {
+            Action::Brake => 0.8,
+            _ => 0.0,
+        }
+    }
+}
+
 // The controls of a front wheel: steering and brake are set, gas stays.
-// Kept as the action's number, here and at a rear wheel: the rule compares that with 1, 2, 3 and 4, and a name for each would be turned back into it.
-fn front(w: WheelCtl, action: u32) -> WheelCtl
-    ensures { result ≡ front_of action w }
+#[tactic(auto, unfolding(crate::specs::Rules::Pass::front_of))]
+fn front(w: WheelCtl, action: Action) -> WheelCtl
+    ensures { result ≡ front_of (action_number action) w }
 {
     WheelCtl {
-        steer: -0.6 * f64::from(action == 1) + 0.6 * f64::from(action == 2),
-        brake: 0.8 * f64::from(action == 4),
+        steer: action.steer(),
+        brake: action.brake(),
         ..w
     }
 }
 
 // The controls of a rear wheel: gas rises by at most 0.1 and falls at once, the brake is set, steering stays.
-fn rear(w: WheelCtl, action: u32) -> WheelCtl
-    ensures { result ≡ rear_of action w }
+#[tactic(auto, unfolding(crate::specs::Rules::Pass::rear_of, crate::specs::Rules::Pass::raised_of), using(crate::proofs::Literals::tenth))]
+fn rear(w: WheelCtl, action: Action) -> WheelCtl
+    ensures { result ≡ rear_of (action_number action) w }
 {
-    let gas = w.gas;
-    let wish = numeric::clamp(0.2 * f64::from(action == 3), 0.0, 1.0);
     WheelCtl {
-        gas: gas + numeric::min(wish - gas, 0.1),
-        brake: 0.8 * f64::from(action == 4),
+        gas: w.gas + numeric::min(action.gas() - w.gas, 0.1),
+        brake: action.brake(),
         ..w
     }
 }
@@ -50,8 +113,8 @@ fn rear(w: WheelCtl, action: u32) -> WheelCtl
 // The tyre pass over the four wheels, the fuel going from one to the next. What pushes at the tyres is worked out for all of them
 // before any is cut: a root takes long, and so the wheels' roots do not wait for each other.
 // Kept wheel by wheel: the pass in straight lines is a form that the requirement names, so that the roots are under way at once.
-fn pass(car: Car, action: u32, motion: [Motion; 4], roads: [bool; 4]) -> Passed
-    ensures { tyres_passed result.car result.forces ≡ pass_of car action motion roads }
+fn pass(car: Car, action: Action, motion: [Motion; 4], roads: [bool; 4]) -> Passed
+    ensures { tyres_passed result.car result.forces ≡ pass_of car (action_number action) motion roads }
 {
     let ctl = car.ctl;
     let w0 = front(ctl[0], action);
@@ -97,6 +160,7 @@ fn motion_ok(m: Motion) -> bool
 
 // Whether one of `count` words from `from` on is not 0.
 // Kept as a loop that reads them all: one of known length the compiler unrolls, and it reads several words at a time.
+#[tactic(auto, using(crate::proofs::RoadLaws::stands_none, crate::proofs::RoadLaws::stands_more))]
 fn any_stands(wheels: &[u64], from: usize, count: usize) -> bool
     requires { from + count ≤ length wheels.now }
     ensures { result ≡ any_stands count wheels.now from }
@@ -117,6 +181,7 @@ fn first_words(words: usize) -> usize
 
 // Whether wheel w touched a tile at the last contact, by sets of `words` words to a wheel. The first words are looked at
 // alone: on most courses they answer for a wheel on the road.
+#[tactic(auto, using(crate::proofs::RoadLaws::first_stands))]
 fn on_road(wheels: &[u64], words: usize, w: usize) -> bool
     requires { w * words + words ≤ length wheels.now }
     ensures { result ≡ on_road words wheels.now w }
@@ -128,6 +193,7 @@ fn on_road(wheels: &[u64], words: usize, w: usize) -> bool
 
 // Which wheels touched a tile at the last contact.
 // Kept as a loop: it is the one place that calls the test, so that this is compiled into it.
+#[tactic(auto, unfolding(crate::specs::Steps::Drive::roads_to), using(crate::proofs::RoadLaws::roads_more, crate::proofs::RoadLaws::roads_all))]
 fn roads_of(wheels: &[u64], words: usize) -> [bool; 4]
     requires { 4 * words ≤ length wheels.now }
     ensures { result ≡ roads_of words wheels.now }
@@ -140,24 +206,25 @@ fn roads_of(wheels: &[u64], words: usize) -> [bool; 4]
 }
 
 // The four wheels' numbers are in range.
+#[tactic(auto, unfolding(crate::specs::Rules::Arguments::motions_ok), using(crate::proofs::FourItems::all_four))]
 fn motions_ok(m: [Motion; 4]) -> bool
     ensures { result ≡ motions_ok m }
 {
     m.iter().all(|motion| motion_ok(*motion))
 }
 
-// Refused by the first cause that holds.
+// The action, or the first cause that holds.
 #[tactic(auto, unfolding(crate::specs::Grader::Drive::drive_check))]
 fn drive_check(
-    most: u32,
     setup: Setup,
     progress: Progress,
     action: u32,
     motion: [Motion; 4],
-) -> Result<(), Cause>
-    ensures { result ≡ drive_check most setup progress action motion }
+) -> Result<Action, Cause>
+    ensures { numbered result
+        ≡ told action (drive_check most_tiles setup progress action motion) }
 {
-    if state::is_unfit(most, setup, progress) | progress.ended {
+    if state::is_unfit(setup, progress) | progress.ended {
         return Err(Cause::State);
     }
     if progress.driven {
@@ -166,13 +233,11 @@ fn drive_check(
     if setup.tick_limit <= progress.tick {
         return Err(Cause::Limit);
     }
-    if 4 < action {
-        return Err(Cause::Action);
-    }
+    let action = Action::try_from(action)?;
     if !motions_ok(motion) {
         return Err(Cause::Range);
     }
-    Ok(())
+    Ok(action)
 }
 
 // The call on the parts that it reads and changes, the wheels' sets lent. A refusal leaves them.
@@ -187,7 +252,7 @@ pub fn drive_parts(
     ensures { drove_parts result progress.new car.new
         ≡ drive_parts_of full_words most_tiles setup progress.old car.old wheels.now action motion }
 {
-    drive_check(MOST_TILES, setup, *progress, action, motion)?;
+    let action = drive_check(setup, *progress, action, motion)?;
     let roads = roads_of(wheels, FULL_WORDS);
     let p = pass(*car, action, motion, roads);
     *car = p.car;
@@ -197,6 +262,7 @@ pub fn drive_parts(
 }
 
 // Forces for the host; a refusal leaves the state.
+#[tactic(auto, unfolding(crate::specs::Grader::State::view, crate::specs::Grader::Drive::drive_of))]
 pub fn drive(run: &mut Run, action: u32, motion: [Motion; 4]) -> Result<[Force; 4], Cause>
     ensures { driven result (view run.new)
         ≡ drive_of full_words most_tiles (view run.old) action motion }

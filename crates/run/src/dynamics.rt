@@ -73,6 +73,7 @@ pub(crate) fn motor(steer: f64, angle: f64) -> f64
 }
 
 // Omega after the engine.
+#[tactic(auto, unfolding(crate::specs::Rules::Dynamics::spun_of), using(crate::proofs::Literals::dt_bits, crate::proofs::Literals::engine_power_bits, crate::proofs::Literals::inertia_bits, crate::proofs::Literals::five))]
 pub(crate) fn spun(gas: f64, omega: f64) -> f64
     ensures { result ≡ spun_of gas omega }
 {
@@ -80,6 +81,7 @@ pub(crate) fn spun(gas: f64, omega: f64) -> f64
 }
 
 // The braking rule: omega after the brake.
+#[tactic(auto, unfolding(crate::specs::Rules::Dynamics::braked_of), using(crate::proofs::Literals::nine_tenths, crate::proofs::Literals::zero_bits, crate::proofs::Literals::fifteen))]
 pub fn braked(brake: f64, omega: f64) -> f64
     ensures { result ≡ braked_of brake omega }
 {
@@ -107,6 +109,7 @@ pub(crate) fn turning(w: WheelCtl) -> f64
 }
 
 // The Rust's `friction_limit`: what the ground under the wheel bears.
+#[tactic(auto, unfolding(crate::specs::Rules::Dynamics::limit_of), using(crate::proofs::Literals::friction_limit_bits, crate::proofs::Literals::one, crate::proofs::Literals::six_tenths))]
 pub(crate) fn limit(road: bool) -> f64
     ensures { result ≡ limit_of road }
 {
@@ -117,6 +120,7 @@ pub(crate) fn limit(road: bool) -> f64
 }
 
 // Whether s is so small that its root is certainly not above the limit: by the limit's square.
+#[tactic(auto, using(crate::proofs::SmallForces::small_road, crate::proofs::SmallForces::small_grass))]
 fn is_small(road: bool, s: f64) -> bool
     ensures { result ≡ true → lt (limit_of road) (sqrt_of s) ≡ false }
 {
@@ -147,6 +151,7 @@ pub(crate) fn held(road: bool, push: TyreForce) -> TyreForce
 }
 
 // What pushes at a tyre that turns at omega, before it is cut: by how its surface slips over the ground.
+#[tactic(auto, unfolding(crate::specs::Rules::Dynamics::push_of), using(crate::proofs::Literals::wheel_rad_bits, crate::proofs::Literals::stiffness_bits))]
 pub(crate) fn push(omega: f64, m: Motion) -> TyreForce
     ensures { tyre_force_as result ≡ push_of omega m }
 {
@@ -160,6 +165,7 @@ pub(crate) fn push(omega: f64, m: Motion) -> TyreForce
 
 // What one wheel's pass leaves, given how fast the wheel turns after the brake and the forces as they are cut. Phase is turned by
 // omega as the brake leaves it, before the ground acts on the wheel.
+#[tactic(auto, unfolding(crate::specs::Rules::Dynamics::finish_of), using(crate::proofs::Literals::wheel_rad_bits, crate::proofs::Literals::inertia_bits, crate::proofs::Literals::dt_bits, crate::proofs::Literals::engine_power_bits))]
 pub(crate) fn finish(w: WheelCtl, m: Motion, omega: f64, s: TyreForce, fuel: f64) -> Turned
     ensures { wheel_as result ≡ finish_of w m omega (tyre_force_as s) fuel }
 {

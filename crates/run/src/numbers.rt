@@ -62,11 +62,7 @@ impl Numbers for WheelCtl {
     }
 
     fn write(self, numbers: &mut [f64]) {
-        numbers[0] = self.gas;
-        numbers[1] = self.brake;
-        numbers[2] = self.steer;
-        numbers[3] = self.omega;
-        numbers[4] = self.phase;
+        numbers.copy_from_slice(&[self.gas, self.brake, self.steer, self.omega, self.phase]);
     }
 }
 
@@ -90,10 +86,7 @@ impl Numbers for Pose {
     }
 
     fn write(self, numbers: &mut [f64]) {
-        numbers[0] = self.x;
-        numbers[1] = self.y;
-        numbers[2] = self.cos;
-        numbers[3] = self.sin;
+        numbers.copy_from_slice(&[self.x, self.y, self.cos, self.sin]);
     }
 }
 
@@ -118,11 +111,7 @@ impl Numbers for Motion {
     }
 
     fn write(self, numbers: &mut [f64]) {
-        numbers[0] = self.joint_angle;
-        numbers[1] = self.sin;
-        numbers[2] = self.cos;
-        numbers[3] = self.vx;
-        numbers[4] = self.vy;
+        numbers.copy_from_slice(&[self.joint_angle, self.sin, self.cos, self.vx, self.vy]);
     }
 }
 
@@ -145,9 +134,7 @@ impl Numbers for Force {
     }
 
     fn write(self, numbers: &mut [f64]) {
-        numbers[0] = self.motor;
-        numbers[1] = self.fx;
-        numbers[2] = self.fy;
+        numbers.copy_from_slice(&[self.motor, self.fx, self.fy]);
     }
 }
 
@@ -164,17 +151,20 @@ pub(crate) fn read_four<T: Numbers>(numbers: &[f64], i: usize) -> [T; 4]
 }
 
 // The numbers of four wheels' records are written, one wheel after the other.
+// Kept with the place of a wheel's numbers: tried with `chunks_exact_mut` beside the records, of whose parts no proof knows what they hold
+// after the loop.
 pub(crate) fn write_four<T: Numbers>(records: [T; 4], numbers: &mut [f64])
     requires { length numbers.old ≡ 4 * T.COUNT }
     ensures { numbers.new ≡ flat_map T.list records }
 {
-    for w in 0..4 {
+    for (w, record) in records.iter().enumerate() {
         let from = w * T::COUNT;
-        records[w].write(&mut numbers[from..from + T::COUNT]);
+        record.write(&mut numbers[from..from + T::COUNT]);
     }
 }
 
 // The car that its numbers hold.
+#[tactic(auto, unfolding(crate::specs::Grader::Numbers::car_from), using(crate::proofs::NumberLaws::car_read))]
 pub fn car_from(numbers: &[f64; CAR_NUMBERS]) -> Car
     ensures value { result ≡ car_from numbers.now }
     ensures result_value { car_numbers result ≡ numbers.now }
@@ -186,6 +176,7 @@ pub fn car_from(numbers: &[f64; CAR_NUMBERS]) -> Car
 }
 
 // The car's numbers are written.
+#[tactic(auto, using(crate::proofs::NumberLaws::car_written))]
 pub fn put_car(car: Car, numbers: &mut [f64; CAR_NUMBERS])
     ensures { numbers.new ≡ car_numbers car }
 {
@@ -194,6 +185,7 @@ pub fn put_car(car: Car, numbers: &mut [f64; CAR_NUMBERS])
 }
 
 // The four poses that their numbers hold.
+#[tactic(auto, unfolding(crate::specs::Grader::Numbers::poses_at))]
 pub fn poses_from(numbers: &[f64; POSE_NUMBERS]) -> [Pose; 4]
     ensures { result ≡ poses_at numbers.now 0 }
 {
@@ -201,6 +193,7 @@ pub fn poses_from(numbers: &[f64; POSE_NUMBERS]) -> [Pose; 4]
 }
 
 // The poses' numbers are written.
+#[tactic(auto, using(crate::proofs::NumberLaws::poses_written))]
 pub fn put_poses(poses: [Pose; 4], numbers: &mut [f64; POSE_NUMBERS])
     ensures { numbers.new ≡ pose_numbers poses }
 {
@@ -208,6 +201,7 @@ pub fn put_poses(poses: [Pose; 4], numbers: &mut [f64; POSE_NUMBERS])
 }
 
 // The four wheels' motions that their numbers hold.
+#[tactic(auto, unfolding(crate::specs::Grader::Numbers::motions_from))]
 pub fn motions_from(numbers: &[f64; MOTION_NUMBERS]) -> [Motion; 4]
     ensures { result ≡ motions_from numbers.now }
 {
@@ -215,6 +209,7 @@ pub fn motions_from(numbers: &[f64; MOTION_NUMBERS]) -> [Motion; 4]
 }
 
 // The four wheels' poses of a settle, behind the hull's place.
+#[tactic(auto, unfolding(crate::specs::Grader::Numbers::poses_at))]
 pub fn settle_poses(numbers: &[f64; MOTION_NUMBERS]) -> [Pose; 4]
     ensures { result ≡ poses_from numbers.now }
 {
@@ -222,6 +217,7 @@ pub fn settle_poses(numbers: &[f64; MOTION_NUMBERS]) -> [Pose; 4]
 }
 
 // The forces' numbers are written.
+#[tactic(auto, using(crate::proofs::NumberLaws::forces_written))]
 pub fn put_forces(forces: [Force; 4], numbers: &mut [f64; FORCE_NUMBERS])
     ensures { numbers.new ≡ force_numbers forces }
 {

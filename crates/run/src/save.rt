@@ -14,7 +14,6 @@ use crate::saved::{
     POSES_AT, SEED_AT, SHARE_AT, TICK_AT, WIDE_SEED_AT,
 };
 use crate::state::{Progress, Run, Setup};
-use crate::widths::MOST_TILES;
 use crate::{numbers, saved, state};
 use course::cause::Cause;
 use form::table::Fields;
@@ -23,12 +22,12 @@ use form::{eight, number, pack, table};
 // The room of the longest form: the map, and every field but the narrow seed's four bytes, where the wide one stands (cause 2).
 pub const SAVE_ROOM: usize = 2 + ALL_BYTES - 4;
 
-// Refused by the first of the causes 4, 5 and 2 that holds; n is at most `most`.
+// Refused by the first of the causes 4, 5 and 2 that holds.
 #[tactic(auto, unfolding(crate::specs::Grader::Save::save_check))]
-fn save_check(most: u32, setup: Setup, progress: Progress, room: usize) -> Result<(), Cause>
-    ensures { result ≡ save_check most setup progress room }
+fn save_check(setup: Setup, progress: Progress, room: usize) -> Result<(), Cause>
+    ensures { result ≡ save_check most_tiles setup progress room }
 {
-    if state::is_unfit(most, setup, progress) {
+    if state::is_unfit(setup, progress) {
         return Err(Cause::State);
     }
     if progress.driven {
@@ -125,7 +124,7 @@ pub fn save(run: Run, out: &mut [u8]) -> Result<u32, Cause>
 {
     let setup = run.setup;
     let progress = run.progress;
-    save_check(MOST_TILES, setup, progress, out.len())?;
+    save_check(setup, progress, out.len())?;
     let mut full = [0u8; ALL_BYTES];
     put_fields(run, &mut full);
     let rows = saved::rows();

@@ -8,9 +8,17 @@ use crate::numbers::POSE_NUMBERS;
 use crate::quad::Stance;
 use crate::state::{Pose, Progress, Run, Setup};
 use crate::touch::Columns;
-use crate::widths::{FULL_WORDS, MOST_TILES, WHEEL_WORDS};
+use crate::widths::{FULL_WORDS, WHEEL_WORDS};
 use crate::{contact, lap, numbers, state};
 use course::cause::Cause;
+
+// Where the car stands after physics: the hull's place, and the wheels' poses.
+#[derive(Clone, Copy)]
+pub struct Places {
+    pub x: f64,
+    pub y: f64,
+    pub poses: [Pose; 4],
+}
 
 // New tiles, the course's tile count, whether the hull is off the playfield, a lap is complete, and the run has ended.
 #[derive(Clone, Copy)]
@@ -22,22 +30,21 @@ pub struct SettleValues {
     pub ended: bool,
 }
 
-// Refused by the first of the causes 4, 5, 6, 2, 8 and 10 that holds; n is at most `most`.
-#[tactic(auto, unfolding(crate::specs::Grader::Settle::settle_check, crate::specs::Grader::State::short_of, crate::specs::Rules::Arguments::places_ok))]
+// Refused by the first of the causes 4, 5, 6, 2, 8 and 10 that holds.
+#[tactic(auto, unfolding(crate::specs::Grader::Settle::settle_check, crate::specs::Grader::State::short_of, crate::specs::Rules::Arguments::places_ok), using(crate::proofs::CallLaws::cells_tell))]
 fn settle_check(
-    most: u32,
     setup: Setup,
     progress: Progress,
     columns: Columns<'_>,
-    x: f64,
-    y: f64,
+    places: Places,
     stance: &Stance,
 ) -> Result<(), Cause>
+    requires { stance.now.poses ≡ places.poses }
     ensures { result
-        ≡ settle_check most setup progress (lent_columns columns.entry) x
-        y stance.now.poses }
+        ≡ settle_check most_tiles setup progress (lent_columns columns.entry)
+        places.x places.y places.poses }
 {
-    if state::is_unfit(most, setup, progress) | progress.ended {
+    if state::is_unfit(setup, progress) | progress.ended {
         return Err(Cause::State);
     }
     if !progress.driven {
@@ -49,7 +56,7 @@ fn settle_check(
     if state::is_short(setup.n, columns.tiles.len(), columns.offsets.len()) {
         return Err(Cause::Length);
     }
-    if !((state::in_range(x) & state::in_range(y)) & state::poses_ok(stance.poses)) {
+    if !((state::in_range(places.x) & state::in_range(places.y)) & state::poses_ok(places.poses)) {
         return Err(Cause::Range);
     }
     if !columns.cells_sound(setup.n as usize, &stance.cells) {
@@ -59,6 +66,7 @@ fn settle_check(
 }
 
 // The progress after a contact with `fresh` new tiles.
+#[tactic(auto, unfolding(crate::specs::Grader::Settle::settled_progress))]
 fn settled_progress(setup: Setup, progress: Progress, fresh: u32, zero: bool, off: bool) -> Progress
     requires { (progress.visited_count + fresh < 4294967296) × (progress.tick < setup.tick_limit) }
     ensures { result ≡ settled_progress setup progress fresh zero off }
@@ -82,21 +90,19 @@ pub fn settle_parts(
     wheels: &mut [u64; WHEEL_WORDS],
     last: &mut [f64; POSE_NUMBERS],
     columns: Columns<'_>,
-    x: f64,
-    y: f64,
-    poses: [Pose; 4],
+    places: Places,
 ) -> Result<SettleValues, Cause>
     ensures { settled_poses (settled_parts result progress.new credited.new wheels.new) last.new
         ≡ settle_poses_of full_words most_tiles setup progress.old credited.old wheels.old
-        last.old (lent_columns columns.entry) x y poses }
+        last.old (lent_columns columns.entry) places.x places.y places.poses }
 {
-    let stance = Stance::at(poses);
-    settle_check(MOST_TILES, setup, *progress, columns, x, y, &stance)?;
+    let stance = Stance::at(places.poses);
+    settle_check(setup, *progress, columns, places, &stance)?;
     let c = contact::full_contact(&stance, columns, setup.n as usize, credited, wheels);
-    let off = lap::is_off(x, y);
+    let off = lap::is_off(places.x, places.y);
     let next = settled_progress(setup, *progress, c.fresh, c.zero, off);
     *progress = next;
-    numbers::put_poses(poses, last);
+    numbers::put_poses(places.poses, last);
     Ok(SettleValues {
         new_tiles: c.fresh,
         n: setup.n,
@@ -107,16 +113,11 @@ pub fn settle_parts(
 }
 
 // The contact after physics; a refusal leaves the state.
-pub fn settle(
-    run: &mut Run,
-    columns: Columns<'_>,
-    x: f64,
-    y: f64,
-    poses: [Pose; 4],
-) -> Result<SettleValues, Cause>
+#[tactic(auto, unfolding(crate::specs::Grader::State::view, crate::specs::Grader::Settle::settle_of))]
+pub fn settle(run: &mut Run, columns: Columns<'_>, places: Places) -> Result<SettleValues, Cause>
     ensures { after_settle result (view run.new)
         ≡ settle_of full_words most_tiles (view run.old)
-        (lent_columns columns.entry) x y poses }
+        (lent_columns columns.entry) places.x places.y places.poses }
 {
     settle_parts(
         run.setup,
@@ -125,8 +126,6 @@ pub fn settle(
         &mut run.wheels,
         &mut run.poses,
         columns,
-        x,
-        y,
-        poses,
+        places,
     )
 }

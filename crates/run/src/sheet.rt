@@ -5,7 +5,6 @@ ghost use Rattle.run.specs.Grader.Sheet.{share_of, sheet_of};
 
 use crate::state;
 use crate::state::{Progress, Setup};
-use crate::widths::MOST_TILES;
 use course::cause::Cause;
 
 #[repr(C)]
@@ -22,6 +21,7 @@ pub struct RunSheet {
 }
 
 // 1000 * credited / n, rounded down. In 64 bits no count is too great for the product.
+#[tactic(auto, unfolding(crate::specs::Grader::Sheet::share_of))]
 fn share(credited: u32, n: u32) -> u32
     requires { (0 < n) × (credited ≤ n) }
     ensures { result ≡ share_of credited n }
@@ -31,11 +31,11 @@ fn share(credited: u32, n: u32) -> u32
 
 // The figures of a run, ended or not; refused where its counts are not those of a run. They are read from what start fixed and what
 // settle changed.
-#[tactic(auto, unfolding(crate::specs::Grader::Sheet::sheet_of, crate::specs::Grader::Sheet::figures_of))]
+#[tactic(auto, unfolding(crate::specs::Grader::Sheet::sheet_of, crate::specs::Grader::Sheet::figures_of, crate::specs::Grader::State::unfit))]
 pub fn sheet(setup: Setup, progress: Progress) -> Result<RunSheet, Cause>
     ensures { result ≡ sheet_of most_tiles setup progress }
 {
-    if state::is_unfit(MOST_TILES, setup, progress) {
+    if state::is_unfit(setup, progress) {
         return Err(Cause::State);
     }
     Ok(RunSheet {

@@ -2,13 +2,12 @@
 ghost use Rattle.std.specs.Prelude.{◌≡◌};
 ghost use Rattle.run.specs.Grader.Widths.{full_words, most_tiles};
 ghost use Rattle.run.specs.Grader.State.{view, lent_columns};
-ghost use Rattle.run.specs.Grader.Start.{start_check, first_progress, zero_state, begun, start_of};
-ghost use Rattle.run.specs.Rules.Pass.{still_car};
+ghost use Rattle.run.specs.Grader.Start.{start_check, first_progress, begun, start_of};
 ghost use Rattle.run.specs.Rules.Arguments.{settings_ok};
 
 use crate::numbers::POSE_NUMBERS;
 use crate::quad::Stance;
-use crate::state::{Answered, Car, Pose, Progress, Run, Setup, WheelCtl};
+use crate::state::{Answered, Car, Pose, Progress, Run, Setup};
 use crate::touch::Columns;
 use crate::widths::{FULL_WORDS, MOST_TILES, WHEEL_WORDS};
 use crate::{contact, lap, numbers, state};
@@ -33,28 +32,26 @@ pub struct StartValues {
 }
 
 // Lap share and tick limit are in range (cause 1).
+#[tactic(auto, unfolding(crate::specs::Rules::Arguments::settings_ok), using(crate::proofs::Literals::zero_bits, crate::proofs::Literals::one))]
 pub(crate) fn settings_ok(share: f64, limit: u32) -> bool
     ensures { result ≡ settings_ok share limit }
 {
     ((0.0 <= share) & (share <= 1.0)) & ((1 <= limit) & (limit <= 1000000))
 }
 
-// Refused by the first of the causes 1, 2, 8 and 10 that holds; n is at most `most`.
-#[tactic(auto, unfolding(crate::specs::Grader::Start::start_check, crate::specs::Grader::Start::start_short, crate::specs::Grader::State::short_of))]
-fn start_check(
-    most: u32,
-    columns: Columns<'_>,
-    settings: Settings,
-    stance: &Stance,
-) -> Result<(), Cause>
+// Refused by the first of the causes 1, 2, 8 and 10 that holds.
+#[tactic(auto, unfolding(crate::specs::Grader::Start::start_check, crate::specs::Grader::Start::start_short, crate::specs::Grader::State::short_of), using(crate::proofs::CallLaws::cells_tell))]
+fn start_check(columns: Columns<'_>, settings: Settings, stance: &Stance) -> Result<(), Cause>
     requires { stance.now.poses ≡ settings.poses }
-    ensures { result ≡ start_check most (lent_columns columns.entry) settings }
+    ensures { result ≡ start_check most_tiles (lent_columns columns.entry) settings }
 {
     let n = settings.n;
     if !settings_ok(settings.share, settings.limit) {
         return Err(Cause::Settings);
     }
-    if state::is_short(n, columns.tiles.len(), columns.offsets.len()) | ((n < 1) | (most < n)) {
+    if state::is_short(n, columns.tiles.len(), columns.offsets.len())
+        | ((n < 1) | (MOST_TILES < n))
+    {
         return Err(Cause::Length);
     }
     if !state::poses_ok(settings.poses) {
@@ -67,58 +64,14 @@ fn start_check(
 }
 
 // Tick 0 and no drive made, with so many tiles credited.
+#[tactic(auto, unfolding(crate::specs::Grader::Start::first_progress))]
 fn first_progress(count: u32, lap: bool) -> Progress
     ensures { result ≡ first_progress count lap }
 {
     Progress {
         visited_count: count,
-        tick: 0,
         lap,
-        ended: false,
-        driven: false,
-    }
-}
-
-// Controls and fuel of 0.
-fn still_car() -> Car
-    ensures { result ≡ still_car }
-{
-    let z = WheelCtl {
-        gas: 0.0,
-        brake: 0.0,
-        steer: 0.0,
-        omega: 0.0,
-        phase: 0.0,
-    };
-    Car {
-        ctl: [z, z, z, z],
-        fuel_spent: 0.0,
-    }
-}
-
-// The state of zeros.
-pub(crate) fn zero_run() -> Run
-    ensures { view result ≡ zero_state full_words }
-{
-    let setup = Setup {
-        n: 0,
-        tick_limit: 0,
-        lap_share: 0.0,
-        fallback: false,
-    };
-    let progress = first_progress(0, false);
-    let car = still_car();
-    let credited = [0u64; FULL_WORDS];
-    let wheels = [0u64; WHEEL_WORDS];
-    let poses = [0.0; POSE_NUMBERS];
-    Run {
-        setup,
-        progress,
-        car,
-        credited,
-        wheels,
-        poses,
-        seed: 0,
+        ..Progress::default()
     }
 }
 
@@ -128,11 +81,11 @@ pub fn start(columns: Columns<'_>, settings: Settings) -> Answered<StartValues>
         ≡ start_of full_words most_tiles (lent_columns columns.entry) settings }
 {
     let stance = Stance::at(settings.poses);
-    let check = start_check(MOST_TILES, columns, settings, &stance);
+    let check = start_check(columns, settings, &stance);
     if let Err(cause) = check {
         return Answered {
             answer: Err(cause),
-            run: zero_run(),
+            run: Run::default(),
         };
     }
     let n = settings.n;
@@ -147,7 +100,7 @@ pub fn start(columns: Columns<'_>, settings: Settings) -> Answered<StartValues>
         fallback: settings.fallback,
     };
     let progress = first_progress(c.fresh, lap);
-    let car = still_car();
+    let car = Car::default();
     let mut last = [0.0; POSE_NUMBERS];
     numbers::put_poses(settings.poses, &mut last);
     let run = Run {

@@ -1,11 +1,13 @@
 // The state of a run, and the tests of arguments and states that the calls share (document 01,
 // "Refusals by cause").
 ghost use Rattle.std.specs.Prelude.{◌≡◌};
-ghost use Rattle.run.specs.Grader.State.{unfit};
+ghost use Rattle.run.specs.Grader.Widths.{full_words, most_tiles};
+ghost use Rattle.run.specs.Grader.State.{unfit, view};
+ghost use Rattle.run.specs.Grader.Start.{zero_state};
 ghost use Rattle.run.specs.Rules.Arguments.{in_range, pose_ok, poses_ok, short_columns};
 
 use crate::numbers::POSE_NUMBERS;
-use crate::widths::{FULL_WORDS, WHEEL_WORDS};
+use crate::widths::{FULL_WORDS, MOST_TILES, WHEEL_WORDS};
 use course::cause::Cause;
 use course::constants::OFFSET_COUNT;
 use course::{constants, numeric};
@@ -74,9 +76,28 @@ pub struct Run {
     pub credited: [u64; FULL_WORDS],
     pub wheels: [u64; WHEEL_WORDS],
     // The wheels' poses at the last contact, each x, y, cos, sin.
+    // Kept as numbers: the C interface lends a settle these sixteen, and so records would be made of them and written back at every settle.
     pub poses: [f64; POSE_NUMBERS],
     // The course's seed, as start was told it.
     pub seed: u64,
+}
+
+// The state of zeros.
+impl Default for Run {
+    #[tactic(auto, unfolding(crate::specs::Grader::State::view, crate::specs::Grader::Start::zero_state, crate::specs::Grader::Start::first_progress), using(crate::proofs::Zeros::still_car_is))]
+    fn default() -> Run
+        ensures { view result ≡ zero_state full_words }
+    {
+        Run {
+            setup: Setup::default(),
+            progress: Progress::default(),
+            car: Car::default(),
+            credited: [0; FULL_WORDS],
+            wheels: [0; WHEEL_WORDS],
+            poses: [0.0; POSE_NUMBERS],
+            seed: 0,
+        }
+    }
 }
 
 // A call's answer, and the state beside it: the state of zeros where the call is refused.
@@ -88,6 +109,7 @@ pub struct Answered<T> {
 }
 
 // Finite and within a million of 0 (cause 8).
+#[tactic(auto, unfolding(crate::specs::Rules::Arguments::in_range), using(crate::proofs::Literals::million))]
 pub fn in_range(x: f64) -> bool
     ensures { result ≡ in_range x }
 {
@@ -103,6 +125,7 @@ pub fn pose_ok(p: Pose) -> bool
 }
 
 // Four poses are in range.
+#[tactic(auto, unfolding(crate::specs::Rules::Arguments::poses_ok), using(crate::proofs::FourItems::all_four))]
 pub fn poses_ok(p: [Pose; 4]) -> bool
     ensures { result ≡ poses_ok p }
 {
@@ -110,6 +133,7 @@ pub fn poses_ok(p: [Pose; 4]) -> bool
 }
 
 // A column lent with a course of n points is short, by the lengths of tiles and offsets (cause 2).
+#[tactic(auto, unfolding(crate::specs::Rules::Arguments::short_columns))]
 pub fn is_short(n: u32, tiles: usize, offsets: usize) -> bool
     ensures { result ≡ short_columns n tiles offsets }
 {
@@ -118,10 +142,10 @@ pub fn is_short(n: u32, tiles: usize, offsets: usize) -> bool
     short | (offsets < OFFSET_COUNT)
 }
 
-// Cause 4 but for its ended part, where sets hold `most` tiles: the sheet's whole cause.
+// Cause 4 but for its ended part: the sheet's whole cause.
 #[tactic(auto, unfolding(crate::specs::Grader::State::unfit))]
-pub fn is_unfit(most: u32, setup: Setup, progress: Progress) -> bool
-    ensures { result ≡ unfit most setup progress }
+pub fn is_unfit(setup: Setup, progress: Progress) -> bool
+    ensures { result ≡ unfit most_tiles setup progress }
 {
-    (setup.n < 1) | (most < setup.n) | (setup.n < progress.visited_count)
+    (setup.n < 1) | (MOST_TILES < setup.n) | (setup.n < progress.visited_count)
 }

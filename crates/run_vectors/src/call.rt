@@ -2,6 +2,7 @@
 use crate::lent::Lent;
 use crate::{hash, read};
 use run::dynamics::Force;
+use run::settle::Places;
 use run::state::Run;
 use run::{drive, settle, start};
 use std::io;
@@ -70,9 +71,11 @@ pub fn replay_settle<W: Write>(
     let answer = settle::settle(
         run,
         lent.columns(record),
-        record.float(4),
-        record.float(5),
-        read::poses(record, 6),
+        Places {
+            x: record.float(4),
+            y: record.float(5),
+            poses: read::poses(record, 6),
+        },
     );
     match answer {
         Ok(v) => {
