@@ -2,7 +2,7 @@
 use mathlib.Core.Path.{sym, ◌∙◌}
 use Rattle.run.specs.Grader.State.{view}
 use Rattle.certificate.specs.Grader.Replay.{replay_of}
-use Rattle.certificate.proofs.ReplayLaws.{room-each, replayed}
+use Rattle.certificate.proofs.ReplayLaws.{replayed}
 use Rattle.certificate.proofs.replay.replay.Goals as goal
 
 pub returns-then-not-room_for : goal.returns-then-not-room_for
@@ -10,9 +10,7 @@ unfolding replay_of
 returns-then-not-room_for c = rw (sym c.room_for.ensures ∙ c.if-not-room_for.true)
 
 pub replies-requires : goal.replies-requires
-replies-requires c =
-    let r = room-each (sym c.room_for.ensures ∙ c.if-not-room_for.false) in
-    record { many_in_bounds = r.calls; many_in_bounds_2 = r.given; many_in_bounds_3 = r.words; many_in_bounds_4 = r.numbers }
+replies-requires c = sym c.room_for.ensures ∙ c.if-not-room_for.false
 
 pub returns : goal.returns
 unfolding view

@@ -1,26 +1,38 @@
 -- `certificate::replay::replies` meets its contract. Assumes nothing.
-use Rattle.std.proofs.Common.{◌*◌}
-use Rattle.certificate.proofs.CallColumnLaws.{no-reply, part-cut, one-reply, all-replies}
+use mathlib.Core.List.{List}
+use mathlib.Core.Path.{sym, ap, ◌∙◌}
+use Prim.Native.Nat.{◌/◌, ◌≤◌, ◌<◌}
+use native.Mathlib.Omega.{arith}
+use lib.ListN.{length, get_or, length-take}
+use lib.Seq.{length-take-le}
+use lib.Ieee.{Float}
+use Rattle.certificate.proofs.CallColumnLaws.{chunk_at, cut_at, room-each, no-reply, one-reply, all-replies}
 use Rattle.certificate.proofs.replay.replies.Goals as goal
 
+pub slice_bounds-call-items-end : goal.slice_bounds-call-items-end
+slice_bounds-call-items-end c = sym (length-take-le _ _ (omega (arith, c.as_chunks.ensures.front_len, (room-each c.requires).calls)))
+
 pub loop-i-init : goal.loop-i-init
-loop-i-init c = no-reply
+loop-i-init c = no-reply (room-each c.requires)
+
+pub bounds-given-i : goal.bounds-given-i
+bounds-given-i c =
+    omega (arith, c.loop-i-test.true, length-take c.args.calls.many c.as_chunks.result.0.now, c.as_chunks-2.ensures.front_len, (room-each c.requires).given)
 
 pub loop-i-preserved : goal.loop-i-preserved
 loop-i-preserved c =
     let i = c.loop-i.i in
-    let asked = part-cut (λ x. x.now) (4 * i) 4 c.args.calls.now _ c.first_chunk.ensures.cases c.unwrap.ensures in
-    let held = part-cut (λ x. x.now) (20 * i) 20 c.args.given.now _ c.first_chunk-in-loop-i.ensures.cases c.unwrap-in-loop-i.ensures in
-    one-reply c.loop-i.invariant (c.requires.many_in_bounds, (c.requires.many_in_bounds_2, (c.requires.many_in_bounds_3, c.requires.many_in_bounds_4))) c.loop-i-test.true
-    (rw (asked, held) (c.reply.ensures.run_after, (c.reply.ensures.words_after, c.reply.ensures.numbers_after)))
-
-pub shape_of-words : goal.shape_of-words
-shape_of-words c = c.loop-i.invariant.words_long
-
-pub shape_of-numbers : goal.shape_of-numbers
-shape_of-numbers c = c.loop-i.invariant.numbers-long
+    let room = room-each c.requires in
+    let b : i < c.args.calls.many = omega (arith, c.loop-i-test.true, length-take c.args.calls.many c.as_chunks.result.0.now) in
+    let g : i < length c.args.calls.numbers.now / 20 = omega (arith, b, room.given) in
+    one-reply c.loop-i.invariant room b c.reply-said.ensures
+    (cut_at 4 _ i c.args.calls.words.now _ c.as_chunks.ensures.front room.calls b)
+    (ap (λ (parts : List (List Float)). get_or parts i _) c.as_chunks-2.ensures.front ∙ chunk_at 20 _ i c.args.calls.numbers.now _ g)
+    c.copy_from_slice.ensures.after c.copy_from_slice-in-loop-i.ensures.after
 
 pub returns : goal.returns
 returns c =
-    let whole = all-replies c.loop-i.invariant c.loop-i-test.false in
+    let long : c.args.calls.many ≤ c.loop-i.i =
+    omega (arith, c.loop-i-test.false, length-take c.args.calls.many c.as_chunks.result.0.now, c.as_chunks.ensures.front_len, (room-each c.requires).calls) in
+    let whole = all-replies c.loop-i.invariant long in
     record { run_after = whole.0; words_after = whole.1.0; numbers_after = whole.1.1 }
