@@ -24,9 +24,9 @@ use Rattle.course.specs.Rules.Tiles.{number_at}
 use Rattle.run.specs.Grader.Numbers.{force_numbers, motions_from, poses_from}
 use Rattle.certificate.specs.Grader.CallColumns.{answer_words, answer_numbers, words_of, numbers_of}
 use Rattle.certificate.specs.Grader.CallColumns.{call_words, call_numbers, part_at, all_words, all_numbers}
-use Rattle.certificate.specs.Steps.Replay.{first_lent, call_from, calls_to, written, Replies}
+use Rattle.certificate.specs.Steps.Replay.{first_lent, call_from, calls_to, encoded, Replies}
 use Rattle.certificate.specs.Grader.Replay.{room_for}
-use Rattle.certificate.specs.declared.answer.Written.{Written}
+use Rattle.certificate.specs.declared.answer.Encoded.{Encoded}
 use Rattle.course.proofs.BoolLaws.{and_left, and_right}
 use Rattle.std.specs.Simd.{first_chunks}
 use Rattle.std.specs.List.{flat_map}
@@ -55,25 +55,25 @@ lent_is l k j a b e f =
     (ap (λ (n : ℕ). take n l.offsets) f ∙ take_min j l.offsets)
 
 -- by its first word a call is a drive or a settle
-pub replies-drive : (m most : ℕ) (s : State) (l : Columns) (ws : List ℕ) (g : List Float) {ms : List Motion} {r : Result (List Force) Cause} {after : State} {w : Written}
-    → eqb (get_or ws 0 0) 0 ≡ true → ms ≡ motions_from g → driven r after ≡ drive_of m most s (get_or ws 1 0) ms → w ≡ written (drive_said r)
+pub replies-drive : (m most : ℕ) (s : State) (l : Columns) (ws : List ℕ) (g : List Float) {ms : List Motion} {r : Result (List Force) Cause} {after : State} {w : Encoded}
+    → eqb (get_or ws 0 0) 0 ≡ true → ms ≡ motions_from g → driven r after ≡ drive_of m most s (get_or ws 1 0) ms → w ≡ encoded (drive_said r)
     → Replies m most s (call_from l ws g) after w
 unfolding call_from reply_of
 replies-drive m most s l ws g {ms} {r} {after} {w} t e f h =
     let q : driven r after ≡ drive_of m most s (get_or ws 1 0) (motions_from g) = f ∙ ap (drive_of m most s (get_or ws 1 0)) e in
     subst (λ (b : Bool). Replies m most s (cond b (drive (get_or ws 1 0) (motions_from g)) (settle (first_lent l (get_or ws 2 0) (get_or ws 3 0)) (number_at g 0) (number_at g 1) (poses_from g))) after w)
-    (sym t) (record { state = ap (λ (d : Driven). d.state) q; answer = h ∙ ap (λ (d : Driven). written (drive_said d.answer)) q })
+    (sym t) (record { state = ap (λ (d : Driven). d.state) q; answer = h ∙ ap (λ (d : Driven). encoded (drive_said d.answer)) q })
 
-pub replies-settle : (m most : ℕ) (s : State) (l : Columns) (ws : List ℕ) (g : List Float) {k : Columns} {ps : List Pose} {a : Result SettleValues Cause} {after : State} {w : Written}
+pub replies-settle : (m most : ℕ) (s : State) (l : Columns) (ws : List ℕ) (g : List Float) {k : Columns} {ps : List Pose} {a : Result SettleValues Cause} {after : State} {w : Encoded}
     → eqb (get_or ws 0 0) 0 ≡ false → k ≡ first_lent l (get_or ws 2 0) (get_or ws 3 0) → ps ≡ poses_from g
-    → after_settle a after ≡ settle_of m most s k (number_at g 0) (number_at g 1) ps → w ≡ written (settle_said a)
+    → after_settle a after ≡ settle_of m most s k (number_at g 0) (number_at g 1) ps → w ≡ encoded (settle_said a)
     → Replies m most s (call_from l ws g) after w
 unfolding call_from reply_of
 replies-settle m most s l ws g {k} {ps} {a} {after} {w} t i e f h =
     let q : after_settle a after ≡ settle_of m most s (first_lent l (get_or ws 2 0) (get_or ws 3 0)) (number_at g 0) (number_at g 1) (poses_from g) =
     f ∙ ap₂ (λ (x : Columns) (y : List Pose). settle_of m most s x (number_at g 0) (number_at g 1) y) i e in
     subst (λ (b : Bool). Replies m most s (cond b (drive (get_or ws 1 0) (motions_from g)) (settle (first_lent l (get_or ws 2 0) (get_or ws 3 0)) (number_at g 0) (number_at g 1) (poses_from g))) after w)
-    (sym t) (record { state = ap (λ (d : AfterSettle). d.state) q; answer = h ∙ ap (λ (d : AfterSettle). written (settle_said d.answer)) q })
+    (sym t) (record { state = ap (λ (d : AfterSettle). d.state) q; answer = h ∙ ap (λ (d : AfterSettle). encoded (settle_said d.answer)) q })
 
 -- ---- a call more at the end of a list
 
@@ -203,7 +203,7 @@ no-reply room = record { upto = omega arith; words_room = room.words; numbers_ro
 
 module _ {m most : ℕ} {l : Columns} {calls : List ℕ} {given : List Float} {s₀ : State} {W₀ : List ℕ} {N₀ : List Float} {many : ℕ} {s : State} {W : List ℕ} {N : List Float} {i : ℕ}
     (h : Replying m most l calls given s₀ W₀ N₀ many s W N i) where
-  pub one-reply : {after : State} {w : Written} {x : List ℕ} {y : List Float} {p : List ℕ} {q : List Float} → Room many (length calls) (length given) (length W₀) (length N₀) → i < many
+  pub one-reply : {after : State} {w : Encoded} {x : List ℕ} {y : List Float} {p : List ℕ} {q : List Float} → Room many (length calls) (length given) (length W₀) (length N₀) → i < many
       → Replies m most s (call_from l x y) after w → x ≡ part_at call_words calls i → y ≡ part_at call_numbers given i → p ≡ w.words → q ≡ w.numbers
       → Replying m most l calls given s₀ W₀ N₀ many after (take (4 * i) W ++ (p ++ drop (4 * i + 4 - 4 * i) (drop (4 * i) W))) (take (12 * i) N ++ (q ++ drop (12 * i + 12 - 12 * i) (drop (12 * i) N))) (i + 1)
   unfolding calls_to
@@ -216,9 +216,9 @@ module _ {m most : ℕ} {l : Columns} {calls : List ℕ} {given : List Float} {s
       subst (λ (z : State). Replies m most z c after w) h.state (subst (λ (z : Call). Replies m most s z after w) (ap₂ (call_from l) ex ey) a) in
       let more : calls_to l calls given (i + 1) ≡ was ++ (c ∷ []) = ap (calls_to l calls given) (add-one i) in
       let answers : said ++ (r ∷ []) ≡ answers_to m most s₀ l calls given (i + 1) = sym (ap (replies_of m most s₀) more ∙ replies-more m most s₀ was c) in
-      let ws = one-more words_of 4 words-four i said r p W W₀ (answers-long m most s₀ l calls given i) (ep ∙ ap (λ (z : Written). z.words) now.answer) h.words
+      let ws = one-more words_of 4 words-four i said r p W W₀ (answers-long m most s₀ l calls given i) (ep ∙ ap (λ (z : Encoded). z.words) now.answer) h.words
       ∙ ap (λ (x : List Answer). all_words x ++ drop (4 * (i + 1)) W₀) answers in
-      let ns = one-more numbers_of 12 numbers-twelve i said r q N N₀ (answers-long m most s₀ l calls given i) (eq ∙ ap (λ (z : Written). z.numbers) now.answer) h.numbers
+      let ns = one-more numbers_of 12 numbers-twelve i said r q N N₀ (answers-long m most s₀ l calls given i) (eq ∙ ap (λ (z : Encoded). z.numbers) now.answer) h.numbers
       ∙ ap (λ (x : List Answer). all_numbers x ++ drop (12 * (i + 1)) N₀) answers in
       let next = answers_to m most s₀ l calls given (i + 1) in
       record {

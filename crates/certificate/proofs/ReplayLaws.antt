@@ -329,13 +329,14 @@ module _ (seed : ℕ) (l : course.CourseColumns) (b : Opening) (n : ℕ) (calls 
 
 -- what each call of a replay leaves, where there is room for the calls told and their answers
 pub record ReplayCalls (seed : ℕ) (l : course.CourseColumns) (b : Opening) (n : ℕ) (calls : List ℕ) (given : List Float) (words : List ℕ) (numbers : List Float)
-    (o : Outcome) (v : LaidCourse) (sa : Result StartValues Cause) (s last : State) (sh : Result RunSheet Cause) (words' : List ℕ) (numbers' : List Float) : Type 0 where
+    (o : Outcome) (v : LaidCourse) (a : Settings) (sa : Result StartValues Cause) (s last : State) (sh : Result RunSheet Cause) (words' : List ℕ) (numbers' : List Float) : Type 0 where
   pub room : room_for n (length calls) (length given) (length words) (length numbers) ≡ true
   pub laid : o ≡ lay_call max_attempts seed l
   pub tiles : length o.lent.tiles ≡ length l.tiles
   pub offsets : length o.lent.offsets ≡ length l.offsets
   pub values : v ≡ laid_values_of o.answer
-  pub start : begun sa s ≡ start_of full_words most_tiles (columns_of o) (settings_for v.n (record { fallback = v.fallback; seed = seed }) b)
+  pub settings : a ≡ settings_for v.n (record { fallback = v.fallback; seed = seed }) b
+  pub start : begun sa s ≡ start_of full_words most_tiles (columns_of o) a
   pub state : last ≡ state_after full_words most_tiles s (calls_to (columns_of o) calls given n)
   pub answered : words' ≡ all_words (replies_of full_words most_tiles s (calls_to (columns_of o) calls given n)) ++ drop (answer_words * n) words
   pub numbered : numbers' ≡ all_numbers (replies_of full_words most_tiles s (calls_to (columns_of o) calls given n)) ++ drop (answer_numbers * n) numbers
@@ -343,13 +344,13 @@ pub record ReplayCalls (seed : ℕ) (l : course.CourseColumns) (b : Opening) (n 
 
 -- all that the replay leaves
 pub replayed : {seed : ℕ} {l : course.CourseColumns} {b : Opening} {n : ℕ} {calls : List ℕ} {given : List Float} {words : List ℕ} {numbers : List Float}
-    {o : Outcome} {v : LaidCourse} {sa : Result StartValues Cause} {s last : State} {sh : Result RunSheet Cause} {words' : List ℕ} {numbers' : List Float}
-    → ReplayCalls seed l b n calls given words numbers o v sa s last sh words' numbers'
+    {o : Outcome} {v : LaidCourse} {a : Settings} {sa : Result StartValues Cause} {s last : State} {sh : Result RunSheet Cause} {words' : List ℕ} {numbers' : List Float}
+    → ReplayCalls seed l b n calls given words numbers o v a sa s last sh words' numbers'
     → record { laid = o.answer; start = sa; sheet = sh; lent = o.lent; words = words'; numbers = numbers' } ≡ replay_of seed l b n calls given words numbers
 unfolding replay_of replay_on
-replayed {seed} {l} {b} {n} {calls} {given} {words} {numbers} {o} {v} {sa} {s} h =
+replayed {seed} {l} {b} {n} {calls} {given} {words} {numbers} {o} {v} {a} {sa} {s} h =
     let p = replay-plain seed l b n calls given (lay_number seed l) refl o h.laid h.tiles h.offsets sa s
-    (h.start ∙ (λ i. start_of full_words most_tiles (columns_of o) (settings_for (h.values i).n (record { fallback = (h.values i).fallback; seed = seed }) b))) in
+    (h.start ∙ ap (start_of full_words most_tiles (columns_of o)) h.settings ∙ (λ i. start_of full_words most_tiles (columns_of o) (settings_for (h.values i).n (record { fallback = (h.values i).fallback; seed = seed }) b))) in
     rw h.room (λ i.
     record {
       laid = (h.laid i).answer;

@@ -4,7 +4,7 @@ ghost use Rattle.std.specs.Prelude.{◌≡◌};
 ghost use Rattle.certificate.specs.Rules.Answers.Answer.{refused};
 ghost use Rattle.certificate.specs.Grader.Calls.{drive_said, settle_said};
 ghost use Rattle.course.specs.Grader.Cause.{number_of};
-ghost use Rattle.certificate.specs.Steps.Replay.{written};
+ghost use Rattle.certificate.specs.Steps.Replay.{encoded};
 
 use crate::replay::{ANSWER_NUMBERS, ANSWER_WORDS};
 use course::cause::Cause;
@@ -15,33 +15,33 @@ use run::settle::SettleValues;
 
 // The words and numbers of an answer, a value of its own for every answer.
 #[derive(Clone, Copy)]
-pub(crate) struct Written {
+pub(crate) struct Encoded {
     pub words: [u32; ANSWER_WORDS],
     pub numbers: [f64; ANSWER_NUMBERS],
 }
 
 // A refusal by a cause, which has no numbers.
 #[tactic(auto, unfolding(crate::specs::Grader::CallColumns::words_of, crate::specs::Grader::CallColumns::numbers_of))]
-fn refusal(cause: Cause) -> Written
-    ensures { result ≡ written (refused (number_of cause)) }
+fn refusal(cause: Cause) -> Encoded
+    ensures { result ≡ encoded (refused (number_of cause)) }
 {
-    Written {
+    Encoded {
         words: [2, cause.number(), 0, 0],
         numbers: [0.0; ANSWER_NUMBERS],
     }
 }
 
-impl From<Result<[Force; 4], Cause>> for Written {
-    ghost from_gives = { λ answer result. result ≡ written (drive_said answer) };
+impl From<Result<[Force; 4], Cause>> for Encoded {
+    ghost from_gives = { λ answer result. result ≡ encoded (drive_said answer) };
 
     // The answer to a drive.
     #[tactic(auto, unfolding(crate::specs::Grader::CallColumns::words_of, crate::specs::Grader::CallColumns::numbers_of))]
-    fn from(answer: Result<[Force; 4], Cause>) -> Written {
+    fn from(answer: Result<[Force; 4], Cause>) -> Encoded {
         match answer {
             Ok(forces) => {
                 let mut numbers = [0.0; ANSWER_NUMBERS];
                 numbers::put_forces(forces, &mut numbers);
-                Written {
+                Encoded {
                     words: [0; ANSWER_WORDS],
                     numbers,
                 }
@@ -51,14 +51,14 @@ impl From<Result<[Force; 4], Cause>> for Written {
     }
 }
 
-impl From<Result<SettleValues, Cause>> for Written {
-    ghost from_gives = { λ answer result. result ≡ written (settle_said answer) };
+impl From<Result<SettleValues, Cause>> for Encoded {
+    ghost from_gives = { λ answer result. result ≡ encoded (settle_said answer) };
 
     // The answer to a settle.
     #[tactic(auto, unfolding(crate::specs::Grader::CallColumns::words_of, crate::specs::Grader::CallColumns::numbers_of, run::specs::Grader::Saved::flags_of))]
-    fn from(answer: Result<SettleValues, Cause>) -> Written {
+    fn from(answer: Result<SettleValues, Cause>) -> Encoded {
         match answer {
-            Ok(v) => Written {
+            Ok(v) => Encoded {
                 words: [1, v.new_tiles, v.n, flags_of(v.off, v.lap, v.ended)],
                 numbers: [0.0; ANSWER_NUMBERS],
             },

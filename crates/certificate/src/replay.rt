@@ -7,9 +7,10 @@ ghost use Rattle.certificate.specs.Grader.Calls.{replies_of, state_after};
 ghost use Rattle.certificate.specs.Grader.CallColumns.{answer_words, answer_numbers, all_words, all_numbers};
 ghost use Rattle.certificate.specs.Steps.Replay.{first_lent, call_from, calls_to, Replies};
 ghost use Rattle.certificate.specs.Grader.Replay.{room_for, replay, replay_of};
+ghost use Rattle.certificate.specs.Claim.Certificate.{settings_for};
 ghost use Rattle.course.specs.Grader.Outcome.{lent_to, left_by};
 
-use crate::answer::Written;
+use crate::answer::Encoded;
 use course::cause::Cause;
 use course::lent::LentColumns;
 use course::points::{LaidCourse, LayError};
@@ -35,6 +36,25 @@ pub struct Opening {
     pub share: f64,
     pub limit: u32,
     pub poses: [Pose; 4],
+}
+
+impl Opening {
+    // What start is told on a seed's course.
+    fn on(self, course: LaidCourse, seed: u64) -> Settings
+        ensures { result
+            ≡ settings_for course.n (record { fallback = course.fallback; seed = seed })
+            (record { share = self.share; limit = self.limit; poses = self.poses }) }
+    {
+        let poses = self.poses;
+        Settings {
+            n: course.n,
+            fallback: course.fallback,
+            seed,
+            share: self.share,
+            limit: self.limit,
+            poses,
+        }
+    }
 }
 
 // So many calls, as a host lends them: four words and twenty numbers each, one call after the other.
@@ -80,22 +100,23 @@ fn reply(
     columns: Columns<'_>,
     asked: &[u32; CALL_WORDS],
     given: &[f64; CALL_NUMBERS],
-) -> Written
+) -> Encoded
     ensures { Replies full_words most_tiles (view run.old)
         (call_from (lent_columns columns.entry) asked.now
         given.now) (view run.new) result }
 {
     if asked[0] == 0 {
         let motions = numbers::motions_from(given);
-        return Written::from(drive::drive(run, asked[1], motions));
+        return Encoded::from(drive::drive(run, asked[1], motions));
     }
     let lent = first_lent(columns, asked[2], asked[3]);
     let poses = numbers::settle_poses(given);
-    Written::from(settle::settle(run, lent, given[0], given[1], poses))
+    Encoded::from(settle::settle(run, lent, given[0], given[1], poses))
 }
 
 // All calls in their order, each on the state that the one before it left, and their answers.
-// Kept by index on the answers' side: of what a slice ends as after `as_chunks_mut` or `chunks_exact_mut` the library says nothing.
+// Kept by index where answers are written: the library says nothing of what a slice ends as after `as_chunks_mut` or `chunks_exact_mut`,
+// and that a part by `first_chunk_mut` is the slice's own did not prove.
 fn replies(run: &mut Run, columns: Columns<'_>, calls: CallColumns<'_>, answers: AnswerColumns<'_>)
     requires { room_for calls.many (length calls.words.now)
         (length calls.numbers.now) (length answers.words.now)
@@ -194,20 +215,7 @@ pub fn replay(
         offsets,
         list,
     };
-    let Opening {
-        share,
-        limit,
-        poses,
-    } = opening;
-    let settings = Settings {
-        n: course.n,
-        fallback: course.fallback,
-        seed,
-        share,
-        limit,
-        poses,
-    };
-    let s = start::start(columns, settings);
+    let s = start::start(columns, opening.on(course, seed));
     let begun = s.answer;
     let mut run = s.run;
     replies(&mut run, columns, calls, AnswerColumns { words, numbers });

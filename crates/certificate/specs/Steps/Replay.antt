@@ -7,7 +7,7 @@ use Rattle.certificate.specs.Grader.Calls.Call.{drive, settle}
 use Rattle.course.specs.Rules.Tiles.{number_at}
 use Rattle.run.specs.Grader.Numbers.{motions_from, poses_from}
 use Rattle.certificate.specs.Grader.CallColumns.{call_words, call_numbers, part_at, words_of, numbers_of}
-use Rattle.certificate.specs.declared.answer.Written.{Written}
+use Rattle.certificate.specs.declared.answer.Encoded.{Encoded}
 
 -- the first of the lent tiles and offsets, and the whole list
 unfoldable pub first_lent : Columns → ℕ → ℕ → Columns
@@ -25,10 +25,10 @@ calls_to l ws ns zero = []
 calls_to l ws ns (suc k) = calls_to l ws ns k ++ (call_from l (part_at call_words ws k) (part_at call_numbers ns k) ∷ [])
 
 -- an answer as it stands in its columns
-abbrev pub written : Answer → Written
-written a = record { words = words_of a; numbers = numbers_of a }
+abbrev pub encoded : Answer → Encoded
+encoded a = record { words = words_of a; numbers = numbers_of a }
 
 -- what a call leaves: the state, and its answer as it is written
-pub record Replies (m most : ℕ) (s : State) (c : Call) (after : State) (w : Written) : Type 0 where
+pub record Replies (m most : ℕ) (s : State) (c : Call) (after : State) (w : Encoded) : Type 0 where
   pub state : after ≡ (reply_of m most s c).state
-  pub answer : w ≡ written (reply_of m most s c).answer
+  pub answer : w ≡ encoded (reply_of m most s c).answer

@@ -23,6 +23,7 @@ returns c =
       offsets = c.lay-laid.auto.cols.1.1.1.1.1.0;
       values = c.laid_values-course.ensures;
       start = c.start-s.ensures;
+      settings = c.on.ensures;
       state = c.replies.ensures.run_after;
       answered = c.replies.ensures.words_after;
       numbered = c.replies.ensures.numbers_after;
