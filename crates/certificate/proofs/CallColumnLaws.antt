@@ -1,30 +1,23 @@
 -- Calls and answers in columns: what is written over a column, and a list of calls with one more at its end. Assumes nothing.
 use mathlib.Core.Path.{◌≡◌, refl, sym, ap, ap₂, ◌∙◌, subst}
 use mathlib.Core.List.{List, [], ◌∷◌, ◌++◌, append_assoc}
-use mathlib.Core.Bool.{Bool, true, false, cond, ◌&&◌}
-use Prim.Native.Nat.{ℕ, zero, suc, ◌+◌, ◌-◌, ◌*◌, ◌/◌, ◌≤◌, ◌<◌, min}
+use mathlib.Core.Bool.{true, ◌&&◌}
+use Prim.Native.Nat.{ℕ, zero, suc, ◌+◌, ◌-◌, ◌*◌, ◌/◌, ◌≤◌, ◌<◌}
 use native.Mathlib.Omega.{arith}
-use native.Mathlib.Nat.{zero-min, min-zero, suc-min-suc}
 use Rattle.std.proofs.Math.Nat.{mul-zero, mul-suc, mul_comm}
 use Rattle.std.proofs.lemmas.Nat.{le-div}
 use native.Mathlib.Numerals.{add-one}
-use lib.Dec.{eqb, leb}
+use lib.Dec.{leb}
 use borrow.Author.Tests.{leb-true}
 use lib.ListN.{length, get_or, take, drop, length-append, length-drop}
 use lib.Seq.{take_at, drop_at, drop-drop}
 use lib.Ieee.{Float}
-use Rattle.std.specs.Prelude.{Result}
-use Rattle.course.specs.declared.cause.Cause.{Cause}
-use Rattle.run.specs.Grader.State.{State, Columns, columns}
-use Rattle.run.specs.Grader.Drive.{Driven, driven, drive_of}
-use Rattle.run.specs.Grader.Settle.{AfterSettle, after_settle, settle_of}
-use Rattle.certificate.specs.Grader.Calls.{Call, drive_said, settle_said, reply_of, replies_of, state_after}
-use Rattle.certificate.specs.Grader.Calls.Call.{drive, settle}
-use Rattle.course.specs.Rules.Tiles.{number_at}
-use Rattle.run.specs.Grader.Numbers.{force_numbers, motions_from, poses_from}
+use Rattle.run.specs.Grader.State.{State, Columns}
+use Rattle.certificate.specs.Grader.Calls.{Call, reply_of, replies_of, state_after}
+use Rattle.run.specs.Grader.Numbers.{force_numbers}
 use Rattle.certificate.specs.Grader.CallColumns.{answer_words, answer_numbers, words_of, numbers_of}
 use Rattle.certificate.specs.Grader.CallColumns.{call_words, call_numbers, part_at, all_words, all_numbers}
-use Rattle.certificate.specs.Steps.Replay.{first_lent, call_from, calls_to, encoded, Replies}
+use Rattle.certificate.specs.Steps.Replay.{call_from, calls_to, Replies}
 use Rattle.certificate.specs.Grader.Replay.{room_for}
 use Rattle.certificate.specs.declared.answer.Encoded.{Encoded}
 use Rattle.course.proofs.BoolLaws.{and_left, and_right}
@@ -33,47 +26,6 @@ use Rattle.std.specs.List.{flat_map}
 use Rattle.std.proofs.lemmas.List.{flat_map_more, get_or-take}
 use Rattle.certificate.specs.Rules.Answers.{Answer}
 use Rattle.certificate.specs.Rules.Answers.Answer.{drove, settled, refused}
-use Rattle.run.specs.declared.state.Pose.{Pose}
-use Rattle.run.specs.declared.dynamics.Motion.{Motion}
-use Rattle.run.specs.declared.settle.SettleValues.{SettleValues}
-use Rattle.run.specs.declared.dynamics.Force.{Force}
-
--- ---- one call
-
--- a length past the end asks for all that there is
-take_min : {A : Type 0} (k : ℕ) (l : List A) → take (min k (length l)) l ≡ take k l
-take_min zero l = ap (λ (n : ℕ). take n l) (zero-min (length l))
-take_min (suc k) [] = ap (λ (n : ℕ). take n []) (min-zero (suc k))
-take_min {A} (suc k) (x ∷ xs) = ap (λ (n : ℕ). take n (x ∷ xs)) (suc-min-suc k (length xs)) ∙ ap (λ (r : List A). x ∷ r) (take_min k xs)
-
-pub lent_is : (l : Columns) (k j a b : ℕ) → a ≡ min k (length l.tiles) → b ≡ min j (length l.offsets)
-    → columns (take a l.tiles) (take b l.offsets) l.list ≡ first_lent l k j
-unfolding first_lent
-lent_is l k j a b e f =
-    ap₂ (λ (t : List Float) (o : List ℕ). columns t o l.list)
-    (ap (λ (n : ℕ). take n l.tiles) e ∙ take_min k l.tiles)
-    (ap (λ (n : ℕ). take n l.offsets) f ∙ take_min j l.offsets)
-
--- by its first word a call is a drive or a settle
-pub replies-drive : (m most : ℕ) (s : State) (l : Columns) (ws : List ℕ) (g : List Float) {ms : List Motion} {r : Result (List Force) Cause} {after : State} {w : Encoded}
-    → eqb (get_or ws 0 0) 0 ≡ true → ms ≡ motions_from g → driven r after ≡ drive_of m most s (get_or ws 1 0) ms → w ≡ encoded (drive_said r)
-    → Replies m most s (call_from l ws g) after w
-unfolding call_from reply_of
-replies-drive m most s l ws g {ms} {r} {after} {w} t e f h =
-    let q : driven r after ≡ drive_of m most s (get_or ws 1 0) (motions_from g) = f ∙ ap (drive_of m most s (get_or ws 1 0)) e in
-    subst (λ (b : Bool). Replies m most s (cond b (drive (get_or ws 1 0) (motions_from g)) (settle (first_lent l (get_or ws 2 0) (get_or ws 3 0)) (number_at g 0) (number_at g 1) (poses_from g))) after w)
-    (sym t) (record { state = ap (λ (d : Driven). d.state) q; answer = h ∙ ap (λ (d : Driven). encoded (drive_said d.answer)) q })
-
-pub replies-settle : (m most : ℕ) (s : State) (l : Columns) (ws : List ℕ) (g : List Float) {k : Columns} {ps : List Pose} {a : Result SettleValues Cause} {after : State} {w : Encoded}
-    → eqb (get_or ws 0 0) 0 ≡ false → k ≡ first_lent l (get_or ws 2 0) (get_or ws 3 0) → ps ≡ poses_from g
-    → after_settle a after ≡ settle_of m most s k (number_at g 0) (number_at g 1) ps → w ≡ encoded (settle_said a)
-    → Replies m most s (call_from l ws g) after w
-unfolding call_from reply_of
-replies-settle m most s l ws g {k} {ps} {a} {after} {w} t i e f h =
-    let q : after_settle a after ≡ settle_of m most s (first_lent l (get_or ws 2 0) (get_or ws 3 0)) (number_at g 0) (number_at g 1) (poses_from g) =
-    f ∙ ap₂ (λ (x : Columns) (y : List Pose). settle_of m most s x (number_at g 0) (number_at g 1) y) i e in
-    subst (λ (b : Bool). Replies m most s (cond b (drive (get_or ws 1 0) (motions_from g)) (settle (first_lent l (get_or ws 2 0) (get_or ws 3 0)) (number_at g 0) (number_at g 1) (poses_from g))) after w)
-    (sym t) (record { state = ap (λ (d : AfterSettle). d.state) q; answer = h ∙ ap (λ (d : AfterSettle). encoded (settle_said d.answer)) q })
 
 -- ---- a call more at the end of a list
 

@@ -81,6 +81,7 @@ pub struct Replayed {
 }
 
 // The first of the lent tiles and offsets, as many as are asked for and there are, and the whole list.
+#[tactic(auto, unfolding(crate::specs::Steps::Replay::first_lent))]
 fn first_lent(columns: Columns<'_>, tiles: u32, offsets: u32) -> Columns<'_>
     ensures { lent_columns result ≡ first_lent (lent_columns columns.entry) tiles offsets }
 {
@@ -95,6 +96,7 @@ fn first_lent(columns: Columns<'_>, tiles: u32, offsets: u32) -> Columns<'_>
 
 // The call that four words and twenty numbers hold, and its answer.
 // Kept as a number: the first word of a call stands in a column of numbers that the C interface lends.
+#[tactic(auto, unfolding(crate::specs::Steps::Replay::call_from, crate::specs::Grader::Calls::reply_of))]
 fn reply(
     run: &mut Run,
     columns: Columns<'_>,
@@ -117,6 +119,7 @@ fn reply(
 // All calls in their order, each on the state that the one before it left, and their answers.
 // Kept by index where answers are written: the library says nothing of what a slice ends as after `as_chunks_mut` or `chunks_exact_mut`,
 // and that a part by `first_chunk_mut` is the slice's own did not prove.
+#[tactic(auto, unfolding(crate::specs::Grader::Replay::room_for))]
 fn replies(run: &mut Run, columns: Columns<'_>, calls: CallColumns<'_>, answers: AnswerColumns<'_>)
     requires { room_for calls.many (length calls.words.now)
         (length calls.numbers.now) (length answers.words.now)
@@ -165,6 +168,7 @@ fn room_for(calls: CallColumns<'_>, words: usize, numbers: usize) -> bool
 
 // Lays the seed's course, starts a run on it with its n, and answers so many calls. Refused by 2, before anything is laid, where a
 // column of calls or answers is short. Where lay is refused, so is the start, and after a refused start every call.
+#[tactic(auto, unfolding(crate::specs::Grader::Replay::replay_of))]
 pub fn replay(
     seed: u64,
     cols: LentColumns<'_>,

@@ -1,16 +1,8 @@
 -- `certificate::replay::replay` meets its contract. Assumes nothing.
 use mathlib.Core.Path.{sym, ◌∙◌}
 use Rattle.run.specs.Grader.State.{view}
-use Rattle.certificate.specs.Grader.Replay.{replay_of}
 use Rattle.certificate.proofs.ReplayLaws.{replayed}
 use Rattle.certificate.proofs.replay.replay.Goals as goal
-
-pub returns-then-not-room_for : goal.returns-then-not-room_for
-unfolding replay_of
-returns-then-not-room_for c = rw (sym c.room_for.ensures ∙ c.if-not-room_for.true)
-
-pub replies-requires : goal.replies-requires
-replies-requires c = sym c.room_for.ensures ∙ c.if-not-room_for.false
 
 pub returns : goal.returns
 unfolding view

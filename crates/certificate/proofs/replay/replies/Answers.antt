@@ -1,23 +1,15 @@
 -- `certificate::replay::replies` meets its contract. Assumes nothing.
 use mathlib.Core.List.{List}
-use mathlib.Core.Path.{sym, ap, ◌∙◌}
+use mathlib.Core.Path.{ap, ◌∙◌}
 use Prim.Native.Nat.{◌/◌, ◌≤◌, ◌<◌}
 use native.Mathlib.Omega.{arith}
 use lib.ListN.{length, get_or, length-take}
-use lib.Seq.{length-take-le}
 use lib.Ieee.{Float}
 use Rattle.certificate.proofs.CallColumnLaws.{chunk_at, cut_at, room-each, no-reply, one-reply, all-replies}
 use Rattle.certificate.proofs.replay.replies.Goals as goal
 
-pub slice_bounds-call-items-end : goal.slice_bounds-call-items-end
-slice_bounds-call-items-end c = sym (length-take-le _ _ (omega (arith, c.as_chunks.ensures.front_len, (room-each c.requires).calls)))
-
 pub loop-i-init : goal.loop-i-init
 loop-i-init c = no-reply (room-each c.requires)
-
-pub bounds-given-i : goal.bounds-given-i
-bounds-given-i c =
-    omega (arith, c.loop-i-test.true, length-take c.args.calls.many c.as_chunks.result.0.now, c.as_chunks-2.ensures.front_len, (room-each c.requires).given)
 
 pub loop-i-preserved : goal.loop-i-preserved
 loop-i-preserved c =
