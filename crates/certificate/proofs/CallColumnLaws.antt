@@ -4,12 +4,12 @@ use mathlib.Core.List.{List, [], ◌∷◌, ◌++◌, append_assoc}
 use mathlib.Core.Bool.{true, ◌&&◌}
 use Prim.Native.Nat.{ℕ, zero, suc, ◌+◌, ◌-◌, ◌*◌, ◌/◌, ◌≤◌, ◌<◌}
 use native.Mathlib.Omega.{arith}
-use Rattle.std.proofs.Math.Nat.{mul-zero, mul-suc, mul_comm}
+use Rattle.std.proofs.Math.Nat.{mul-zero, mul-suc}
 use Rattle.std.proofs.lemmas.Nat.{le-div}
 use native.Mathlib.Numerals.{add-one}
 use lib.Dec.{leb}
 use borrow.Author.Tests.{leb-true}
-use lib.ListN.{length, get_or, take, drop, length-append, length-drop}
+use lib.ListN.{length, get_or, take, drop, length-append}
 use lib.Seq.{take_at, drop_at, drop-drop}
 use lib.Ieee.{Float}
 use Rattle.run.specs.Grader.State.{State, Columns}
@@ -74,9 +74,9 @@ chunk_at {A} k (suc n) zero l d h = ap (λ (j : ℕ). take k (drop j l)) (sym (m
 chunk_at {A} k (suc n) (suc i) l d h =
     chunk_at k n i (drop k l) d (omega (arith, h)) ∙ ap (take k) (drop-drop (k * i) k l ∙ ap (λ (j : ℕ). drop j l) (omega (arith, mul-suc k i)))
 
--- part i of the first n of them
-pub cut_at : {A : Type 0} (k n i : ℕ) (l d : List A) {q : ℕ} {parts : List (List A)} → parts ≡ first_chunks k q l → n ≤ q → i < n → get_or (take n parts) i d ≡ part_at k l i
-cut_at {A} k n i l d {q} {parts} e b h = get_or-take n parts i d h ∙ ap (λ (ps : List (List A)). get_or ps i d) e ∙ chunk_at k q i l d (omega (arith, b, h))
+-- part i of the first n of those that a column was cut into
+pub cut_at : {A : Type 0} (k n i : ℕ) (l d : List A) {q : ℕ} {parts : List (List A)} → parts ≡ first_chunks k q l → i < n → i < q → get_or (take n parts) i d ≡ part_at k l i
+cut_at {A} k n i l d {q} {parts} e b h = get_or-take n parts i d b ∙ ap (λ (ps : List (List A)). get_or ps i d) e ∙ chunk_at k q i l d h
 
 -- a part more behind what is written
 part-more : {A : Type 0} (a k b : ℕ) (front p col col₀ : List A) → length front ≡ a → col ≡ front ++ drop a col₀ → a + k ≡ b
@@ -96,11 +96,6 @@ module _ {A : Type 0} (f : Answer → List A) (k : ℕ) (each : (r : Answer) →
   all-long [] = sym (mul-zero k)
   all-long (r ∷ rs) = length-append (f r) (flat_map f rs) ∙ ap₂ (λ (a b : ℕ). a + b) (each r) (all-long rs) ∙ omega (arith, mul-suc k (length rs))
 
-  -- the column is as long as it was
-  column-long : (i : ℕ) (rs : List Answer) (col col₀ : List A) → length rs ≡ i → col ≡ flat_map f rs ++ drop (k * i) col₀ → k * i ≤ length col₀ → length col ≡ length col₀
-  column-long i rs col col₀ e h b =
-      ap length h ∙ length-append (flat_map f rs) (drop (k * i) col₀) ∙ omega (arith, all-long rs ∙ ap (λ (n : ℕ). k * n) e, length-drop (k * i) col₀, b)
-
   -- one more behind them
   one-more : (i : ℕ) (rs : List Answer) (r : Answer) (p col col₀ : List A) → length rs ≡ i → p ≡ f r → col ≡ flat_map f rs ++ drop (k * i) col₀
       → take (k * i) col ++ (p ++ drop (k * i + k - k * i) (drop (k * i) col)) ≡ flat_map f (rs ++ (r ∷ [])) ++ drop (k * (i + 1)) col₀
@@ -108,27 +103,14 @@ module _ {A : Type 0} (f : Answer → List A) (k : ℕ) (each : (r : Answer) →
       part-more (k * i) k (k * (i + 1)) (flat_map f rs) p col col₀ (all-long rs ∙ ap (λ (n : ℕ). k * n) e) h (sym (ap (λ (n : ℕ). k * n) (add-one i) ∙ mul-suc k i))
       ∙ ap (λ (x : List A). x ++ drop (k * (i + 1)) col₀) (ap (λ (x : List A). flat_map f rs ++ x) q ∙ flat_map_more f [] rs r)
 
--- room for n calls, column by column; those of calls are read in parts
-pub record Room (n c g w v : ℕ) : Type 0 where
-  pub calls : n ≤ c / call_words
-  pub given : n ≤ g / call_numbers
-  pub words : answer_words * n ≤ w
-  pub numbers : answer_numbers * n ≤ v
-
-pub room-each : {n calls given words numbers : ℕ} → room_for n calls given words numbers ≡ true → Room n calls given words numbers
+-- where the columns have room for n calls, those of calls are cut into as many parts at least
+pub parts-many : (n calls given words numbers : ℕ) → room_for n calls given words numbers ≡ true → (n ≤ calls / call_words) × (n ≤ given / call_numbers)
 unfolding room_for
-room-each {n} {calls} {given} {words} {numbers} e =
-    let p = and_right (leb (call_words * n) calls) (leb (call_numbers * n) given && (leb (answer_words * n) words && leb (answer_numbers * n) numbers)) e in
-    let q = and_right (leb (call_numbers * n) given) (leb (answer_words * n) words && leb (answer_numbers * n) numbers) p in
-    record {
-      calls = parts-in call_words (omega arith) (leb-true _ _ (and_left (leb (call_words * n) calls) (leb (call_numbers * n) given && (leb (answer_words * n) words && leb (answer_numbers * n) numbers)) e));
-      given = parts-in call_numbers (omega arith) (leb-true _ _ (and_left (leb (call_numbers * n) given) (leb (answer_words * n) words && leb (answer_numbers * n) numbers) p));
-      words = leb-true _ _ (and_left (leb (answer_words * n) words) (leb (answer_numbers * n) numbers) q);
-      numbers = leb-true _ _ (and_right (leb (answer_words * n) words) (leb (answer_numbers * n) numbers) q);
-    }
-  where
-    parts-in : (k : ℕ) {c : ℕ} → 0 < k → k * n ≤ c → n ≤ c / k
-    parts-in k {c} p h = le-div n c k p (subst (λ (x : ℕ). x ≤ c) (mul_comm k n) h)
+parts-many n calls given words numbers e =
+    let rest = leb (answer_words * n) words && leb (answer_numbers * n) numbers in
+    let of-words = leb-true (call_words * n) calls (and_left (leb (call_words * n) calls) (leb (call_numbers * n) given && rest) e) in
+    let of-numbers = leb-true (call_numbers * n) given (and_left (leb (call_numbers * n) given) rest (and_right (leb (call_words * n) calls) (leb (call_numbers * n) given && rest) e)) in
+    (le-div n calls call_words (omega arith) (omega (arith, of-words)), le-div n given call_numbers (omega arith) (omega (arith, of-numbers)))
 
 -- ---- the calls one after the other
 
@@ -139,27 +121,24 @@ answers_to m most s l ws ns k = replies_of m most s (calls_to l ws ns k)
 answers-long : (m most : ℕ) (s : State) (l : Columns) (ws : List ℕ) (ns : List Float) (k : ℕ) → length (answers_to m most s l ws ns k) ≡ k
 answers-long m most s l ws ns k = replies-long m most s (calls_to l ws ns k) ∙ calls-long l ws ns k
 
--- after i of the calls: the state, and the answers at the front of the columns W and N, which have room for all
+-- after i of the calls: the state, and the answers at the front of the columns W and N
 pub record Replying (m most : ℕ) (l : Columns) (calls : List ℕ) (given : List Float) (s₀ : State) (W₀ : List ℕ) (N₀ : List Float) (many : ℕ) (s : State) (W : List ℕ) (N : List Float) (i : ℕ) : Type 0 where
   pub upto : i ≤ many
-  pub words_room : answer_words * many ≤ length W
-  pub numbers_room : answer_numbers * many ≤ length N
   pub state : s ≡ state_after m most s₀ (calls_to l calls given i)
   pub words : W ≡ all_words (answers_to m most s₀ l calls given i) ++ drop (4 * i) W₀
   pub numbers : N ≡ all_numbers (answers_to m most s₀ l calls given i) ++ drop (12 * i) N₀
 
-pub no-reply : {m most : ℕ} {l : Columns} {calls : List ℕ} {given : List Float} {s₀ : State} {W₀ : List ℕ} {N₀ : List Float} {many : ℕ}
-    → Room many (length calls) (length given) (length W₀) (length N₀) → Replying m most l calls given s₀ W₀ N₀ many s₀ W₀ N₀ 0
+pub no-reply : {m most : ℕ} {l : Columns} {calls : List ℕ} {given : List Float} {s₀ : State} {W₀ : List ℕ} {N₀ : List Float} {many : ℕ} → Replying m most l calls given s₀ W₀ N₀ many s₀ W₀ N₀ 0
 unfolding calls_to replies_of state_after
-no-reply room = record { upto = omega arith; words_room = room.words; numbers_room = room.numbers; state = refl; words = refl; numbers = refl }
+no-reply = record { upto = omega arith; state = refl; words = refl; numbers = refl }
 
 module _ {m most : ℕ} {l : Columns} {calls : List ℕ} {given : List Float} {s₀ : State} {W₀ : List ℕ} {N₀ : List Float} {many : ℕ} {s : State} {W : List ℕ} {N : List Float} {i : ℕ}
     (h : Replying m most l calls given s₀ W₀ N₀ many s W N i) where
-  pub one-reply : {after : State} {w : Encoded} {x : List ℕ} {y : List Float} {p : List ℕ} {q : List Float} → Room many (length calls) (length given) (length W₀) (length N₀) → i < many
+  pub one-reply : {after : State} {w : Encoded} {x : List ℕ} {y : List Float} {p : List ℕ} {q : List Float} → i < many
       → Replies m most s (call_from l x y) after w → x ≡ part_at call_words calls i → y ≡ part_at call_numbers given i → p ≡ w.words → q ≡ w.numbers
       → Replying m most l calls given s₀ W₀ N₀ many after (take (4 * i) W ++ (p ++ drop (4 * i + 4 - 4 * i) (drop (4 * i) W))) (take (12 * i) N ++ (q ++ drop (12 * i + 12 - 12 * i) (drop (12 * i) N))) (i + 1)
   unfolding calls_to
-  one-reply {after} {w} {x} {y} {p} {q} room b a ex ey ep eq =
+  one-reply {after} {w} {x} {y} {p} {q} b a ex ey ep eq =
       let was = calls_to l calls given i in
       let c = call_from l (part_at call_words calls i) (part_at call_numbers given i) in
       let said = answers_to m most s₀ l calls given i in
@@ -168,18 +147,15 @@ module _ {m most : ℕ} {l : Columns} {calls : List ℕ} {given : List Float} {s
       subst (λ (z : State). Replies m most z c after w) h.state (subst (λ (z : Call). Replies m most s z after w) (ap₂ (call_from l) ex ey) a) in
       let more : calls_to l calls given (i + 1) ≡ was ++ (c ∷ []) = ap (calls_to l calls given) (add-one i) in
       let answers : said ++ (r ∷ []) ≡ answers_to m most s₀ l calls given (i + 1) = sym (ap (replies_of m most s₀) more ∙ replies-more m most s₀ was c) in
-      let ws = one-more words_of 4 words-four i said r p W W₀ (answers-long m most s₀ l calls given i) (ep ∙ ap (λ (z : Encoded). z.words) now.answer) h.words
-      ∙ ap (λ (x : List Answer). all_words x ++ drop (4 * (i + 1)) W₀) answers in
-      let ns = one-more numbers_of 12 numbers-twelve i said r q N N₀ (answers-long m most s₀ l calls given i) (eq ∙ ap (λ (z : Encoded). z.numbers) now.answer) h.numbers
-      ∙ ap (λ (x : List Answer). all_numbers x ++ drop (12 * (i + 1)) N₀) answers in
-      let next = answers_to m most s₀ l calls given (i + 1) in
       record {
         upto = omega arith;
-        words_room = omega (arith, room.words, column-long words_of 4 words-four (i + 1) next _ W₀ (answers-long m most s₀ l calls given (i + 1)) ws (omega (arith, room.words)));
-        numbers_room = omega (arith, room.numbers, column-long numbers_of 12 numbers-twelve (i + 1) next _ N₀ (answers-long m most s₀ l calls given (i + 1)) ns (omega (arith, room.numbers)));
         state = now.state ∙ sym (after_more m most s₀ was c) ∙ ap (state_after m most s₀) (sym more);
-        words = ws;
-        numbers = ns;
+        words =
+            one-more words_of 4 words-four i said r p W W₀ (answers-long m most s₀ l calls given i) (ep ∙ ap (λ (z : Encoded). z.words) now.answer) h.words
+            ∙ ap (λ (x : List Answer). all_words x ++ drop (4 * (i + 1)) W₀) answers;
+        numbers =
+            one-more numbers_of 12 numbers-twelve i said r q N N₀ (answers-long m most s₀ l calls given i) (eq ∙ ap (λ (z : Encoded). z.numbers) now.answer) h.numbers
+            ∙ ap (λ (x : List Answer). all_numbers x ++ drop (12 * (i + 1)) N₀) answers;
       }
 
   -- all calls are answered
