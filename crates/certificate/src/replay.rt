@@ -153,17 +153,19 @@ fn replies(run: &mut Run, columns: Columns<'_>, calls: CallColumns<'_>, answers:
     }
 }
 
-// The columns of calls, and those of answers, by their lengths, have room for so many calls.
+// The columns of calls and answers have room for so many calls.
 #[tactic(auto, unfolding(crate::specs::Grader::Replay::room_for))]
-fn room_for(calls: CallColumns<'_>, words: usize, numbers: usize) -> bool
+fn room_for(calls: CallColumns<'_>, answers: &AnswerColumns<'_>) -> bool
     ensures { result
         ≡ room_for calls.entry.many (length calls.entry.words.now)
-        (length calls.entry.numbers.now) words numbers }
+        (length calls.entry.numbers.now) (length answers.now.words.now)
+        (length answers.now.numbers.now) }
 {
     let n = calls.many as usize;
     (CALL_WORDS * n <= calls.words.len())
         & ((CALL_NUMBERS * n <= calls.numbers.len())
-            & ((ANSWER_WORDS * n <= words) & (ANSWER_NUMBERS * n <= numbers)))
+            & ((ANSWER_WORDS * n <= answers.words.len())
+                & (ANSWER_NUMBERS * n <= answers.numbers.len())))
 }
 
 // Lays the seed's course, starts a run on it with its n, and answers so many calls. Refused by 2, before anything is laid, where a
@@ -193,8 +195,7 @@ pub fn replay(
         offsets,
         list,
     } = cols;
-    let AnswerColumns { words, numbers } = answers;
-    if !room_for(calls, words.len(), numbers.len()) {
+    if !room_for(calls, &answers) {
         return Replayed {
             laid: Err(LayError::Refused(Cause::Length)),
             start: Err(Cause::Length),
@@ -222,6 +223,7 @@ pub fn replay(
     let s = start::start(columns, opening.on(course, seed));
     let begun = s.answer;
     let mut run = s.run;
+    let AnswerColumns { words, numbers } = answers;
     replies(&mut run, columns, calls, AnswerColumns { words, numbers });
     Replayed {
         laid,
