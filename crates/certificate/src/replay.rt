@@ -57,7 +57,7 @@ impl Opening {
     }
 }
 
-// So many calls, as a host lends them: four words and twenty numbers each, one call after the other.
+// So many calls, as a host lends them: four words and twenty numbers each, one call after the other. A host's columns may be short.
 #[derive(Clone, Copy)]
 pub struct CallColumns<'a> {
     pub many: u32,
@@ -95,7 +95,7 @@ fn first_lent(columns: Columns<'_>, tiles: u32, offsets: u32) -> Columns<'_>
 }
 
 // The call that four words and twenty numbers hold, and its answer.
-// Kept as a number: the first word of a call stands in a column of numbers that the C interface lends.
+// Kept as a number: the first word of a call stands in a column of numbers that the C interface lends, and is looked at here alone.
 #[tactic(auto, unfolding(crate::specs::Steps::Replay::call_from, crate::specs::Grader::Calls::reply_of))]
 fn reply(
     run: &mut Run,
@@ -117,8 +117,8 @@ fn reply(
 }
 
 // All calls in their order, each on the state that the one before it left, and their answers.
-// Kept by index where answers are written: the library says nothing of what a slice ends as after `as_chunks_mut` or `chunks_exact_mut`,
-// and that a part by `first_chunk_mut` is the slice's own did not prove.
+// Kept by index where answers are written: the library promises nothing of what a slice ends as after `as_chunks_mut` or
+// `chunks_exact_mut`, and columns that are cut by `split_at_mut` and gone on with in a loop no proof of today's covers (tried).
 #[tactic(auto, unfolding(crate::specs::Grader::Replay::room_for))]
 fn replies(run: &mut Run, columns: Columns<'_>, calls: CallColumns<'_>, answers: AnswerColumns<'_>)
     requires { room_for calls.many (length calls.words.now)
