@@ -162,10 +162,10 @@ fn room_for(calls: CallColumns<'_>, answers: &AnswerColumns<'_>) -> bool
         (length answers.now.numbers.now) }
 {
     let n = calls.many as usize;
-    (CALL_WORDS * n <= calls.words.len())
-        & ((CALL_NUMBERS * n <= calls.numbers.len())
-            & ((ANSWER_WORDS * n <= answers.words.len())
-                & (ANSWER_NUMBERS * n <= answers.numbers.len())))
+    CALL_WORDS * n <= calls.words.len()
+        && CALL_NUMBERS * n <= calls.numbers.len()
+        && ANSWER_WORDS * n <= answers.words.len()
+        && ANSWER_NUMBERS * n <= answers.numbers.len()
 }
 
 // Lays the seed's course, starts a run on it with its n, and answers so many calls. Refused by 2, before anything is laid, where a
