@@ -20,14 +20,16 @@ pub(crate) struct Encoded {
     pub numbers: [f64; ANSWER_NUMBERS],
 }
 
-// A refusal by a cause, which has no numbers.
-#[tactic(auto, unfolding(crate::specs::Grader::CallColumns::words_of, crate::specs::Grader::CallColumns::numbers_of))]
-fn refusal(cause: Cause) -> Encoded
-    ensures { result ≡ encoded (refused (number_of cause)) }
-{
-    Encoded {
-        words: [2, cause.number(), 0, 0],
-        numbers: [0.0; ANSWER_NUMBERS],
+impl From<Cause> for Encoded {
+    ghost from_gives = { λ cause result. result ≡ encoded (refused (number_of cause)) };
+
+    // A refusal, which has no numbers.
+    #[tactic(auto, unfolding(crate::specs::Grader::CallColumns::words_of, crate::specs::Grader::CallColumns::numbers_of))]
+    fn from(cause: Cause) -> Encoded {
+        Encoded {
+            words: [2, cause.number(), 0, 0],
+            numbers: [0.0; ANSWER_NUMBERS],
+        }
     }
 }
 
@@ -46,7 +48,7 @@ impl From<Result<[Force; 4], Cause>> for Encoded {
                     numbers,
                 }
             }
-            Err(cause) => refusal(cause),
+            Err(cause) => Encoded::from(cause),
         }
     }
 }
@@ -62,7 +64,7 @@ impl From<Result<SettleValues, Cause>> for Encoded {
                 words: [1, v.new_tiles, v.n, flags_of(v.off, v.lap, v.ended)],
                 numbers: [0.0; ANSWER_NUMBERS],
             },
-            Err(cause) => refusal(cause),
+            Err(cause) => Encoded::from(cause),
         }
     }
 }
