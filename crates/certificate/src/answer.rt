@@ -13,7 +13,7 @@ use run::numbers;
 use run::save::flags_of;
 use run::settle::SettleValues;
 
-// The words and numbers of an answer, a value of its own for every answer.
+// One answer's words and numbers, a value of its own for every answer; `AnswerColumns` lends those of all.
 #[derive(Clone, Copy)]
 pub(crate) struct Encoded {
     pub words: [u32; ANSWER_WORDS],

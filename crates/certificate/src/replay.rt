@@ -118,7 +118,8 @@ fn reply(
 
 // All calls in their order, each on the state that the one before it left, and their answers.
 // Kept by index where answers are written: the library promises nothing of what a slice ends as after `as_chunks_mut` or
-// `chunks_exact_mut`, and columns that are cut by `split_at_mut` and gone on with in a loop no proof of today's covers (tried).
+// `chunks_exact_mut`, and columns that are cut by `split_at_mut` and gone on with in a loop no proof of today's covers (tried). A call's
+// numbers stand at the same index.
 #[tactic(auto, unfolding(crate::specs::Grader::Replay::room_for))]
 fn replies(run: &mut Run, columns: Columns<'_>, calls: CallColumns<'_>, answers: AnswerColumns<'_>)
     requires { room_for calls.many (length calls.words.now)
