@@ -14,6 +14,7 @@ ghost use Rattle.abi.specs.Grader.InPlace.{driven_in_place, drive_in_place, sett
 use crate::flat;
 use crate::flat::{FlatDriven, FlatReplayed, FlatSettled, FlatSheet, FlatStarted, Poses};
 use certificate::replay;
+use certificate::replay::{AnswerColumns, CallColumns, Opening};
 use course::cause;
 use course::lent::LentColumns;
 use run::numbers::{CAR_NUMBERS, FORCE_NUMBERS, MOTION_NUMBERS, POSE_NUMBERS};
@@ -200,7 +201,16 @@ pub extern "C" fn grader_replay(
         offsets,
         list,
     };
-    FlatReplayed::from(replay::replay(
-        seed, cols, share, limit, wheels, many, calls, given, words, numbers,
-    ))
+    let opening = Opening {
+        share,
+        limit,
+        poses: wheels,
+    };
+    let asked = CallColumns {
+        many,
+        words: calls,
+        numbers: given,
+    };
+    let told = AnswerColumns { words, numbers };
+    FlatReplayed::from(replay::replay(seed, cols, opening, asked, told))
 }

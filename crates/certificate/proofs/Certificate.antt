@@ -197,10 +197,6 @@ module _ (m most : ℕ) (c : List TrackPoint) (room : most ≤ 64 * m) (some : 0
         start-same ∙ ap (λ (k : ℕ). start_at m (answer_by k tt) (lent_by o by) (settings_for (length c) label b)) e
         ∙ started m most c room some fits (lent_by o by) b label (holds by (lent-long e))
 
-    own-opening : (b : Opening) → opening (begun b) ≡ b
-    unfolding opening
-    own-opening b = refl
-
     -- what start was told, by the calls kept after it
     same-setup : (h : History) → opening h ≡ b → setup_of (settings_for (length c) label (opening h)) ≡ setup_of (settings_on o label b)
     same-setup h e = λ i. setup_of (settings_for (sym counted i) label (e i))
@@ -314,33 +310,38 @@ module _ (m most : ℕ) (c : List TrackPoint) (room : most ≤ 64 * m) (some : 0
     or-rest true x e q = e
     or-rest false x e q = absurd (true≢false (sym q))
 
+    -- where something is restored, the seed, the lap share, start's poses and those of all settles are values that bytes can carry
+    typed-each : (is : List (CourseItem (length c))) → typed label.seed b is ≡ true → some_restore is ≡ true
+        → (ltb label.seed (2 ^ 64) ≡ true) × ((fits64 b.share ≡ true) × ((all_fit (pose_numbers b.poses) ≡ true) × (typed_items is ≡ true)))
+    unfolding typed
+    typed-each is t r =
+        let poses = all_fit (pose_numbers b.poses) in
+        let p = or-rest (some_restore is) (ltb label.seed (2 ^ 64) && (fits64 b.share && (poses && typed_items is))) t r in
+        let q = and_right (ltb label.seed (2 ^ 64)) (fits64 b.share && (poses && typed_items is)) p in
+        let s = and_right (fits64 b.share) (poses && typed_items is) q in (
+          and_left (ltb label.seed (2 ^ 64)) (fits64 b.share && (poses && typed_items is)) p,
+          (and_left (fits64 b.share) (poses && typed_items is) q, (and_left poses (typed_items is) s, and_right poses (typed_items is) s)),
+        )
+
     -- the start is a run's, and of values that bytes can carry where something is restored
     first_fine : (small : most < 65536) (is : List (CourseItem (length c))) → start_number c most (lengths_of (lent_by o by)) b ≡ 0 → typed label.seed b is ≡ true → Fine small (some_restore is ≡ true) (begun b)
-    unfolding typed opening settles last_poses
+    unfolding opening settles last_poses
     first_fine small is e t = (
       begins b,
       (
         refl,
         λ r.
-            let p = or-rest (some_restore is) (ltb label.seed (2 ^ 64) && (fits64 b.share && (all_fit (pose_numbers b.poses) && typed_items is))) t r in
-            let q = and_right (ltb label.seed (2 ^ 64)) (fits64 b.share && (all_fit (pose_numbers b.poses) && typed_items is)) p in
+            let f = typed-each is t r in
             record {
               within = omega arith;
               settings = (start-told e).0;
               placed = (start-told e).1;
-              seed = ltb-true _ _ (and_left (ltb label.seed (2 ^ 64)) (fits64 b.share && (all_fit (pose_numbers b.poses) && typed_items is)) p);
-              share = and_left (fits64 b.share) (all_fit (pose_numbers b.poses) && typed_items is) q;
-              poses = and_left (all_fit (pose_numbers b.poses)) (typed_items is) (and_right (fits64 b.share) (all_fit (pose_numbers b.poses) && typed_items is) q);
+              seed = ltb-true _ _ f.0;
+              share = f.1.0;
+              poses = f.1.1.0;
             },
       ),
     )
-
-    items-typed : (is : List (CourseItem (length c))) → typed label.seed b is ≡ true → some_restore is ≡ true → typed_items is ≡ true
-    unfolding typed
-    items-typed is t r =
-        let p = or-rest (some_restore is) (ltb label.seed (2 ^ 64) && (fits64 b.share && (all_fit (pose_numbers b.poses) && typed_items is))) t r in
-        let q = and_right (ltb label.seed (2 ^ 64)) (fits64 b.share && (all_fit (pose_numbers b.poses) && typed_items is)) p in
-        and_right (all_fit (pose_numbers b.poses)) (typed_items is) (and_right (fits64 b.share) (all_fit (pose_numbers b.poses) && typed_items is) q)
 
     pub demand3-on : most < 65536 → (is : List (CourseItem (length c))) → Demand3 m most c o by label b is
     demand3-on small is =
@@ -348,7 +349,7 @@ module _ (m most : ℕ) (c : List TrackPoint) (room : most ≤ 64 * m) (some : 0
           starts = ap (λ (s : Begun). cause_number s.answer) start-counted ∙ cause-at (start_check most (lent_by o by) (settings_for (length c) label b)) (lent_by o by) (settings_for (length c) label b) ∙ start-number;
           runs = λ e t.
               subst (λ (s : Begun). Graded m most c o s label b is) (sym (start-accepted e))
-              (graded small (some_restore is ≡ true) is (first_fine small is e t) (items-ok small (some_restore is ≡ true) is (λ r. r) (items-typed is t)));
+              (graded small (some_restore is ≡ true) is (first_fine small is e t) (items-ok small (some_restore is ≡ true) is (λ r. r) (λ r. (typed-each is t r).1.1.1)));
           stays = λ n.
               ap (λ (s : Begun). requests_said m most (going s.state []) (requests_of o is)) start-same
               ∙ ap (λ (s : State). requests_said m most (going s []) (requests_of o is)) (zeros-at (start_number c most (lengths_of (lent_by o by)) b) (lent_by o by) (settings_for (length c) label b) n)
@@ -380,6 +381,10 @@ no-cause true true e = absurd (omega (arith, e))
 no-cause true false e = (refl, refl)
 no-cause false s e = absurd (omega (arith, e))
 
+-- a seed's course has at most as many tiles as a run takes
+pub few-tiles : (seed : ℕ) → seed_tiles seed ≤ most_tiles
+few-tiles seed = omega (arith, (course-sized seed).few)
+
 pub certificate : (seed : ℕ) (l : course.CourseColumns) (by : Lending (seed_tiles seed)) (label : CourseLabel) (b : Opening) (is : List (CourseItem (seed_tiles seed))) → Certificate seed l by label b is
 unfolding lay_number course_of
 certificate seed l by label b is =
@@ -391,8 +396,5 @@ certificate seed l by label b is =
       run = λ e.
           let q = no-cause (roomy l) (ltb (length l.list) (cells_of (course_of seed).points)) e in
           subst (λ (o : Outcome). Demand3 full_words most_tiles (course_of seed).points o by label b is) (sym (lay-columns seed l q.0))
-          (laid-demand3 full_words most_tiles (course_of seed).points (omega arith) (course-sized seed).some few (omega arith) (course_of seed).fallback l q.1 by label b is);
+          (laid-demand3 full_words most_tiles (course_of seed).points (omega arith) (course-sized seed).some (few-tiles seed) (omega arith) (course_of seed).fallback l q.1 by label b is);
     }
-  where
-    few : seed_tiles seed ≤ most_tiles
-    few = omega (arith, (course-sized seed).few)

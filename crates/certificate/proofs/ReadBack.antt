@@ -63,7 +63,7 @@ read_back (settled v) h = ap settled (flags-back v.off v.lap v.ended v.new_tiles
 read_back (refused k) h = refl
 
 pub all_back : (r : List Answer) → AllWhole r → (ws : List ℕ) (ns : List Float) → answers_from (length r) (all_words r ++ ws) (all_numbers r ++ ns) ≡ r
-unfolding answers_from all_words all_numbers
+unfolding answers_from
 all_back [] h ws ns = refl
 all_back (a ∷ r) h ws ns =
     ap₂ (λ (x : List ℕ) (y : List Float). answer_from (take answer_words x) (take answer_numbers y) ∷ answers_from (length r) (drop answer_words x) (drop answer_numbers y)) (append_assoc (words_of a) (all_words r) ws) (append_assoc (numbers_of a) (all_numbers r) ns)

@@ -1,16 +1,16 @@
 -- What a replay leaves, from what its calls leave: the plain scorer's answers. Assumes nothing.
-use mathlib.Core.Bool.{Bool, true, false, cond, not, ◌&&◌, or-true}
+use mathlib.Core.Bool.{Bool, true, false, cond, not, or-true}
 use mathlib.Core.List.{List, [], ◌∷◌, ◌++◌, map-append}
 use mathlib.Core.Path.{◌≡◌, refl, sym, ap, ap₂, ◌∙◌, subst}
 use Rattle.std.specs.Result.{ResultUnwrapsOrElse}
 use Prim.Native.Nat.{ℕ, zero, suc, ◌*◌, ◌≤◌, ◌<◌, min}
 use native.Mathlib.Numerals.{add-one}
 use native.Mathlib.Omega.{arith}
-use lib.Dec.{ltb, leb, eqb}
+use lib.Dec.{ltb, eqb}
 use lib.ListN.{length, get_or, take, drop, replicate, length-append, length-take, take-append-drop}
 use lib.Seq.{take-take, take-length}
 use lib.Ieee.{Float}
-use borrow.Author.Tests.{ltb-false, leb-true}
+use borrow.Author.Tests.{ltb-false}
 use Rattle.std.specs.Prelude.{Result, Ok, Err}
 use Rattle.course.specs.Rules.Constants.{max_attempts}
 use Rattle.course.specs.Rules.Lengths.{most_points, column_length, quad_numbers, offset_count}
@@ -23,7 +23,7 @@ use Rattle.course.specs.declared.cause.Cause.{Cause}
 use Rattle.course.specs.declared.tiles.TrackPoint.{TrackPoint}
 use Rattle.course.specs.declared.points.LayError.{LayError}
 use Rattle.course.specs.declared.points.LaidCourse.{LaidCourse}
-use Rattle.course.proofs.BoolLaws.{and_left, and_right, or_no}
+use Rattle.course.proofs.BoolLaws.{or_no}
 use Rattle.course.proofs.CourseSizes.{course-sized}
 use Rattle.course.proofs.LayLaws.{roomy, lay-cause, lay-columns}
 use Rattle.run.specs.Rules.Arguments.{settings_ok, short_columns}
@@ -42,13 +42,14 @@ use Rattle.certificate.specs.Claim.Certificate.{CourseLabel, settings_for, setti
 use Rattle.course.specs.Rules.Tiles.{number_at}
 use Rattle.run.specs.Grader.Numbers.{motions_from, poses_from}
 use Rattle.certificate.specs.Grader.CallColumns.{call_words, call_numbers, answer_words, answer_numbers, all_words, all_numbers, part_at}
-use Rattle.certificate.specs.Steps.Replay.{lent_to, call_from, calls_to}
+use Rattle.certificate.specs.Steps.Replay.{first_lent, call_from, calls_to}
 use Rattle.certificate.specs.Grader.Replay.{told_from, tolds_to, cause_of, answer_by, plain_start, plain_answers, sheet_on, plain_sheet, laid_course, replay_on, room_for, replay_of}
 use Rattle.run.specs.declared.start.StartValues.{StartValues}
 use Rattle.run.specs.declared.sheet.RunSheet.{RunSheet}
 use Rattle.certificate.proofs.LentColumns.{laid-whole, count, own_length}
 use Rattle.certificate.proofs.Simulation.{HoldsCourse, history_state, fits-state}
-use Rattle.certificate.proofs.Certificate.{zeros-stay, zeros-after, replies-are, after_is, begins, start-same, start-accepted, lent-holds, no-cause}
+use Rattle.certificate.proofs.Certificate.{zeros-stay, zeros-after, replies-are, after_is, begins, start-same, start-accepted, lent-holds, no-cause, few-tiles}
+use Rattle.certificate.proofs.CallColumnLaws.{calls-long}
 
 -- ---- the calls of the columns are calls of the certificate's list
 
@@ -69,20 +70,20 @@ module _ (o : Outcome) where
   unfolding lent_by
   short-is t l e = refl
 
-  laid-is : (t kt ko : ℕ) → short_of t (lent_to columns_of kt ko) ≡ false
-      → lent_by {n = t} o (laid (drop (quad_numbers (column_length t)) (take kt o.lent.tiles)) (drop offset_count (take ko o.lent.offsets)) (drop (laid_values_of o.answer).entries o.lent.list)) ≡ lent_to columns_of kt ko
-  unfolding lent_by lent_to short_of short_columns
+  laid-is : (t kt ko : ℕ) → short_of t (first_lent columns_of kt ko) ≡ false
+      → lent_by {n = t} o (laid (drop (quad_numbers (column_length t)) (take kt o.lent.tiles)) (drop offset_count (take ko o.lent.offsets)) (drop (laid_values_of o.answer).entries o.lent.list)) ≡ first_lent columns_of kt ko
+  unfolding lent_by first_lent short_of short_columns
   laid-is t kt ko e =
       let p = or_no (ltb (length (take kt o.lent.tiles)) (quad_numbers (column_length t))) (ltb (length (take ko o.lent.offsets)) offset_count) e in
       λ i. columns (front-of (quad_numbers (column_length t)) kt o.lent.tiles (ltb-false _ _ p.0) i) (front-of offset_count ko o.lent.offsets (ltb-false _ _ p.1) i)
       (take-append-drop (laid_values_of o.answer).entries o.lent.list i)
 
   -- parts of the laid columns, lent with a course of t points, are the course's with what stands beyond, or too short
-  parts : (t kt ko : ℕ) → (by : Lending t) × (lent_by o by ≡ lent_to columns_of kt ko)
-  parts t kt ko = go (short_of t (lent_to columns_of kt ko)) refl
+  parts : (t kt ko : ℕ) → (by : Lending t) × (lent_by o by ≡ first_lent columns_of kt ko)
+  parts t kt ko = go (short_of t (first_lent columns_of kt ko)) refl
     where
-      go : (b : Bool) → short_of t (lent_to columns_of kt ko) ≡ b → (by : Lending t) × (lent_by o by ≡ lent_to columns_of kt ko)
-      go true e = (short (lent_to columns_of kt ko) e, short-is t (lent_to columns_of kt ko) e)
+      go : (b : Bool) → short_of t (first_lent columns_of kt ko) ≡ b → (by : Lending t) × (lent_by o by ≡ first_lent columns_of kt ko)
+      go true e = (short (first_lent columns_of kt ko) e, short-is t (first_lent columns_of kt ko) e)
       go false e = (
         laid (drop (quad_numbers (column_length t)) (take kt o.lent.tiles)) (drop offset_count (take ko o.lent.offsets)) (drop (laid_values_of o.answer).entries o.lent.list),
         laid-is t kt ko e,
@@ -90,8 +91,8 @@ module _ (o : Outcome) where
 
   -- the lengths that the plain scorer is told
   module _ (t : ℕ) (k : LentLengths) (same-tiles : length o.lent.tiles ≡ k.tiles) (same-offsets : length o.lent.offsets ≡ k.offsets) where
-    lengths-are : (kt ko : ℕ) → lengths_of (lent_to columns_of kt ko) ≡ record { tiles = min kt k.tiles; offsets = min ko k.offsets }
-    unfolding lengths_of lent_to
+    lengths-are : (kt ko : ℕ) → lengths_of (first_lent columns_of kt ko) ≡ record { tiles = min kt k.tiles; offsets = min ko k.offsets }
+    unfolding lengths_of first_lent
     lengths-are kt ko = λ i.
         record {
           tiles = (length-take kt o.lent.tiles ∙ ap (min kt) same-tiles) i;
@@ -106,7 +107,7 @@ module _ (o : Outcome) where
     unfolding call_of told_of call_from told_from
     meant ws ns = go (eqb (get_or ws 0 0) 0) refl
       where
-        by_parts : (by : Lending t) × (lent_by o by ≡ lent_to columns_of (get_or ws 2 0) (get_or ws 3 0))
+        by_parts : (by : Lending t) × (lent_by o by ≡ first_lent columns_of (get_or ws 2 0) (get_or ws 3 0))
         by_parts = parts t (get_or ws 2 0) (get_or ws 3 0)
 
         go : (b : Bool) → eqb (get_or ws 0 0) 0 ≡ b → Meant ws ns
@@ -129,11 +130,6 @@ module _ (o : Outcome) where
         )
 
 -- ---- lengths
-pub calls-many : (l : Columns) (ws : List ℕ) (ns : List Float) (n : ℕ) → length (calls_to l ws ns n) ≡ n
-unfolding calls_to
-calls-many l ws ns zero = refl
-calls-many l ws ns (suc n) = length-append (calls_to l ws ns n) _ ∙ add-one (length (calls_to l ws ns n)) ∙ ap suc (calls-many l ws ns n)
-
 pub tolds-many : (k : LentLengths) (ws : List ℕ) (ns : List Float) (n : ℕ) → length (tolds_to k ws ns n) ≡ n
 unfolding tolds_to
 tolds-many k ws ns zero = refl
@@ -172,7 +168,7 @@ module _ (b : Opening) (k : LentLengths) (n : ℕ) (calls : List ℕ) (given : L
         start = ap (λ (x : Begun). x.answer) e;
         answers =
             ap (λ (x : State). replies_of full_words most_tiles x (calls_to l calls given n)) es ∙ zeros-stay full_words most_tiles (calls_to l calls given n)
-            ∙ ap (λ (x : ℕ). replicate x (refused 4)) (calls-many l calls given n ∙ sym (tolds-many k calls given n));
+            ∙ ap (λ (x : ℕ). replicate x (refused 4)) (calls-long l calls given n ∙ sym (tolds-many k calls given n));
         sheet =
             ap (λ (x : State). sheet_in (state_after full_words most_tiles x (calls_to l calls given n))) es
             ∙ ap sheet_in (zeros-after full_words most_tiles (calls_to l calls given n)) ∙ no-sheet;
@@ -239,7 +235,7 @@ module _ (b : Opening) (k : LentLengths) (n : ℕ) (calls : List ℕ) (given : L
 
     -- the whole columns, as they are lent to start
     whole-lent : (by : Lending (length c)) × (lent_by o by ≡ columns_of o)
-    unfolding lent_to
+    unfolding first_lent
     whole-lent =
         let p = parts o (length c) (length o.lent.tiles) (length o.lent.offsets) in
         (p.0, p.1 ∙ (λ i. columns (take-length o.lent.tiles i) (take-length o.lent.offsets i) o.lent.list))
@@ -300,9 +296,6 @@ module _ (b : Opening) (k : LentLengths) (n : ℕ) (calls : List ℕ) (given : L
               (on ∙ start-same full_words most_tiles c room some fits o counted holds by label b ∙ ap (λ (x : ℕ). start_at full_words (answer_by x tt) (lent_by o by) a) (number ∙ q))
 
 -- ---- the whole replay
-few-points : (seed : ℕ) → length (course_of seed).points ≤ most_tiles
-few-points seed = omega (arith, (course-sized seed).few)
-
 lays : (seed : ℕ) (l : course.CourseColumns) → laid_cause_of (lay_call max_attempts seed l).answer ≡ lay_number seed l
 unfolding lay_number course_of
 lays seed l = lay-cause max_attempts seed l
@@ -328,7 +321,7 @@ module _ (seed : ℕ) (l : course.CourseColumns) (b : Opening) (n : ℕ) (calls 
       → begun sa s ≡ start_of full_words most_tiles (columns_of x) (settings_on x (laid_label x seed) b)
       → Plain b lengths n calls given (start_number (course_of seed).points most_tiles lengths b) (course_of seed) (columns_of x) sa s)
       (sym (eo ∙ lay-columns seed l p.0))
-      (λ t f e. course-plain b lengths n calls given (course_of seed).points (course-sized seed).some (few-points seed) (course_of seed).fallback seed l p.1 t f sa s e) et ef es
+      (λ t f e. course-plain b lengths n calls given (course_of seed).points (course-sized seed).some (few-tiles seed) (course_of seed).fallback seed l p.1 t f sa s e) et ef es
   replay-plain (suc j) q o eo et ef sa s es =
       no-course b lengths n calls given (columns_of o) (laid_label o seed) sa s
       (es ∙ ap (λ (x : ℕ). start_of full_words most_tiles (columns_of o) (settings_for x (laid_label o seed) b))
@@ -347,13 +340,14 @@ same-figures (Err e) P none v h = record { count = (none v h).0; ring = (none v 
 
 -- what each call of a replay leaves, where there is room for the calls told and their answers
 pub record ReplayCalls (seed : ℕ) (l : course.CourseColumns) (b : Opening) (n : ℕ) (calls : List ℕ) (given : List Float) (words : List ℕ) (numbers : List Float)
-    (o : Outcome) (v : LaidCourse) (sa : Result StartValues Cause) (s last : State) (sh : Result RunSheet Cause) (words' : List ℕ) (numbers' : List Float) : Type 0 where
+    (o : Outcome) (v : LaidCourse) (a : Settings) (sa : Result StartValues Cause) (s last : State) (sh : Result RunSheet Cause) (words' : List ℕ) (numbers' : List Float) : Type 0 where
   pub room : room_for n (length calls) (length given) (length words) (length numbers) ≡ true
   pub laid : o ≡ lay_call max_attempts seed l
   pub tiles : length o.lent.tiles ≡ length l.tiles
   pub offsets : length o.lent.offsets ≡ length l.offsets
   pub values : SameFigures v (laid_values_of o.answer)
-  pub start : begun sa s ≡ start_of full_words most_tiles (columns_of o) (settings_for v.n (record { fallback = v.fallback; seed = seed }) b)
+  pub settings : a ≡ settings_for v.n (record { fallback = v.fallback; seed = seed }) b
+  pub start : begun sa s ≡ start_of full_words most_tiles (columns_of o) a
   pub state : last ≡ state_after full_words most_tiles s (calls_to (columns_of o) calls given n)
   pub answered : words' ≡ all_words (replies_of full_words most_tiles s (calls_to (columns_of o) calls given n)) ++ drop (answer_words * n) words
   pub numbered : numbers' ≡ all_numbers (replies_of full_words most_tiles s (calls_to (columns_of o) calls given n)) ++ drop (answer_numbers * n) numbers
@@ -361,13 +355,13 @@ pub record ReplayCalls (seed : ℕ) (l : course.CourseColumns) (b : Opening) (n 
 
 -- all that the replay leaves
 pub replayed : {seed : ℕ} {l : course.CourseColumns} {b : Opening} {n : ℕ} {calls : List ℕ} {given : List Float} {words : List ℕ} {numbers : List Float}
-    {o : Outcome} {v : LaidCourse} {sa : Result StartValues Cause} {s last : State} {sh : Result RunSheet Cause} {words' : List ℕ} {numbers' : List Float}
-    → ReplayCalls seed l b n calls given words numbers o v sa s last sh words' numbers'
+    {o : Outcome} {v : LaidCourse} {a : Settings} {sa : Result StartValues Cause} {s last : State} {sh : Result RunSheet Cause} {words' : List ℕ} {numbers' : List Float}
+    → ReplayCalls seed l b n calls given words numbers o v a sa s last sh words' numbers'
     → record { laid = o.answer; start = sa; sheet = sh; lent = o.lent; words = words'; numbers = numbers' } ≡ replay_of seed l b n calls given words numbers
 unfolding replay_of replay_on
-replayed {seed} {l} {b} {n} {calls} {given} {words} {numbers} {o} {v} {sa} {s} h =
+replayed {seed} {l} {b} {n} {calls} {given} {words} {numbers} {o} {v} {a} {sa} {s} h =
     let p = replay-plain seed l b n calls given (lay_number seed l) refl o h.laid h.tiles h.offsets sa s
-    (h.start ∙ (λ i. start_of full_words most_tiles (columns_of o) (settings_for (h.values.count i) (record { fallback = h.values.ring i; seed = seed }) b))) in
+    (h.start ∙ ap (start_of full_words most_tiles (columns_of o)) h.settings ∙ (λ i. start_of full_words most_tiles (columns_of o) (settings_for (h.values.count i) (record { fallback = h.values.ring i; seed = seed }) b))) in
     rw h.room (λ i.
     record {
       laid = (h.laid i).answer;
@@ -377,22 +371,3 @@ replayed {seed} {l} {b} {n} {calls} {given} {words} {numbers} {o} {v} {sa} {s} h
       words = (h.answered ∙ ap (λ (x : List Answer). all_words x ++ drop (answer_words * n) words) p.answers) i;
       numbers = (h.numbered ∙ ap (λ (x : List Answer). all_numbers x ++ drop (answer_numbers * n) numbers) p.answers) i;
     })
-
--- room for n calls, column by column
-pub record Room (n c g w v : ℕ) : Type 0 where
-  pub calls : call_words * n ≤ c
-  pub given : call_numbers * n ≤ g
-  pub words : answer_words * n ≤ w
-  pub numbers : answer_numbers * n ≤ v
-
-pub room-each : {n calls given words numbers : ℕ} → room_for n calls given words numbers ≡ true → Room n calls given words numbers
-unfolding room_for
-room-each {n} {calls} {given} {words} {numbers} e =
-    let p = and_right (leb (call_words * n) calls) (leb (call_numbers * n) given && (leb (answer_words * n) words && leb (answer_numbers * n) numbers)) e in
-    let q = and_right (leb (call_numbers * n) given) (leb (answer_words * n) words && leb (answer_numbers * n) numbers) p in
-    record {
-      calls = leb-true _ _ (and_left (leb (call_words * n) calls) (leb (call_numbers * n) given && (leb (answer_words * n) words && leb (answer_numbers * n) numbers)) e);
-      given = leb-true _ _ (and_left (leb (call_numbers * n) given) (leb (answer_words * n) words && leb (answer_numbers * n) numbers) p);
-      words = leb-true _ _ (and_left (leb (answer_words * n) words) (leb (answer_numbers * n) numbers) q);
-      numbers = leb-true _ _ (and_right (leb (answer_words * n) words) (leb (answer_numbers * n) numbers) q);
-    }

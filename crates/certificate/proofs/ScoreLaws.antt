@@ -21,30 +21,23 @@ use Rattle.run.proofs.WordLaws.{how_many-or}
 use Rattle.course.proofs.BoolLaws.{both, cleared}
 
 -- ---- numbers that cannot occur
+-- where neither the first cause nor what follows it has the number j
+never : (j k : ℕ) (a : Bool) (rest : ℕ) → not (eqb k j) ≡ true → not (eqb rest j) ≡ true → not (eqb (cond a k rest) j) ≡ true
+never j k true rest e f = e
+never j k false rest e f = f
+
 no-ten : (a b c d e : Bool) → not (eqb (cond a 4 (cond b 5 (cond c 6 (cond d 7 (cond e 8 0))))) 10) ≡ true
-no-ten true b c d e = refl
-no-ten false true c d e = refl
-no-ten false false true d e = refl
-no-ten false false false true e = refl
-no-ten false false false false true = refl
-no-ten false false false false false = refl
+no-ten a b c d e = never 10 4 a _ refl (never 10 5 b _ refl (never 10 6 c _ refl (never 10 7 d _ refl (never 10 8 e _ refl refl))))
 
 no-ten-six : (a b c d : Bool) → (not (eqb (cond a 4 (cond b 5 (cond c 2 (cond d 8 0)))) 10) && not (eqb (cond a 4 (cond b 5 (cond c 2 (cond d 8 0)))) 6)) ≡ true
-no-ten-six true b c d = refl
-no-ten-six false true c d = refl
-no-ten-six false false true d = refl
-no-ten-six false false false true = refl
-no-ten-six false false false false = refl
+no-ten-six a b c d =
+    both _ _ (never 10 4 a _ refl (never 10 5 b _ refl (never 10 2 c _ refl (never 10 8 d _ refl refl)))) (never 6 4 a _ refl (never 6 5 b _ refl (never 6 2 c _ refl (never 6 8 d _ refl refl))))
 
 no-four : (a b : Bool) → not (eqb (cond a 5 (cond b 2 0)) 4) ≡ true
-no-four true b = refl
-no-four false true = refl
-no-four false false = refl
+no-four a b = never 4 5 a _ refl (never 4 2 b _ refl refl)
 
 no-ten-twelve : (a b : Bool) → (not (eqb (cond a 11 (cond b 2 0)) 10) && not (eqb (cond a 11 (cond b 2 0)) 12)) ≡ true
-no-ten-twelve true b = refl
-no-ten-twelve false true = refl
-no-ten-twelve false false = refl
+no-ten-twelve a b = both _ _ (never 10 11 a _ refl (never 10 2 b _ refl refl)) (never 12 11 a _ refl (never 12 2 b _ refl refl))
 
 -- drives and settles alternate, drive first, and a settle that is owed is within the tick limit
 pub record InTurn (h : History) : Type 0 where

@@ -108,14 +108,17 @@ replies =
     ∷ decided 11
     ∷ []
 
-pub plain : replies_to points (kept_calls (begun beside) []) told ≡ replies
+-- both computed at once
+computed : (replies_to points (kept_calls (begun beside) []) told ≡ replies) × (start_number points most_tiles enough beside ≡ 0)
 unfolding touches touched new_tiles lap_done meets_lap touched_count over ended off opening settles drives last_poses drive_number settle_number start_number drive_score settle_score score save_number restore_number noted taken_up reply_to after_item replies_to any_below every_below how_many off_field abs_of short_columns settings_ok poses_ok pose_ok in_range places_ok motions_ok motion_ok touch some_of holds rect_of tile_of tiles_to eight tile_at tile_quad before_of box_cells quad_of wheel_quad placed size wheel_w wheel_r least_x least_y greatest_x greatest_y cell_at cell_of along overlap_of apart_by_edges apart_along apart_on least_on greatest_on least_of greatest_of min_of max_of within cosine_of sine_of pick quarter_of rest_of turns_of whole_below floor cosine_poly sine_poly cosine_terms sine_terms horner minus plus factorial scale playfield track_width grid_cell half_pi f64_max f64_min natural decimal of_int round add sub mul div neg lt le is_nan of_bits
-plain = refl
+computed = (refl, refl)
+
+pub plain : replies_to points (kept_calls (begun beside) []) told ≡ replies
+plain = computed.0
 
 -- the start beside the strip is accepted
 accepted : start_number points most_tiles enough beside ≡ 0
-unfolding touches touched new_tiles lap_done meets_lap touched_count over ended off opening settles drives last_poses drive_number settle_number start_number drive_score settle_score score any_below every_below how_many off_field abs_of short_columns settings_ok poses_ok pose_ok in_range places_ok motions_ok motion_ok touch some_of holds rect_of tile_of tiles_to eight tile_at tile_quad before_of box_cells quad_of wheel_quad placed size wheel_w wheel_r least_x least_y greatest_x greatest_y cell_at cell_of along overlap_of apart_by_edges apart_along apart_on least_on greatest_on least_of greatest_of min_of max_of within cosine_of sine_of pick quarter_of rest_of turns_of whole_below floor cosine_poly sine_poly cosine_terms sine_terms horner minus plus factorial scale playfield track_width grid_cell half_pi f64_max f64_min natural decimal of_int round add sub mul div neg lt le is_nan of_bits
-accepted = refl
+accepted = computed.1
 
 pub no-columns : short_of (length points) (columns [] [] []) ≡ true
 unfolding short_of short_columns

@@ -1,75 +1,70 @@
-// An answer written into its columns: four words and twelve numbers, a value of its own for every answer.
-// Kept as numbers: what an answer is, its first word says in a column that a host lends.
-ghost use Rattle.std.specs.Prelude.{◌≡◌, [], ◌∷◌, ◌+◌, ◌≤◌, length, set, replicate};
-ghost use Rattle.course.specs.Rules.Arithmetic.{nought};
+// An answer as it stands in its columns: four words and twelve numbers.
+// Kept as numbers: what an answer is, its first word says, in a column of numbers that the C interface lends.
+ghost use Rattle.std.specs.Prelude.{◌≡◌};
+ghost use Rattle.certificate.specs.Rules.Answers.Answer.{refused};
 ghost use Rattle.certificate.specs.Grader.Calls.{drive_said, settle_said};
-ghost use Rattle.run.specs.Grader.Numbers.{force_numbers};
-ghost use Rattle.certificate.specs.Grader.CallColumns.{answer_numbers, words_of, numbers_of};
+ghost use Rattle.course.specs.Grader.Cause.{number_of};
+ghost use Rattle.certificate.specs.Steps.Replay.{encoded};
 
+use crate::replay::{ANSWER_NUMBERS, ANSWER_WORDS};
 use course::cause::{Cause, Numbered};
 use run::dynamics::Force;
 use run::numbers;
-use run::numbers::FORCE_NUMBERS;
 use run::save::flags_of;
 use run::settle::SettleValues;
 
-// An answer's twelve numbers.
-fn put_forces(forces: [Force; 4], numbers: &mut [f64])
-    requires { length numbers.old ≡ 12 }
-    ensures { numbers.new ≡ force_numbers forces }
-{
-    let mut twelve = [0.0; FORCE_NUMBERS];
-    numbers::put_forces(forces, &mut twelve);
-    numbers.copy_from_slice(&twelve);
+// One answer's words and numbers, a value of its own for every answer; `AnswerColumns` lends those of all.
+#[derive(Clone, Copy)]
+pub(crate) struct Encoded {
+    pub words: [u32; ANSWER_WORDS],
+    pub numbers: [f64; ANSWER_NUMBERS],
 }
 
-// No forces.
-fn put_zeros(numbers: &mut [f64])
-    requires { length numbers.old ≡ 12 }
-    ensures { numbers.new ≡ replicate answer_numbers nought }
-{
-    put_forces([Force::default(); 4], numbers);
-}
+impl From<Cause> for Encoded {
+    ghost from_gives = { λ cause result. result ≡ encoded (refused (number_of cause)) };
 
-// The answer to a drive.
-#[tactic(auto, unfolding(crate::specs::Grader::CallColumns::words_of, crate::specs::Grader::CallColumns::numbers_of))]
-pub(crate) fn put_drive(answer: Result<[Force; 4], Cause>, words: &mut [u32], numbers: &mut [f64])
-    requires words_len { length words.old ≡ 4 }
-    requires numbers_len { length numbers.old ≡ 12 }
-    ensures words_after { words.new ≡ words_of (drive_said answer) }
-    ensures numbers_after { numbers.new ≡ numbers_of (drive_said answer) }
-{
-    match answer {
-        Ok(forces) => {
-            words.copy_from_slice(&[0; 4]);
-            put_forces(forces, numbers);
-        }
-        Err(cause) => {
-            words.copy_from_slice(&[2, cause.number(), 0, 0]);
-            put_zeros(numbers);
+    // A refusal, which has no numbers.
+    #[tactic(auto, unfolding(crate::specs::Grader::CallColumns::words_of, crate::specs::Grader::CallColumns::numbers_of))]
+    fn from(cause: Cause) -> Encoded {
+        Encoded {
+            words: [2, cause.number(), 0, 0],
+            numbers: [0.0; ANSWER_NUMBERS],
         }
     }
 }
 
-// The answer to a settle.
-#[tactic(auto, unfolding(crate::specs::Grader::CallColumns::words_of, crate::specs::Grader::CallColumns::numbers_of, run::specs::Grader::Saved::flags_of))]
-pub(crate) fn put_settle(
-    answer: Result<SettleValues, Cause>,
-    words: &mut [u32],
-    numbers: &mut [f64],
-)
-    requires words_len { length words.old ≡ 4 }
-    requires numbers_len { length numbers.old ≡ 12 }
-    ensures words_after { words.new ≡ words_of (settle_said answer) }
-    ensures numbers_after { numbers.new ≡ numbers_of (settle_said answer) }
-{
-    put_zeros(numbers);
-    match answer {
-        Ok(v) => {
-            words.copy_from_slice(&[1, v.new_tiles, v.n, flags_of(v.off, v.lap, v.ended)]);
+impl From<Result<[Force; 4], Cause>> for Encoded {
+    ghost from_gives = { λ answer result. result ≡ encoded (drive_said answer) };
+
+    // The answer to a drive.
+    #[tactic(auto, unfolding(crate::specs::Grader::CallColumns::words_of, crate::specs::Grader::CallColumns::numbers_of))]
+    fn from(answer: Result<[Force; 4], Cause>) -> Encoded {
+        match answer {
+            Ok(forces) => {
+                let mut numbers = [0.0; ANSWER_NUMBERS];
+                numbers::put_forces(forces, &mut numbers);
+                Encoded {
+                    words: [0; ANSWER_WORDS],
+                    numbers,
+                }
+            }
+            Err(cause) => Encoded::from(cause),
         }
-        Err(cause) => {
-            words.copy_from_slice(&[2, cause.number(), 0, 0]);
+    }
+}
+
+impl From<Result<SettleValues, Cause>> for Encoded {
+    ghost from_gives = { λ answer result. result ≡ encoded (settle_said answer) };
+
+    // The answer to a settle.
+    #[tactic(auto, unfolding(crate::specs::Grader::CallColumns::words_of, crate::specs::Grader::CallColumns::numbers_of, run::specs::Grader::Saved::flags_of))]
+    fn from(answer: Result<SettleValues, Cause>) -> Encoded {
+        match answer {
+            Ok(v) => Encoded {
+                words: [1, v.new_tiles, v.n, flags_of(v.off, v.lap, v.ended)],
+                numbers: [0.0; ANSWER_NUMBERS],
+            },
+            Err(cause) => Encoded::from(cause),
         }
     }
 }

@@ -6,5 +6,4 @@
 #![tactic(auto)]
 
 mod answer;
-mod call;
 pub mod replay;

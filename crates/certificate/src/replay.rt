@@ -1,17 +1,16 @@
 // The batch grader: a seed's course, a start and a whole list of drives and settles from lent columns, every answer whole
 // (document 01, "The plain scorer").
-ghost use Rattle.std.specs.Prelude.{◌≡◌, ◌++◌, ◌+◌, ◌*◌, ◌≤◌, length, drop};
+ghost use Rattle.std.specs.Prelude.{◌≡◌, true, ◌++◌, ◌*◌, length, drop};
 ghost use Rattle.run.specs.Grader.Widths.{full_words, most_tiles};
 ghost use Rattle.run.specs.Grader.State.{view, lent_columns};
-ghost use Rattle.certificate.specs.Grader.Calls.{Call, reply_of, replies_of, state_after};
-ghost use Rattle.course.specs.Rules.Tiles.{number_at};
-ghost use Rattle.run.specs.Grader.Numbers.{motions_from, poses_from};
-ghost use Rattle.certificate.specs.Grader.CallColumns.{call_words, call_numbers, answer_words, answer_numbers, words_of, numbers_of, all_words, all_numbers};
-ghost use Rattle.certificate.specs.Steps.Replay.{call_from, calls_to};
+ghost use Rattle.certificate.specs.Grader.Calls.{replies_of, state_after};
+ghost use Rattle.certificate.specs.Grader.CallColumns.{answer_words, answer_numbers, all_words, all_numbers};
+ghost use Rattle.certificate.specs.Steps.Replay.{first_lent, call_from, calls_to, Replies};
 ghost use Rattle.certificate.specs.Grader.Replay.{room_for, replay, replay_of};
+ghost use Rattle.certificate.specs.Claim.Certificate.{settings_for};
 ghost use Rattle.course.specs.Grader.Outcome.{lent_to, left_by};
 
-use crate::{answer, call};
+use crate::answer::Encoded;
 use course::cause::Cause;
 use course::lay;
 use course::lent::LentColumns;
@@ -32,6 +31,48 @@ pub const ANSWER_WORDS: usize = 4;
 
 pub const ANSWER_NUMBERS: usize = 12;
 
+// What a run starts with beside its course: lap share, tick limit and the wheels' poses.
+#[derive(Clone, Copy)]
+pub struct Opening {
+    pub share: f64,
+    pub limit: u32,
+    pub poses: [Pose; 4],
+}
+
+impl Opening {
+    // What start is told on a seed's course.
+    fn on(self, course: LaidCourse, seed: u64) -> Settings
+        ensures { result
+            ≡ settings_for course.n (record { fallback = course.fallback; seed = seed })
+            (record { share = self.share; limit = self.limit; poses = self.poses }) }
+    {
+        let poses = self.poses;
+        Settings {
+            n: course.n,
+            fallback: course.fallback,
+            seed,
+            share: self.share,
+            limit: self.limit,
+            poses,
+        }
+    }
+}
+
+// So many calls, as a host lends them: four words and twenty numbers each, one call after the other. A host's columns may be short.
+#[derive(Clone, Copy)]
+pub struct CallColumns<'a> {
+    pub many: u32,
+    pub words: &'a [u32],
+    pub numbers: &'a [f64],
+}
+
+// The columns for their answers: four words and twelve numbers each.
+#[derive(Drop)]
+pub struct AnswerColumns<'a> {
+    pub words: &'a mut [u32],
+    pub numbers: &'a mut [f64],
+}
+
 // The answers of lay and start, and the sheet after the last call.
 #[derive(Clone, Copy)]
 pub struct Replayed {
@@ -40,176 +81,116 @@ pub struct Replayed {
     pub sheet: Result<RunSheet, Cause>,
 }
 
-// A drive from the numbers of its call, and its answer.
-fn reply_drive(
-    run: &mut Run,
-    action: u32,
-    given: &[f64; CALL_NUMBERS],
-    words: &mut [u32],
-    numbers: &mut [f64],
-)
-    requires words_len { length words.old ≡ 4 }
-    requires numbers_len { length numbers.old ≡ 12 }
-    ensures run_after { view run.new
-        ≡ (reply_of full_words most_tiles (view run.old) (Call.drive action (motions_from given.now))).state }
-    ensures words_after { words.new
-        ≡ words_of
-        (reply_of full_words most_tiles (view run.old) (Call.drive action (motions_from given.now))).answer }
-    ensures numbers_after { numbers.new
-        ≡ numbers_of
-        (reply_of full_words most_tiles (view run.old) (Call.drive action (motions_from given.now))).answer }
+// The first of the lent tiles and offsets, as many as are asked for and there are, and the whole list.
+#[tactic(auto, unfolding(crate::specs::Steps::Replay::first_lent))]
+fn first_lent(columns: Columns<'_>, tiles: u32, offsets: u32) -> Columns<'_>
+    ensures { lent_columns result ≡ first_lent (lent_columns columns.entry) tiles offsets }
 {
-    let said = drive::drive(run, action, numbers::motions_from(given));
-    answer::put_drive(said, words, numbers);
-}
-
-// A settle on the lent columns from the numbers of its call, and its answer.
-fn reply_settle(
-    run: &mut Run,
-    columns: Columns<'_>,
-    given: &[f64; CALL_NUMBERS],
-    words: &mut [u32],
-    numbers: &mut [f64],
-)
-    requires words_len { length words.old ≡ 4 }
-    requires numbers_len { length numbers.old ≡ 12 }
-    ensures run_after { view run.new
-        ≡ (reply_of full_words most_tiles (view run.old)
-        (Call.settle (lent_columns columns.entry)
-        (number_at given.now 0) (number_at given.now 1) (poses_from given.now))).state }
-    ensures words_after { words.new
-        ≡ words_of (reply_of full_words most_tiles (view run.old)
-        (Call.settle (lent_columns columns.entry)
-        (number_at given.now 0) (number_at given.now 1) (poses_from given.now))).answer }
-    ensures numbers_after { numbers.new
-        ≡ numbers_of (reply_of full_words most_tiles (view run.old)
-        (Call.settle (lent_columns columns.entry)
-        (number_at given.now 0) (number_at given.now 1) (poses_from given.now))).answer }
-{
-    let said = settle::settle(
-        run,
-        columns,
-        Places {
-            x: given[0],
-            y: given[1],
-            poses: numbers::settle_poses(given),
-        },
-    );
-    answer::put_settle(said, words, numbers);
+    let most = (tiles as usize).min(columns.tiles.len());
+    let last = (offsets as usize).min(columns.offsets.len());
+    Columns {
+        tiles: &columns.tiles[..most],
+        offsets: &columns.offsets[..last],
+        list: columns.list,
+    }
 }
 
 // The call that four words and twenty numbers hold, and its answer.
-// Kept as a number: the first word of a call is one of a column of numbers that a host lends.
+// Kept as a number: the first word of a call stands in a column of numbers that the C interface lends, and is looked at here alone.
+#[tactic(auto, unfolding(crate::specs::Steps::Replay::call_from, crate::specs::Grader::Calls::reply_of))]
 fn reply(
     run: &mut Run,
     columns: Columns<'_>,
     asked: &[u32; CALL_WORDS],
     given: &[f64; CALL_NUMBERS],
-    words: &mut [u32],
-    numbers: &mut [f64],
-)
-    requires words_len { length words.old ≡ 4 }
-    requires numbers_len { length numbers.old ≡ 12 }
-    ensures run_after { view run.new
-        ≡ (reply_of full_words most_tiles (view run.old)
+) -> Encoded
+    ensures { Replies full_words most_tiles (view run.old)
         (call_from (lent_columns columns.entry) asked.now
-        given.now)).state }
-    ensures words_after { words.new
-        ≡ words_of (reply_of full_words most_tiles (view run.old)
-        (call_from (lent_columns columns.entry) asked.now
-        given.now)).answer }
-    ensures numbers_after { numbers.new
-        ≡ numbers_of (reply_of full_words most_tiles (view run.old)
-        (call_from (lent_columns columns.entry) asked.now
-        given.now)).answer }
+        given.now) (view run.new) result }
 {
     if asked[0] == 0 {
-        return reply_drive(run, asked[1], given, words, numbers);
+        let motions = numbers::motions_from(given);
+        return Encoded::from(drive::drive(run, asked[1], motions));
     }
-    let most = call::upto(asked[2], columns.tiles.len());
-    let last = call::upto(asked[3], columns.offsets.len());
-    let lent = Columns {
-        tiles: &columns.tiles[..most],
-        offsets: &columns.offsets[..last],
-        list: columns.list,
+    let lent = first_lent(columns, asked[2], asked[3]);
+    let places = Places {
+        x: given[0],
+        y: given[1],
+        poses: numbers::settle_poses(given),
     };
-    reply_settle(run, lent, given, words, numbers)
+    Encoded::from(settle::settle(run, lent, places))
 }
 
-// All calls of the columns in their order, each on the state that the one before it left, and their answers.
-pub(crate) fn replies(
-    run: &mut Run,
-    columns: Columns<'_>,
-    many: usize,
-    calls: &[u32],
-    given: &[f64],
-    words: &mut [u32],
-    numbers: &mut [f64],
-)
-    requires many_in_bounds { call_words * many ≤ length calls.now }
-    requires many_in_bounds_2 { call_numbers * many ≤ length given.now }
-    requires many_in_bounds_3 { answer_words * many ≤ length words.old }
-    requires many_in_bounds_4 { answer_numbers * many ≤ length numbers.old }
+// All calls in their order, each on the state that the one before it left, and their answers.
+// Kept by index where answers are written: the library promises nothing of what a slice ends as after `as_chunks_mut` or
+// `chunks_exact_mut`, and columns that are cut by `split_at_mut` and gone on with in a loop no proof of today's covers (tried). A call's
+// numbers stand at the same index.
+#[tactic(auto, unfolding(crate::specs::Grader::Replay::room_for))]
+fn replies(run: &mut Run, columns: Columns<'_>, calls: CallColumns<'_>, answers: AnswerColumns<'_>)
+    requires { room_for calls.many (length calls.words.now)
+        (length calls.numbers.now) (length answers.words.now)
+        (length answers.numbers.now)
+        ≡ true }
     ensures run_after { view run.new
         ≡ state_after full_words most_tiles (view run.old)
-        (calls_to (lent_columns columns.entry) calls.now
-        given.now many) }
-    ensures words_after { words.new
+        (calls_to (lent_columns columns.entry) calls.entry.words.now
+        calls.entry.numbers.now calls.entry.many) }
+    ensures words_after { answers.exit.0.now
         ≡ all_words (replies_of full_words most_tiles (view run.old)
-        (calls_to (lent_columns columns.entry) calls.now
-        given.now many))
-        ++ drop (answer_words * many) words.old }
-    ensures numbers_after { numbers.new
+        (calls_to (lent_columns columns.entry) calls.entry.words.now
+        calls.entry.numbers.now calls.entry.many))
+        ++ drop (answer_words * calls.entry.many) answers.entry.words.now }
+    ensures numbers_after { answers.exit.1.0.now
         ≡ all_numbers (replies_of full_words most_tiles (view run.old)
-        (calls_to (lent_columns columns.entry) calls.now
-        given.now many))
-        ++ drop (answer_numbers * many) numbers.old }
+        (calls_to (lent_columns columns.entry) calls.entry.words.now
+        calls.entry.numbers.now calls.entry.many))
+        ++ drop (answer_numbers * calls.entry.many) answers.entry.numbers.now }
 {
-    for i in 0..many {
-        let c = CALL_WORDS * i;
-        let g = CALL_NUMBERS * i;
+    let AnswerColumns { words, numbers } = answers;
+    let (asked, _) = calls.words.as_chunks::<CALL_WORDS>();
+    let (given, _) = calls.numbers.as_chunks::<CALL_NUMBERS>();
+    let many = calls.many as usize;
+    for (i, call) in asked[..many].iter().enumerate() {
+        let said = reply(run, columns, call, &given[i]);
         let w = ANSWER_WORDS * i;
         let n = ANSWER_NUMBERS * i;
-        reply(
-            run,
-            columns,
-            calls[c..c + CALL_WORDS].first_chunk().unwrap(),
-            given[g..g + CALL_NUMBERS].first_chunk().unwrap(),
-            &mut words[w..w + ANSWER_WORDS],
-            &mut numbers[n..n + ANSWER_NUMBERS],
-        );
+        words[w..w + ANSWER_WORDS].copy_from_slice(&said.words);
+        numbers[n..n + ANSWER_NUMBERS].copy_from_slice(&said.numbers);
     }
 }
 
-// The columns of calls and answers, by their lengths, have room for so many calls.
-fn room_for(many: u32, calls: usize, given: usize, words: usize, numbers: usize) -> bool
-    ensures { result ≡ room_for many calls given words numbers }
+// The columns of calls and answers have room for so many calls.
+#[tactic(auto, unfolding(crate::specs::Grader::Replay::room_for))]
+fn room_for(calls: CallColumns<'_>, answers: &AnswerColumns<'_>) -> bool
+    ensures { result
+        ≡ room_for calls.entry.many (length calls.entry.words.now)
+        (length calls.entry.numbers.now) (length answers.now.words.now)
+        (length answers.now.numbers.now) }
 {
-    let n = many as usize;
-    (CALL_WORDS * n <= calls)
-        & ((CALL_NUMBERS * n <= given)
-            & ((ANSWER_WORDS * n <= words) & (ANSWER_NUMBERS * n <= numbers)))
+    let n = calls.many as usize;
+    CALL_WORDS * n <= calls.words.len()
+        && CALL_NUMBERS * n <= calls.numbers.len()
+        && ANSWER_WORDS * n <= answers.words.len()
+        && ANSWER_NUMBERS * n <= answers.numbers.len()
 }
 
 // Lays the seed's course, starts a run on it with its n, and answers so many calls. Refused by 2, before anything is laid, where a
 // column of calls or answers is short. Where lay is refused, so is the start, and after a refused start every call.
+#[tactic(auto, unfolding(crate::specs::Grader::Replay::replay_of))]
 pub fn replay(
     seed: u64,
     cols: LentColumns<'_>,
-    share: f64,
-    limit: u32,
-    poses: [Pose; 4],
-    many: u32,
-    calls: &[u32],
-    given: &[f64],
-    words: &mut [u32],
-    numbers: &mut [f64],
+    opening: Opening,
+    calls: CallColumns<'_>,
+    answers: AnswerColumns<'_>,
 ) -> Replayed
     ensures { replay result.laid result.start result.sheet
-        (left_by cols.exit) words.new numbers.new
+        (left_by cols.exit) answers.exit.0.now answers.exit.1.0.now
         ≡ replay_of seed
-        (lent_to cols.entry) (record { share = share; limit = limit; poses = poses }) many
-        calls.now given.now words.old numbers.old }
+        (lent_to cols.entry)
+        (record { share = opening.share; limit = opening.limit; poses = opening.poses })
+        calls.entry.many calls.entry.words.now calls.entry.numbers.now
+        answers.entry.words.now answers.entry.numbers.now }
 {
     let LentColumns {
         alpha,
@@ -220,7 +201,7 @@ pub fn replay(
         offsets,
         list,
     } = cols;
-    if !room_for(many, calls.len(), given.len(), words.len(), numbers.len()) {
+    if !room_for(calls, &answers) {
         return Replayed {
             laid: Err(LayError::Refused(Cause::Length)),
             start: Err(Cause::Length),
@@ -245,26 +226,11 @@ pub fn replay(
         offsets,
         list,
     };
-    let settings = Settings {
-        n: course.n,
-        fallback: course.fallback,
-        seed,
-        share,
-        limit,
-        poses,
-    };
-    let s = start::start(columns, settings);
+    let s = start::start(columns, opening.on(course, seed));
     let begun = s.answer;
     let mut run = s.run;
-    replies(
-        &mut run,
-        columns,
-        many as usize,
-        calls,
-        given,
-        words,
-        numbers,
-    );
+    let AnswerColumns { words, numbers } = answers;
+    replies(&mut run, columns, calls, AnswerColumns { words, numbers });
     Replayed {
         laid,
         start: begun,

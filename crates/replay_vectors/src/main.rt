@@ -14,7 +14,7 @@ mod line;
 mod read;
 
 use certificate::replay;
-use certificate::replay::Replayed;
+use certificate::replay::{AnswerColumns, CallColumns, Opening, Replayed};
 use read::Log;
 use run::numbers;
 use std::alloc::{AllocError, Global};
@@ -54,17 +54,26 @@ impl Calls {
 
 // The record's call on parts of the columns, of the record's lengths.
 fn call(record: Record<'_>, columns: &mut Columns, c: &mut Calls) -> Replayed {
+    let opening = Opening {
+        share: record.float(9),
+        limit: record.low(10),
+        poses: numbers::poses_from(&record.floats(11)),
+    };
+    let calls = CallColumns {
+        many: record.low(27),
+        words: front(&c.calls, record.word(28)),
+        numbers: front(&c.given, record.word(29)),
+    };
+    let answers = AnswerColumns {
+        words: front_mut(&mut c.words, record.word(30)),
+        numbers: front_mut(&mut c.numbers, record.word(31)),
+    };
     replay::replay(
         record.word(1),
         columns.lend(record, 2),
-        record.float(9),
-        record.low(10),
-        numbers::poses_from(&record.floats(11)),
-        record.low(27),
-        front(&c.calls, record.word(28)),
-        front(&c.given, record.word(29)),
-        front_mut(&mut c.words, record.word(30)),
-        front_mut(&mut c.numbers, record.word(31)),
+        opening,
+        calls,
+        answers,
     )
 }
 

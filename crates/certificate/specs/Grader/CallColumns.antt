@@ -1,5 +1,6 @@
 -- The batch grader's columns: how a call stands in four words and twenty numbers, and its answer in four words and twelve numbers. Assumes nothing.
-use Rattle.std.specs.Prelude.{cond, List, [], ◌∷◌, ◌++◌, ℕ, zero, suc, ◌+◌, ◌*◌, ◌/◌, ◌%◌, eqb, get_or, take, drop, replicate, Float}
+use Rattle.std.specs.Prelude.{cond, List, [], ◌∷◌, ℕ, zero, suc, ◌+◌, ◌*◌, ◌/◌, ◌%◌, eqb, get_or, take, drop, replicate, Float}
+use Rattle.std.specs.List.{flat_map}
 use Rattle.course.specs.Rules.Arithmetic.{nought}
 use Rattle.course.specs.Rules.Counting.{digit}
 use Rattle.certificate.specs.Rules.Answers.{Answer}
@@ -43,13 +44,11 @@ numbers_of (refused k) = replicate answer_numbers nought
 
 -- ---- a list of answers, one after the other
 
-unfoldable pub all_words : List Answer → List ℕ
-all_words [] = []
-all_words (a ∷ rest) = words_of a ++ all_words rest
+abbrev pub all_words : List Answer → List ℕ
+all_words rs = flat_map words_of rs
 
-unfoldable pub all_numbers : List Answer → List Float
-all_numbers [] = []
-all_numbers (a ∷ rest) = numbers_of a ++ all_numbers rest
+abbrev pub all_numbers : List Answer → List Float
+all_numbers rs = flat_map numbers_of rs
 
 -- ---- and back: what the words and numbers say
 

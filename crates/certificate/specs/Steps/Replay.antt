@@ -1,23 +1,34 @@
--- Only private functions of `replay` cite this: calls read from lent columns, as the calls of the grader. Assumes nothing.
-use Rattle.std.specs.Prelude.{cond, List, [], ◌∷◌, ◌++◌, ℕ, zero, suc, eqb, get_or, take, Float}
-use Rattle.run.specs.Grader.State.{Columns, columns}
-use Rattle.certificate.specs.Grader.Calls.{Call}
+-- Only private functions cite this: calls read from lent columns, as the calls of the grader, and answers as they are written. Assumes nothing.
+use Rattle.std.specs.Prelude.{◌≡◌, cond, List, [], ◌∷◌, ◌++◌, ℕ, zero, suc, eqb, get_or, take, Float}
+use Rattle.run.specs.Grader.State.{State, Columns, columns}
+use Rattle.certificate.specs.Rules.Answers.{Answer}
+use Rattle.certificate.specs.Grader.Calls.{Call, reply_of}
 use Rattle.certificate.specs.Grader.Calls.Call.{drive, settle}
 use Rattle.course.specs.Rules.Tiles.{number_at}
 use Rattle.run.specs.Grader.Numbers.{motions_from, poses_from}
-use Rattle.certificate.specs.Grader.CallColumns.{call_words, call_numbers, part_at}
+use Rattle.certificate.specs.Grader.CallColumns.{call_words, call_numbers, part_at, words_of, numbers_of}
+use Rattle.certificate.specs.declared.answer.Encoded.{Encoded}
 
 -- the first of the lent tiles and offsets, and the whole list
-unfoldable pub lent_to : Columns → ℕ → ℕ → Columns
-lent_to l tiles offsets = columns (take tiles l.tiles) (take offsets l.offsets) l.list
+unfoldable pub first_lent : Columns → ℕ → ℕ → Columns
+first_lent l tiles offsets = columns (take tiles l.tiles) (take offsets l.offsets) l.list
 
 -- the call that four words and twenty numbers hold
 unfoldable pub call_from : Columns → List ℕ → List Float → Call
 call_from l ws ns =
     cond (eqb (get_or ws 0 0) 0) (drive (get_or ws 1 0) (motions_from ns))
-    (settle (lent_to l (get_or ws 2 0) (get_or ws 3 0)) (number_at ns 0) (number_at ns 1) (poses_from ns))
+    (settle (first_lent l (get_or ws 2 0) (get_or ws 3 0)) (number_at ns 0) (number_at ns 1) (poses_from ns))
 
 -- the first k calls of the columns
 unfoldable pub calls_to : Columns → List ℕ → List Float → ℕ → List Call
 calls_to l ws ns zero = []
 calls_to l ws ns (suc k) = calls_to l ws ns k ++ (call_from l (part_at call_words ws k) (part_at call_numbers ns k) ∷ [])
+
+-- an answer as it stands in its columns
+abbrev pub encoded : Answer → Encoded
+encoded a = record { words = words_of a; numbers = numbers_of a }
+
+-- what a call leaves: the state, and its answer as it is written
+pub record Replies (m most : ℕ) (s : State) (c : Call) (after : State) (w : Encoded) : Type 0 where
+  pub state : after ≡ (reply_of m most s c).state
+  pub answer : w ≡ encoded (reply_of m most s c).answer

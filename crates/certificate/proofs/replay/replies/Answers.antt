@@ -1,6 +1,11 @@
 -- `certificate::replay::replies` meets its contract. Assumes nothing.
-use Rattle.std.proofs.Common.{◌*◌}
-use Rattle.certificate.proofs.CallColumnLaws.{no-reply, part-cut, one-reply, all-replies}
+use mathlib.Core.List.{List}
+use mathlib.Core.Path.{ap, ◌∙◌}
+use Prim.Native.Nat.{◌/◌, ◌≤◌, ◌<◌}
+use native.Mathlib.Omega.{arith}
+use lib.ListN.{length, get_or, length-take}
+use lib.Ieee.{Float}
+use Rattle.certificate.proofs.CallColumnLaws.{chunk_at, cut_at, parts-many, no-reply, one-reply, all-replies}
 use Rattle.certificate.proofs.replay.replies.Goals as goal
 
 pub loop-i-init : goal.loop-i-init
@@ -9,18 +14,19 @@ loop-i-init c = no-reply
 pub loop-i-preserved : goal.loop-i-preserved
 loop-i-preserved c =
     let i = c.loop-i.i in
-    let asked = part-cut (λ x. x.now) (4 * i) 4 c.args.calls.now _ c.first_chunk.ensures.cases c.unwrap.ensures in
-    let held = part-cut (λ x. x.now) (20 * i) 20 c.args.given.now _ c.first_chunk-in-loop-i.ensures.cases c.unwrap-in-loop-i.ensures in
-    one-reply c.loop-i.invariant (c.requires.many_in_bounds, (c.requires.many_in_bounds_2, (c.requires.many_in_bounds_3, c.requires.many_in_bounds_4))) c.loop-i-test.true
-    (rw (asked, held) (c.reply.ensures.run_after, (c.reply.ensures.words_after, c.reply.ensures.numbers_after)))
-
-pub shape_of-words : goal.shape_of-words
-shape_of-words c = c.loop-i.invariant.words_long
-
-pub shape_of-numbers : goal.shape_of-numbers
-shape_of-numbers c = c.loop-i.invariant.numbers-long
+    let s = c.args.calls in
+    let many = parts-many _ _ _ _ _ c.requires in
+    let b : i < s.many = omega (arith, c.loop-i-test.true, length-take s.many c.as_chunks.result.0.now) in
+    let of-words : i < length s.words.now / 4 = omega (arith, b, many.0) in
+    let of-numbers : i < length s.numbers.now / 20 = omega (arith, b, many.1) in
+    one-reply c.loop-i.invariant b c.reply-said.ensures
+    (cut_at 4 _ i s.words.now _ c.as_chunks.ensures.front b of-words)
+    (ap (λ (parts : List (List Float)). get_or parts i _) c.as_chunks-2.ensures.front ∙ chunk_at 20 _ i s.numbers.now _ of-numbers)
+    c.copy_from_slice.ensures.after c.copy_from_slice-in-loop-i.ensures.after
 
 pub returns : goal.returns
 returns c =
-    let whole = all-replies c.loop-i.invariant c.loop-i-test.false in
+    let s = c.args.calls in
+    let long : s.many ≤ c.loop-i.i = omega (arith, c.loop-i-test.false, length-take s.many c.as_chunks.result.0.now, c.as_chunks.ensures.front_len, (parts-many _ _ _ _ _ c.requires).0) in
+    let whole = all-replies c.loop-i.invariant long in
     record { run_after = whole.0; words_after = whole.1.0; numbers_after = whole.1.1 }
