@@ -11,8 +11,9 @@ const LEAST_RAD: f64 = TRACK_RAD / 3.0;
 
 const TWELFTH: f64 = TAU / 12.0;
 
-// A place that the track makes for, and its angle as seen from the middle.
-#[derive(Clone, Copy)]
+// A place that the track makes for, and its angle as seen from the middle. A host lends checkpoints in this layout.
+#[derive(Clone, Copy, Default)]
+#[repr(C)]
 pub struct Checkpoint {
     pub angle: f64,
     pub x: f64,
@@ -50,11 +51,7 @@ pub(crate) fn checkpoints(g: &mut SplitMix64) -> [Checkpoint; 12]
     ensures value { result ≡ checkpoints_of 12 g.old }
     ensures state { g.new ≡ after 24 g.old }
 {
-    let mut cs = [Checkpoint {
-        angle: 0.0,
-        x: 0.0,
-        y: 0.0,
-    }; 12];
+    let mut cs = [Checkpoint::default(); 12];
     for (c, place) in cs.iter_mut().enumerate() {
         let noise = g.uniform(0.0, TWELFTH);
         let rad = g.uniform(LEAST_RAD, TRACK_RAD);

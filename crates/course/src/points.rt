@@ -16,7 +16,7 @@ use crate::tiles::{PointColumns, TrackPoint};
 use crate::{columns, constants, index, numeric, tiles};
 
 // The values of a course's answer.
-#[derive(Clone, Copy)]
+#[derive(Clone, Copy, Default)]
 pub struct LaidCourse {
     // how many points and tiles the course has
     pub n: u32,
@@ -84,16 +84,9 @@ pub fn laid_cause(answer: &Result<LaidCourse, LayError>) -> u32
 fn no_course(entries: u32) -> LaidCourse
     ensures { result ≡ no_course entries }
 {
-    let first = TrackPoint {
-        beta: 0.0,
-        x: 0.0,
-        y: 0.0,
-    };
     LaidCourse {
-        n: 0,
-        fallback: false,
         entries,
-        first,
+        ..LaidCourse::default()
     }
 }
 

@@ -8,7 +8,7 @@ use crate::constants::TRACK_WIDTH;
 use crate::trig;
 
 // A point of the track, and the direction there.
-#[derive(Clone, Copy)]
+#[derive(Clone, Copy, Default)]
 pub struct TrackPoint {
     pub beta: f64,
     pub x: f64,
