@@ -1,4 +1,5 @@
 pub mod WordLaws
+pub mod Zeros
 pub mod CreditLaws
 pub mod TouchLaws
 pub mod CellLaws

@@ -11,7 +11,7 @@ use crate::quad::Stance;
 use crate::state::{Answered, Progress, Run, Setup};
 use crate::touch::Columns;
 use crate::widths::{FULL_WORDS, WHEEL_WORDS};
-use crate::{contact, load, numbers, start, state, words};
+use crate::{contact, load, numbers, state, words};
 use course::cause::Cause;
 
 // A course's seed and its tile count.
@@ -101,7 +101,7 @@ pub fn restore(bytes: &[u8], columns: Columns<'_>, n: u32) -> Answered<()>
         },
         Err(cause) => Answered {
             answer: Err(cause),
-            run: start::zero_run(),
+            run: Run::default(),
         },
     }
 }

@@ -2,13 +2,12 @@
 ghost use Rattle.std.specs.Prelude.{◌≡◌};
 ghost use Rattle.run.specs.Grader.Widths.{full_words, most_tiles};
 ghost use Rattle.run.specs.Grader.State.{view, lent_columns};
-ghost use Rattle.run.specs.Grader.Start.{start_check, first_progress, zero_state, begun, start_of};
-ghost use Rattle.run.specs.Rules.Pass.{still_car};
+ghost use Rattle.run.specs.Grader.Start.{start_check, first_progress, begun, start_of};
 ghost use Rattle.run.specs.Rules.Arguments.{settings_ok};
 
 use crate::numbers::POSE_NUMBERS;
 use crate::quad::Stance;
-use crate::state::{Answered, Car, Pose, Progress, Run, Setup, WheelCtl};
+use crate::state::{Answered, Car, Pose, Progress, Run, Setup};
 use crate::touch::Columns;
 use crate::widths::{FULL_WORDS, MOST_TILES, WHEEL_WORDS};
 use crate::{contact, lap, numbers, state};
@@ -67,58 +66,14 @@ fn start_check(
 }
 
 // Tick 0 and no drive made, with so many tiles credited.
+#[tactic(auto, unfolding(crate::specs::Grader::Start::first_progress))]
 fn first_progress(count: u32, lap: bool) -> Progress
     ensures { result ≡ first_progress count lap }
 {
     Progress {
         visited_count: count,
-        tick: 0,
         lap,
-        ended: false,
-        driven: false,
-    }
-}
-
-// Controls and fuel of 0.
-fn still_car() -> Car
-    ensures { result ≡ still_car }
-{
-    let z = WheelCtl {
-        gas: 0.0,
-        brake: 0.0,
-        steer: 0.0,
-        omega: 0.0,
-        phase: 0.0,
-    };
-    Car {
-        ctl: [z, z, z, z],
-        fuel_spent: 0.0,
-    }
-}
-
-// The state of zeros.
-pub(crate) fn zero_run() -> Run
-    ensures { view result ≡ zero_state full_words }
-{
-    let setup = Setup {
-        n: 0,
-        tick_limit: 0,
-        lap_share: 0.0,
-        fallback: false,
-    };
-    let progress = first_progress(0, false);
-    let car = still_car();
-    let credited = [0u64; FULL_WORDS];
-    let wheels = [0u64; WHEEL_WORDS];
-    let poses = [0.0; POSE_NUMBERS];
-    Run {
-        setup,
-        progress,
-        car,
-        credited,
-        wheels,
-        poses,
-        seed: 0,
+        ..Progress::default()
     }
 }
 
@@ -132,7 +87,7 @@ pub fn start(columns: Columns<'_>, settings: Settings) -> Answered<StartValues>
     if let Err(cause) = check {
         return Answered {
             answer: Err(cause),
-            run: zero_run(),
+            run: Run::default(),
         };
     }
     let n = settings.n;
@@ -147,7 +102,7 @@ pub fn start(columns: Columns<'_>, settings: Settings) -> Answered<StartValues>
         fallback: settings.fallback,
     };
     let progress = first_progress(c.fresh, lap);
-    let car = still_car();
+    let car = Car::default();
     let mut last = [0.0; POSE_NUMBERS];
     numbers::put_poses(settings.poses, &mut last);
     let run = Run {

@@ -1,7 +1,9 @@
 // The state of a run, and the tests of arguments and states that the calls share (document 01,
 // "Refusals by cause").
 ghost use Rattle.std.specs.Prelude.{◌≡◌};
-ghost use Rattle.run.specs.Grader.State.{unfit};
+ghost use Rattle.run.specs.Grader.Widths.{full_words};
+ghost use Rattle.run.specs.Grader.State.{unfit, view};
+ghost use Rattle.run.specs.Grader.Start.{zero_state};
 ghost use Rattle.run.specs.Rules.Arguments.{in_range, pose_ok, poses_ok, short_columns};
 
 use crate::numbers::POSE_NUMBERS;
@@ -77,6 +79,23 @@ pub struct Run {
     pub poses: [f64; POSE_NUMBERS],
     // The course's seed, as start was told it.
     pub seed: u64,
+}
+
+// The state of zeros.
+impl Default for Run {
+    fn default() -> Run
+        ensures { view result ≡ zero_state full_words }
+    {
+        Run {
+            setup: Setup::default(),
+            progress: Progress::default(),
+            car: Car::default(),
+            credited: [0; FULL_WORDS],
+            wheels: [0; WHEEL_WORDS],
+            poses: [0.0; POSE_NUMBERS],
+            seed: 0,
+        }
+    }
 }
 
 // A call's answer, and the state beside it: the state of zeros where the call is refused.

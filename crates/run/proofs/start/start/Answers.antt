@@ -1,5 +1,6 @@
 -- `run::start::start` meets its contract. Assumes nothing.
 use Rattle.run.proofs.CallLaws.{start-facts, start-refused, start-accepted}
+use Rattle.run.proofs.Zeros.{still-car}
 use Rattle.run.specs.Grader.Widths.{most_tiles, full_words}
 use Rattle.run.specs.Grader.State.{view, lent_columns}
 use Rattle.run.specs.Grader.Touch.{sound_poses}
@@ -9,7 +10,7 @@ use Rattle.run.specs.Grader.Start.{setup_of, first_contact}
 use Rattle.run.proofs.start.start.Goals as goal
 
 pub returns-in-Err : goal.returns-in-Err
-returns-in-Err c = start-refused full_words most_tiles (lent_columns c.args.columns) c.args.settings _ _ _ c.start_check-check.ensures c.in-Err.is c.zero_run.ensures
+returns-in-Err c = start-refused full_words most_tiles (lent_columns c.args.columns) c.args.settings _ _ _ c.start_check-check.ensures c.in-Err.is c.default.ensures
 
 pub full_contact-c-requires : goal.full_contact-c-requires
 full_contact-c-requires c =
@@ -24,4 +25,4 @@ returns c =
     let t = c.full_contact-c in
     let l = lent_columns c.args.columns in
     start-accepted full_words most_tiles l c.args.settings k.result _ _ t.result.fresh t.result.zero c.update_lap-lap.result c.first_progress-progress.result
-    c.still_car-car.result _ k.ensures c.in_default.is (t.ensures ∙ ap (first_contact full_words l) c.at-stance.ensures) c.update_lap-lap.ensures c.first_progress-progress.ensures c.still_car-car.ensures c.put_poses.ensures
+    c.default-car.result _ k.ensures c.in_default.is (t.ensures ∙ ap (first_contact full_words l) c.at-stance.ensures) c.update_lap-lap.ensures c.first_progress-progress.ensures (still-car c.default-car.ensures) c.put_poses.ensures
