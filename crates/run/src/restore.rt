@@ -15,7 +15,7 @@ use crate::{contact, load, numbers, state, words};
 use course::cause::Cause;
 
 // A course's seed and its tile count.
-#[derive(Clone, Copy)]
+#[derive(Clone, Copy, Default)]
 pub struct SavedFor {
     pub seed: u64,
     pub n: u32,

@@ -13,7 +13,7 @@ use crate::{contact, lap, numbers, state};
 use course::cause::Cause;
 
 // New tiles, the course's tile count, whether the hull is off the playfield, a lap is complete, and the run has ended.
-#[derive(Clone, Copy)]
+#[derive(Clone, Copy, Default)]
 pub struct SettleValues {
     pub new_tiles: u32,
     pub n: u32,

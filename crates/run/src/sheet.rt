@@ -9,7 +9,7 @@ use crate::widths::MOST_TILES;
 use course::cause::Cause;
 
 #[repr(C)]
-#[derive(Clone, Copy)]
+#[derive(Clone, Copy, Default)]
 pub struct RunSheet {
     pub tick: u32,
     pub credited: u32,

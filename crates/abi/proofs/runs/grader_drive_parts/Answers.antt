@@ -4,10 +4,10 @@ use Rattle.abi.proofs.runs.grader_drive_parts.Goals as goal
 
 pub returns-in-Ok : goal.returns-in-Ok
 returns-in-Ok c =
-    driven-accepted _ _ _ _ _ _ _ _ _ _ _ c.drive_parts-said.ensures c.car_from-after.ensures.value c.motions_from-given.ensures c.cause_number-cause.ensures
+    driven-accepted _ _ _ _ _ _ _ _ _ _ _ c.drive_parts-said.ensures c.car_from-after.ensures.value c.motions_from-given.ensures c.from-told.ensures
     c.in-Ok.is c.put_car.ensures c.put_forces.ensures
 
 pub returns-in_default : goal.returns-in_default
 returns-in_default c =
-    driven-refused _ _ _ _ _ _ _ _ _ _ _ c.drive_parts-said.ensures c.car_from-after.ensures.value c.motions_from-given.ensures c.cause_number-cause.ensures
+    driven-refused _ _ _ _ _ _ _ _ _ _ _ c.drive_parts-said.ensures c.car_from-after.ensures.value c.motions_from-given.ensures c.from-told.ensures
     c.in_default.is c.car_from-after.ensures.result_value
