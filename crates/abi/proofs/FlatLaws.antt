@@ -48,17 +48,17 @@ module _ (m most : ℕ) (u : Setup) (p : Progress) (car : List Float) (wheels : 
   written : DroveParts → DrivenInPlace
   written d = driven_in_place (flat_driven d.answer d.progress) (car_numbers d.car) (forces_after d.answer forces)
 
-  pub driven-accepted : {fs : List Force} {car' forces' : List Float} → r ≡ Ok fs → car' ≡ car_numbers c' → forces' ≡ force_numbers fs
+  pub driven_accepted : {fs : List Force} {car' forces' : List Float} → r ≡ Ok fs → car' ≡ car_numbers c' → forces' ≡ force_numbers fs
       → driven_in_place f car' forces' ≡ drive_in_place m most u p car wheels action motions forces
   unfolding drive_in_place forces_after written
-  driven-accepted ok eq ef =
+  driven_accepted ok eq ef =
       (λ i. driven_in_place (flat i) (eq i) ((ef ∙ ap (λ (x : Result (List Force) Cause). forces_after x forces) (sym ok)) i))
       ∙ ap written same
 
-  pub driven-refused : {x : Cause} → r ≡ Err x → car_numbers c ≡ car
+  pub driven_refused : {x : Cause} → r ≡ Err x → car_numbers c ≡ car
       → driven_in_place f car forces ≡ drive_in_place m most u p car wheels action motions forces
   unfolding drive_in_place forces_after written
-  driven-refused {x} err back =
+  driven_refused {x} err back =
       (λ i. driven_in_place (flat i) (kept i) (ap (λ (z : Result (List Force) Cause). forces_after z forces) (sym err) i))
       ∙ ap written same
     where

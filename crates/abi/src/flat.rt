@@ -1,6 +1,7 @@
 // What crosses the boundary: each answer as a struct of numbers, 0 and false where a case has none, and structs around
 // the arrays that C cannot pass by value.
-// Kept as numbers beside values: the C interface has no enum that holds a value.
+// Kept as numbers beside values: the C interface has no enum that holds a value, and a host is told a cause's number.
+// Kept as fields of their own, where a call's answer is a struct already: host/grader.h names each field, in this order.
 ghost use Rattle.std.specs.Prelude.{◌≡◌};
 ghost use Rattle.run.specs.Grader.State.{view};
 ghost use Rattle.run.specs.Grader.Start.{begun};

@@ -75,6 +75,7 @@ pub extern "C" fn grader_start(
 }
 
 // Forces for the host: the car is changed where it stands and the forces are written. A refusal changes nothing.
+// Kept as numbers, the car, the motions and the forces: the C interface lends them as arrays of their lengths.
 #[unsafe(no_mangle)]
 pub extern "C" fn grader_drive_parts(
     setup: Setup,
