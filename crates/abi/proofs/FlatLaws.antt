@@ -3,14 +3,10 @@ use mathlib.Core.List.{List}
 use mathlib.Core.Path.{◌≡◌, sym, ap, ◌∙◌}
 use Prim.Native.Nat.{ℕ}
 use lib.Ieee.{Float}
-use Rattle.std.specs.Result.{result_unwrap_or}
 use Rattle.std.specs.Prelude.{Result, Ok, Err}
-use Rattle.course.specs.Grader.Cause.{cause_number}
 use Rattle.course.specs.declared.cause.Cause.{Cause}
 use Rattle.course.specs.Grader.Outcome.{CourseColumns, Outcome, outcome}
-use Rattle.course.specs.Grader.LayCall.{lay_on_call}
 use Rattle.course.specs.Grader.Curbs.{Edged, edged}
-use Rattle.course.specs.declared.checkpoints.Checkpoint.{Checkpoint}
 use Rattle.course.specs.declared.points.LaidCourse.{LaidCourse}
 use Rattle.course.specs.declared.points.LayError.{LayError}
 use Rattle.run.specs.Grader.Drive.{DroveParts, drove_parts, drive_parts_of}
@@ -23,50 +19,47 @@ use Rattle.run.specs.declared.dynamics.Motion.{Motion}
 use Rattle.run.specs.declared.dynamics.Force.{Force}
 use Rattle.run.specs.declared.settle.SettleValues.{SettleValues}
 use Rattle.run.proofs.DriveLaws.{refused-keeps}
-use Rattle.abi.specs.Grader.Flat.{flat_laid, flat_curbs, flat_driven, no_settle, flat_settled}
+use Rattle.abi.specs.Grader.Flat.{flat_laid, flat_curbs, flat_driven, flat_settled}
 use Rattle.abi.specs.Grader.InPlace.{DrivenInPlace, driven_in_place, forces_after, drive_in_place, SettledInPlace, settled_in_place}
 use Rattle.abi.specs.declared.flat.FlatLaid.{FlatLaid}
 use Rattle.abi.specs.declared.flat.FlatCurbs.{FlatCurbs}
+use Rattle.abi.specs.declared.flat.FlatDriven.{FlatDriven}
+use Rattle.abi.specs.declared.flat.FlatSettled.{FlatSettled}
 
 -- ---- courses
 
-pub laid-whole : (f : FlatLaid) (a : Result LaidCourse LayError) (l : CourseColumns) (o : Outcome) → f ≡ flat_laid a → outcome a l ≡ o → (f ≡ flat_laid o.answer) × (l ≡ o.lent)
-laid-whole f a l o e p = (e ∙ ap (λ (q : Outcome). flat_laid q.answer) p, ap (λ (q : Outcome). q.lent) p)
+pub laid_whole : (f : FlatLaid) (a : Result LaidCourse LayError) (l : CourseColumns) (o : Outcome) → f ≡ flat_laid a → outcome a l ≡ o → (f ≡ flat_laid o.answer) × (l ≡ o.lent)
+laid_whole f a l o e p = (e ∙ ap (λ (q : Outcome). flat_laid q.answer) p, ap (λ (q : Outcome). q.lent) p)
 
--- the same where the checkpoints are given
-pub laid-on-whole : (f : FlatLaid) (a : Result LaidCourse LayError) (l k : CourseColumns) (cs ds : List Checkpoint) → f ≡ flat_laid a → outcome a l ≡ lay_on_call cs k → cs ≡ ds
-    → (f ≡ flat_laid (lay_on_call ds k).answer) × (l ≡ (lay_on_call ds k).lent)
-laid-on-whole f a l k cs ds e p q = laid-whole f a l (lay_on_call ds k) e (p ∙ ap (λ (z : List Checkpoint). lay_on_call z k) q)
-
-pub curbs-whole : (f : FlatCurbs) (a : Result ℕ Cause) (q : List Float) (w : List ℕ) (o : Edged) → f ≡ flat_curbs a → edged a q w ≡ o
+pub curbs_whole : (f : FlatCurbs) (a : Result ℕ Cause) (q : List Float) (w : List ℕ) (o : Edged) → f ≡ flat_curbs a → edged a q w ≡ o
     → (f ≡ flat_curbs o.answer) × ((q ≡ o.quads) × (w ≡ o.white))
-curbs-whole f a q w o e p =
+curbs_whole f a q w o e p =
     (e ∙ ap (λ (s : Edged). flat_curbs s.answer) p, (ap (λ (s : Edged). s.quads) p, ap (λ (s : Edged). s.white) p))
 
 -- ---- the run
 
 -- an accepted drive: what is written is the car and the forces after; a refused one writes nothing
 module _ (m most : ℕ) (u : Setup) (p : Progress) (car : List Float) (wheels : List ℕ) (action : ℕ) (motions forces : List Float) (c : Car) (ms : List Motion)
-    {r : Result (List Force) Cause} {p' : Progress} {c' : Car} {k : ℕ}
-    (is : drove_parts r p' c' ≡ drive_parts_of m most u p c wheels action ms) (ec : c ≡ car_from car) (em : ms ≡ motions_from motions) (ek : k ≡ cause_number r) where
+    {r : Result (List Force) Cause} {p' : Progress} {c' : Car} {f : FlatDriven}
+    (is : drove_parts r p' c' ≡ drive_parts_of m most u p c wheels action ms) (ec : c ≡ car_from car) (em : ms ≡ motions_from motions) (flat : f ≡ flat_driven r p') where
   same : drove_parts r p' c' ≡ drive_parts_of m most u p (car_from car) wheels action (motions_from motions)
   same = is ∙ (λ i. drive_parts_of m most u p (ec i) wheels action (em i))
 
   written : DroveParts → DrivenInPlace
   written d = driven_in_place (flat_driven d.answer d.progress) (car_numbers d.car) (forces_after d.answer forces)
 
-  pub driven-accepted : {fs : List Force} {car' forces' : List Float} → r ≡ Ok fs → car' ≡ car_numbers c' → forces' ≡ force_numbers fs
-      → driven_in_place (record { cause = k; progress = p' }) car' forces' ≡ drive_in_place m most u p car wheels action motions forces
-  unfolding drive_in_place flat_driven forces_after written
-  driven-accepted ok eq ef =
-      (λ i. driven_in_place (record { cause = ek i; progress = p' }) (eq i) ((ef ∙ ap (λ (x : Result (List Force) Cause). forces_after x forces) (sym ok)) i))
+  pub driven_accepted : {fs : List Force} {car' forces' : List Float} → r ≡ Ok fs → car' ≡ car_numbers c' → forces' ≡ force_numbers fs
+      → driven_in_place f car' forces' ≡ drive_in_place m most u p car wheels action motions forces
+  unfolding drive_in_place forces_after written
+  driven_accepted ok eq ef =
+      (λ i. driven_in_place (flat i) (eq i) ((ef ∙ ap (λ (x : Result (List Force) Cause). forces_after x forces) (sym ok)) i))
       ∙ ap written same
 
-  pub driven-refused : {x : Cause} → r ≡ Err x → car_numbers c ≡ car
-      → driven_in_place (record { cause = k; progress = p' }) car forces ≡ drive_in_place m most u p car wheels action motions forces
-  unfolding drive_in_place flat_driven forces_after written
-  driven-refused {x} err back =
-      (λ i. driven_in_place (record { cause = ek i; progress = p' }) (kept i) (ap (λ (z : Result (List Force) Cause). forces_after z forces) (sym err) i))
+  pub driven_refused : {x : Cause} → r ≡ Err x → car_numbers c ≡ car
+      → driven_in_place f car forces ≡ drive_in_place m most u p car wheels action motions forces
+  unfolding drive_in_place forces_after written
+  driven_refused {x} err back =
+      (λ i. driven_in_place (flat i) (kept i) (ap (λ (z : Result (List Force) Cause). forces_after z forces) (sym err) i))
       ∙ ap written same
     where
       kept : car ≡ car_numbers c'
@@ -78,11 +71,6 @@ module _ (m most : ℕ) (u : Setup) (p : Progress) (car : List Float) (wheels : 
 abbrev settled_from : SettledPoses → SettledInPlace
 settled_from d = settled_in_place (flat_settled d.parts.answer d.parts.progress) d.parts.credited d.parts.wheels d.poses
 
-pub settled-whole : {a : Result SettleValues Cause} {next : Progress} {c w : List ℕ} {last : List Float} {k : ℕ} {v : SettleValues} {d : SettledPoses}
-    → k ≡ cause_number a → v ≡ result_unwrap_or a no_settle → settled_poses (settled_parts a next c w) last ≡ d
-    → settled_in_place (record { cause = k; new_tiles = v.new_tiles; n = v.n; off = v.off; lap = v.lap; ended = v.ended; progress = next }) c w last
-    ≡ settled_from d
-unfolding flat_settled
-settled-whole {next = next} {c = c} {w = w} {last = last} ek ev e =
-    (λ i. settled_in_place (record { cause = ek i; new_tiles = (ev i).new_tiles; n = (ev i).n; off = (ev i).off; lap = (ev i).lap; ended = (ev i).ended; progress = next }) c w last)
-    ∙ ap settled_from e
+pub settled_whole : {a : Result SettleValues Cause} {next : Progress} {c w : List ℕ} {last : List Float} {f : FlatSettled} {d : SettledPoses}
+    → f ≡ flat_settled a next → settled_poses (settled_parts a next c w) last ≡ d → settled_in_place f c w last ≡ settled_from d
+settled_whole {c = c} {w = w} {last = last} flat e = ap (λ (f : FlatSettled). settled_in_place f c w last) flat ∙ ap settled_from e

@@ -1,3 +1,3 @@
 pub mod FlatLaws
-pub mod Mapped
 pub mod HostLaws
+pub mod Zeros

@@ -14,6 +14,7 @@ use course::{curbs, lay, points};
 
 // The course of a seed in the lent columns.
 #[unsafe(no_mangle)]
+#[tactic(auto, using(crate::proofs::FlatLaws::laid_whole))]
 pub extern "C" fn grader_lay(
     seed: u64,
     alpha: &mut [f64],
@@ -48,6 +49,7 @@ pub extern "C" fn grader_lay(
 
 // The course of the given points in the lent columns.
 #[unsafe(no_mangle)]
+#[tactic(auto, using(crate::proofs::FlatLaws::laid_whole))]
 pub extern "C" fn grader_points(
     given_beta: &[f64],
     given_x: &[f64],
@@ -85,6 +87,7 @@ pub extern "C" fn grader_points(
 
 // The curbs of the given points in the lent columns.
 #[unsafe(no_mangle)]
+#[tactic(auto, using(crate::proofs::FlatLaws::curbs_whole))]
 pub extern "C" fn grader_curbs(
     beta: &[f64],
     x: &[f64],

@@ -1,18 +1,21 @@
 // What crosses the boundary: each answer as a struct of numbers, 0 and false where a case has none, and structs around
 // the arrays that C cannot pass by value.
-// Kept as numbers beside values: the C interface has no enum that holds a value.
+// Kept as numbers beside values: the C interface has no enum that holds a value, and a host is told a cause's number.
+// Kept as fields of their own, where a call's answer is a struct already: host/grader.h names each field, in this order.
 ghost use Rattle.std.specs.Prelude.{◌≡◌};
-ghost use Rattle.std.specs.Result.{result_unwrap_or};
 ghost use Rattle.run.specs.Grader.State.{view};
-ghost use Rattle.run.specs.Grader.Start.{no_start, begun};
-ghost use Rattle.abi.specs.Grader.Flat.{flat_laid, flat_curbs, flat_started, flat_sheet, flat_saved, flat_saved_for, flat_angle, flat_answers, flat_restored};
+ghost use Rattle.run.specs.Grader.Start.{begun};
+ghost use Rattle.abi.specs.Grader.Flat.{flat_laid, flat_curbs, flat_started, flat_driven, flat_settled, flat_sheet, flat_saved, flat_saved_for, flat_angle, flat_answers, flat_restored};
 ghost use Rattle.run.specs.Grader.Restore.{after_restore};
 
 use certificate::replay::Replayed;
 use course::cause;
 use course::cause::Cause;
+use course::checkpoints::Checkpoint;
 use course::points::{LaidCourse, LayError};
+use run::dynamics::Force;
 use run::restore::SavedFor;
+use run::settle::SettleValues;
 use run::sheet::RunSheet;
 use run::start::StartValues;
 use run::state::{Answered, Pose, Progress, Run};
@@ -134,35 +137,18 @@ pub struct Poses {
     pub wheels: [Pose; 4],
 }
 
-// A corner of a quad.
-#[repr(C)]
-#[derive(Clone, Copy)]
-pub struct Corner {
-    pub x: f64,
-    pub y: f64,
-}
-
-// Four corners, in order round the quad.
+// Four corners, each x and y, in order round the quad.
 #[repr(C)]
 #[derive(Clone, Copy)]
 pub struct Quad {
-    pub corners: [Corner; 4],
-}
-
-// A checkpoint of an attempt. The course's own struct leaves its layout open; this one has C's.
-#[repr(C)]
-#[derive(Clone, Copy)]
-pub struct FlatCheckpoint {
-    pub angle: f64,
-    pub x: f64,
-    pub y: f64,
+    pub corners: [[f64; 2]; 4],
 }
 
 // The twelve checkpoints of an attempt.
 #[repr(C)]
 #[derive(Clone, Copy)]
 pub struct CheckpointList {
-    pub checkpoints: [FlatCheckpoint; 12],
+    pub checkpoints: [Checkpoint; 12],
 }
 
 // A draw, and the state to go on with.
@@ -208,23 +194,13 @@ impl From<Result<u32, Cause>> for FlatCurbs {
     }
 }
 
-// The values that start answered, zeros where it was refused.
-fn start_values(answer: Result<StartValues, Cause>) -> StartValues
-    ensures { result ≡ result_unwrap_or answer no_start }
-{
-    answer.unwrap_or(StartValues {
-        count: 0,
-        lap: false,
-    })
-}
-
 // The answer of start, and the state.
 impl From<Answered<StartValues>> for FlatStarted {
     ghost from_gives = { λ s f. f ≡ flat_started (begun s.answer (view s.run)) };
 
-    #[tactic(auto, unfolding(crate::specs::Grader::Flat::flat_started, crate::specs::Grader::Flat::run_of, run::specs::Grader::State::view, course::specs::Grader::Cause::cause_number))]
+    #[tactic(auto, unfolding(crate::specs::Grader::Flat::flat_started, crate::specs::Grader::Flat::run_of, run::specs::Grader::State::view, course::specs::Grader::Cause::cause_number), using(crate::proofs::Zeros::start_or_zeros))]
     fn from(s: Answered<StartValues>) -> FlatStarted {
-        let v = start_values(s.answer);
+        let v = s.answer.unwrap_or_default();
         FlatStarted {
             cause: cause::cause_number(&s.answer),
             count: v.count,
@@ -234,21 +210,47 @@ impl From<Answered<StartValues>> for FlatStarted {
     }
 }
 
+// The answer of drive, whose forces are written apart, and the progress after.
+impl From<(Result<[Force; 4], Cause>, Progress)> for FlatDriven {
+    ghost from_gives = { λ d f. f ≡ flat_driven d.0 d.1 };
+
+    #[tactic(auto, unfolding(crate::specs::Grader::Flat::flat_driven, course::specs::Grader::Cause::cause_number))]
+    fn from(d: (Result<[Force; 4], Cause>, Progress)) -> FlatDriven {
+        let (answer, progress) = d;
+        FlatDriven {
+            cause: cause::cause_number(&answer),
+            progress,
+        }
+    }
+}
+
+// The answer of settle, and the progress after.
+impl From<(Result<SettleValues, Cause>, Progress)> for FlatSettled {
+    ghost from_gives = { λ s f. f ≡ flat_settled s.0 s.1 };
+
+    #[tactic(auto, unfolding(crate::specs::Grader::Flat::flat_settled, course::specs::Grader::Cause::cause_number), using(crate::proofs::Zeros::settle_or_zeros))]
+    fn from(s: (Result<SettleValues, Cause>, Progress)) -> FlatSettled {
+        let (answer, progress) = s;
+        let v = answer.unwrap_or_default();
+        FlatSettled {
+            cause: cause::cause_number(&answer),
+            new_tiles: v.new_tiles,
+            n: v.n,
+            off: v.off,
+            lap: v.lap,
+            ended: v.ended,
+            progress,
+        }
+    }
+}
+
 // The answer of sheet.
 impl From<Result<RunSheet, Cause>> for FlatSheet {
     ghost from_gives = { λ a f. f ≡ flat_sheet a };
 
-    #[tactic(auto, unfolding(crate::specs::Grader::Flat::flat_sheet, course::specs::Grader::Cause::cause_number))]
+    #[tactic(auto, unfolding(crate::specs::Grader::Flat::flat_sheet, course::specs::Grader::Cause::cause_number), using(crate::proofs::Zeros::sheet_or_zeros))]
     fn from(answer: Result<RunSheet, Cause>) -> FlatSheet {
-        let f = answer.unwrap_or(RunSheet {
-            tick: 0,
-            credited: 0,
-            n: 0,
-            lap: false,
-            ended: false,
-            fallback: false,
-            share: 0,
-        });
+        let f = answer.unwrap_or_default();
         FlatSheet {
             cause: cause::cause_number(&answer),
             tick: f.tick,
@@ -292,9 +294,9 @@ impl From<Answered<()>> for FlatRestored {
 impl From<Result<SavedFor, Cause>> for FlatSavedFor {
     ghost from_gives = { λ a f. f ≡ flat_saved_for a };
 
-    #[tactic(auto, unfolding(crate::specs::Grader::Flat::flat_saved_for, course::specs::Grader::Cause::cause_number))]
+    #[tactic(auto, unfolding(crate::specs::Grader::Flat::flat_saved_for, course::specs::Grader::Cause::cause_number), using(crate::proofs::Zeros::saved_or_zeros))]
     fn from(answer: Result<SavedFor, Cause>) -> FlatSavedFor {
-        let v = answer.unwrap_or(SavedFor { seed: 0, n: 0 });
+        let v = answer.unwrap_or_default();
         FlatSavedFor {
             cause: cause::cause_number(&answer),
             n: v.n,
@@ -319,9 +321,9 @@ impl From<Result<f64, Cause>> for FlatAngle {
 impl From<Replayed> for FlatReplayed {
     ghost from_gives = { λ r f. f ≡ flat_answers r.laid r.start r.sheet };
 
-    #[tactic(auto, unfolding(crate::specs::Grader::Flat::flat_answers, course::specs::Grader::Cause::cause_number))]
+    #[tactic(auto, unfolding(crate::specs::Grader::Flat::flat_answers, course::specs::Grader::Cause::cause_number), using(crate::proofs::Zeros::start_or_zeros))]
     fn from(r: Replayed) -> FlatReplayed {
-        let v = start_values(r.start);
+        let v = r.start.unwrap_or_default();
         FlatReplayed {
             laid: FlatLaid::from(r.laid),
             start_cause: cause::cause_number(&r.start),

@@ -52,6 +52,7 @@ pub extern "C" fn grader_cell(v: f64) -> u32
 
 // The draw of the generator at a state, and the state to go on with.
 #[unsafe(no_mangle)]
+#[tactic(auto, unfolding(crate::specs::Grader::Flat::flat_draw))]
 pub extern "C" fn grader_draw(state: u64) -> Draw
     ensures { result ≡ flat_draw (draw_of (at_state state)) }
 {

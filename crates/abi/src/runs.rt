@@ -11,15 +11,13 @@ ghost use Rattle.certificate.specs.Grader.Replay.{replay_of};
 ghost use Rattle.abi.specs.Grader.Flat.{flat_started, flat_sheet, flat_replayed, replay_columns, columns_after};
 ghost use Rattle.abi.specs.Grader.InPlace.{driven_in_place, drive_in_place, settled_in_place, settle_in_place};
 
-use crate::flat;
 use crate::flat::{FlatDriven, FlatReplayed, FlatSettled, FlatSheet, FlatStarted, Poses};
 use certificate::replay;
 use certificate::replay::{AnswerColumns, CallColumns, Opening};
-use course::cause;
 use course::lent::LentColumns;
 use run::numbers::{CAR_NUMBERS, FORCE_NUMBERS, MOTION_NUMBERS, POSE_NUMBERS};
 use run::reward::Weights;
-use run::settle::{Places, SettleValues};
+use run::settle::Places;
 use run::start::Settings;
 use run::state::{Progress, Setup};
 use run::touch::Columns;
@@ -79,6 +77,7 @@ pub extern "C" fn grader_start(
 }
 
 // Forces for the host: the car is changed where it stands and the forces are written. A refusal changes nothing.
+// Kept as numbers, the car, the motions and the forces: the C interface lends them as arrays of their lengths.
 #[unsafe(no_mangle)]
 pub extern "C" fn grader_drive_parts(
     setup: Setup,
@@ -97,20 +96,18 @@ pub extern "C" fn grader_drive_parts(
     let mut after = numbers::car_from(car);
     let given = numbers::motions_from(motions);
     let said = drive::drive_parts(setup, &mut next, &mut after, wheels, action, given);
-    let cause = cause::cause_number(&said);
+    let told = FlatDriven::from((said, next));
     if let Ok(pushes) = said {
         numbers::put_car(after, car);
         numbers::put_forces(pushes, forces);
     }
-    FlatDriven {
-        cause,
-        progress: next,
-    }
+    told
 }
 
 // The contact after physics: the sets and the last poses are changed where they stand. A refusal changes nothing.
 // Kept as a parameter for each column: the C interface lends them one by one.
 #[unsafe(no_mangle)]
+#[tactic(auto, unfolding(crate::specs::Grader::InPlace::settle_in_place), using(crate::proofs::FlatLaws::settled_whole))]
 pub extern "C" fn grader_settle_parts(
     setup: Setup,
     progress: Progress,
@@ -138,23 +135,7 @@ pub extern "C" fn grader_settle_parts(
         list,
     };
     let said = settle::settle_parts(setup, &mut next, credited, wheels, last, columns, places);
-    let cause = cause::cause_number(&said);
-    let v = said.unwrap_or(SettleValues {
-        new_tiles: 0,
-        n: 0,
-        off: false,
-        lap: false,
-        ended: false,
-    });
-    FlatSettled {
-        cause,
-        new_tiles: v.new_tiles,
-        n: v.n,
-        off: v.off,
-        lap: v.lap,
-        ended: v.ended,
-        progress: next,
-    }
+    FlatSettled::from((said, next))
 }
 
 // A seed's course, a start on it and a whole list of calls, every answer written to the lent words and numbers.

@@ -2,7 +2,7 @@
 ghost use Rattle.std.specs.Prelude.{◌≤◌};
 
 use std::alloc::{AllocError, Global};
-use vectors::columns::front_mut;
+use vectors::columns::{front, front_mut};
 use vectors::record::Record;
 
 // The most points of a record.
@@ -31,6 +31,7 @@ fn give_column(record: Record<'_>, k: usize, col: &mut [f64]) {
 }
 
 // From number `period` on and below `count`: what stands a period before.
+// Kept as a loop by index: a number a period before is one that the loop itself has written, so no iterator can hold the column beside it.
 fn repeat_column(period: usize, count: usize, col: &mut [f64]) {
     for i in period..count.min(col.len()) {
         col[i] = col[i - period];
@@ -44,6 +45,16 @@ impl Given {
             x: vec![in alloc; 0.0; MOST]?,
             y: vec![in alloc; 0.0; MOST]?,
         })
+    }
+
+    // Their parts, of the lengths that are words 2 to 4 of the record.
+    pub fn lend(&self, record: Record<'_>) -> [&[f64]; 3] {
+        let [beta, x, y]: [u64; 3] = record.words(2);
+        [
+            front(&self.beta, beta),
+            front(&self.x, x),
+            front(&self.y, y),
+        ]
     }
 
     // The record's points.

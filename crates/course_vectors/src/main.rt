@@ -17,8 +17,8 @@ use std::alloc::Global;
 use std::io;
 use std::io::{BufWriter, Read, Write};
 use vectors::columns::{Columns, UNTOUCHED, UNTOUCHED_MARK, front, front_mut, put};
+use vectors::line;
 use vectors::record::{Kind, Record, Records, UnknownCode};
-use vectors::{hash, line};
 
 #[derive(Clone, Copy, Debug, PartialEq, Eq)]
 enum Request {
@@ -70,13 +70,8 @@ fn call_points(
     given: &Given,
     columns: &mut Columns,
 ) -> Result<LaidCourse, LayError> {
-    points::points(
-        front(&given.beta, record.word(2)),
-        front(&given.x, record.word(3)),
-        front(&given.y, record.word(4)),
-        record.low(1),
-        columns.lend(record, 5),
-    )
+    let [beta, x, y] = given.lend(record);
+    points::points(beta, x, y, record.low(1), columns.lend(record, 5))
 }
 
 // The answer, and what the lent columns hold then.
@@ -98,14 +93,10 @@ fn call_curbs(
     quads: &mut [f64],
     white: &mut [u8],
 ) -> Result<u32, Cause> {
-    curbs::curbs(
-        front(&given.beta, record.word(2)),
-        front(&given.x, record.word(3)),
-        front(&given.y, record.word(4)),
-        record.low(1),
-        front_mut(quads, record.word(5)),
-        front_mut(white, record.word(6)),
-    )
+    let [beta, x, y] = given.lend(record);
+    let quads = front_mut(quads, record.word(5));
+    let white = front_mut(white, record.word(6));
+    curbs::curbs(beta, x, y, record.low(1), quads, white)
 }
 
 // The answer, and what the lent columns hold then.
@@ -121,8 +112,8 @@ fn replay_curbs<W: Write>(
         Ok(count) => writeln!(out, "{count}")?,
         Err(cause) => line::refused(out, cause)?,
     }
-    line::hash(out, hash::column(&quads))?;
-    line::hash(out, hash::column(&white))
+    line::column(out, &quads)?;
+    line::column(out, &white)
 }
 
 // The part's length, and its hash.
@@ -131,7 +122,7 @@ fn replay_lookup<W: Write>(out: &mut W, record: Record<'_>, columns: &Columns) -
     let list = front(&columns.list, record.word(2));
     let part = index::candidate_tiles(offsets, list, record.float(3), record.float(4));
     writeln!(out, "{}", part.len())?;
-    line::hash(out, hash::column(part))
+    line::column(out, part)
 }
 
 fn main(rt: HostRuntime) -> io::Result<()> {

@@ -51,11 +51,7 @@ impl Kind for Request {
 
 // The record's checkpoints.
 fn checkpoints(record: Record<'_>) -> [Checkpoint; 12] {
-    let mut cs = [Checkpoint {
-        angle: 0.0,
-        x: 0.0,
-        y: 0.0,
-    }; 12];
+    let mut cs = [Checkpoint::default(); 12];
     for (c, at) in cs.iter_mut().zip((8..44).step_by(3)) {
         let [angle, x, y]: [f64; 3] = record.floats(at);
         *c = Checkpoint { angle, x, y };

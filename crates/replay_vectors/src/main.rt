@@ -21,11 +21,7 @@ use std::alloc::{AllocError, Global};
 use std::io;
 use std::io::{BufWriter, Read, Write};
 use vectors::columns::{Columns, UNTOUCHED, UNTOUCHED_ID, front, front_mut};
-use vectors::hash;
-use vectors::record::{Record, Records};
-
-// The length of a block.
-const BLOCK: usize = 262144;
+use vectors::record::{BLOCK, Record, Records};
 
 // The columns of calls and answers, longer than a record's.
 #[derive(Drop)]
@@ -92,8 +88,8 @@ fn replay_log<W: Write>(
     line::answers(out, read::held(record), &c.words, &c.numbers)?;
     line::sheet(out, done.sheet)?;
     columns.lines(out)?;
-    vectors::line::hash(out, hash::column(&c.words))?;
-    vectors::line::hash(out, hash::column(&c.numbers))
+    vectors::line::column(out, &c.words)?;
+    vectors::line::column(out, &c.numbers)
 }
 
 fn main(rt: HostRuntime) -> io::Result<()> {

@@ -21,7 +21,7 @@ pub struct Places {
 }
 
 // New tiles, the course's tile count, whether the hull is off the playfield, a lap is complete, and the run has ended.
-#[derive(Clone, Copy)]
+#[derive(Clone, Copy, Default)]
 pub struct SettleValues {
     pub new_tiles: u32,
     pub n: u32,

@@ -8,7 +8,7 @@ use crate::state::{Progress, Setup};
 use course::cause::Cause;
 
 #[repr(C)]
-#[derive(Clone, Copy)]
+#[derive(Clone, Copy, Default)]
 pub struct RunSheet {
     pub tick: u32,
     pub credited: u32,

@@ -25,7 +25,7 @@ pub struct Settings {
 }
 
 // How many tiles are credited at the start, and the lap.
-#[derive(Clone, Copy)]
+#[derive(Clone, Copy, Default)]
 pub struct StartValues {
     pub count: u32,
     pub lap: bool,

@@ -1,12 +1,12 @@
 // The records that change the state of the run.
-use crate::lent::Lent;
-use crate::{hash, read};
+use crate::{hash, lent, read};
 use run::dynamics::Force;
 use run::settle::Places;
 use run::state::Run;
 use run::{drive, settle, start};
 use std::io;
 use std::io::Write;
+use vectors::columns::Columns;
 use vectors::line;
 use vectors::line::{Bits, Flag};
 use vectors::record::Record;
@@ -29,10 +29,10 @@ pub fn fill(words: &mut [u64], record: Record<'_>) {
 pub fn replay_start<W: Write>(
     out: &mut W,
     record: Record<'_>,
-    lent: &Lent,
+    columns: &Columns,
     run: &mut Run,
 ) -> io::Result<()> {
-    let s = start::start(lent.columns(record), read::settings(record));
+    let s = start::start(lent::lend(columns, record), read::settings(record));
     match s.answer {
         Ok(v) => writeln!(out, "{}\n{}", v.count, Flag(v.lap))?,
         Err(cause) => line::refused(out, cause)?,
@@ -50,13 +50,8 @@ pub fn replay_drive<W: Write>(out: &mut W, record: Record<'_>, run: &mut Run) ->
             }
         }
         Err(cause) => {
-            let none = Force {
-                motor: 0.0,
-                fx: 0.0,
-                fy: 0.0,
-            };
             line::refused(out, cause)?;
-            line::hash(out, hash::forces([none; 4]))?;
+            line::hash(out, hash::forces([Force::default(); 4]))?;
         }
     }
     line::hash(out, hash::state(run))
@@ -65,12 +60,12 @@ pub fn replay_drive<W: Write>(out: &mut W, record: Record<'_>, run: &mut Run) ->
 pub fn replay_settle<W: Write>(
     out: &mut W,
     record: Record<'_>,
-    lent: &Lent,
+    columns: &Columns,
     run: &mut Run,
 ) -> io::Result<()> {
     let answer = settle::settle(
         run,
-        lent.columns(record),
+        lent::lend(columns, record),
         Places {
             x: record.float(4),
             y: record.float(5),

@@ -50,12 +50,7 @@ pub fn state(run: &Run) -> u64 {
     mix_all(mix_all(h, &run.credited), &run.wheels)
 }
 
-// Of the numbers of the last poses.
-pub fn last(run: &Run) -> u64 {
-    hash::column(&run.poses)
-}
-
 // Of a whole state.
 pub fn whole(run: &Run) -> u64 {
-    mix(mix(mix(1, state(run)), last(run)), run.seed)
+    mix(mix(mix(1, state(run)), hash::column(&run.poses)), run.seed)
 }

@@ -20,35 +20,31 @@ mod rule;
 mod saves;
 
 use kind::Request;
-use lent::Lent;
 use run::state::Run;
 use std::io;
 use std::io::{BufWriter, Read, Write};
-use vectors::columns::put;
-use vectors::record::{Record, Records};
-
-// The length of a block.
-const BLOCK: usize = 262144;
+use vectors::columns::{Columns, put};
+use vectors::record::{BLOCK, Record, Records};
 
 // What the record does.
 fn replay<W: Write>(
     out: &mut W,
     request: Request,
     record: Record<'_>,
-    lent: &mut Lent,
+    columns: &mut Columns,
     run: &mut Run,
 ) -> io::Result<()> {
     match request {
-        Request::Course => lent.replay_course(out, record)?,
-        Request::Tile => put(&mut lent.tiles, record.word(1), record.float(2)),
-        Request::Offset => put(&mut lent.offsets, record.word(1), record.low(2)),
-        Request::Id => put(&mut lent.list, record.word(1), record.low(2)),
+        Request::Course => lent::replay_course(out, record, columns)?,
+        Request::Tile => put(&mut columns.tiles, record.word(1), record.float(2)),
+        Request::Offset => put(&mut columns.offsets, record.word(1), record.low(2)),
+        Request::Id => put(&mut columns.list, record.word(1), record.low(2)),
         Request::Core => call::put_core(record, run),
         Request::Credited => call::fill(&mut run.credited, record),
         Request::Wheels => call::fill(&mut run.wheels, record),
-        Request::Start => call::replay_start(out, record, lent, run)?,
+        Request::Start => call::replay_start(out, record, columns, run)?,
         Request::Drive => call::replay_drive(out, record, run)?,
-        Request::Settle => call::replay_settle(out, record, lent, run)?,
+        Request::Settle => call::replay_settle(out, record, columns, run)?,
         Request::Sheet => rule::replay_sheet(out, run)?,
         Request::Reward => rule::replay_reward(out, record)?,
         Request::Overlap => rule::replay_overlap(out, record)?,
@@ -59,7 +55,7 @@ fn replay<W: Write>(
         Request::PutLast => saves::put_last(record, run),
         Request::Last => saves::line_last(out, run)?,
         Request::Save => saves::replay_save(out, record, *run)?,
-        Request::Restore => saves::replay_restore(out, record, lent, run)?,
+        Request::Restore => saves::replay_restore(out, record, columns, run)?,
     }
     Ok(())
 }
@@ -67,12 +63,12 @@ fn replay<W: Write>(
 fn main(rt: HostRuntime) -> io::Result<()> {
     let mut list = Vec::new(rt.alloc());
     rt.stdin().read_to_end(&mut list)?;
-    let mut lent = Lent::new(rt.alloc())?;
-    let mut run = read::zero_run();
+    let mut columns = Columns::new(rt.alloc(), 60000)?;
+    let mut run = Run::default();
     let mut out = BufWriter::new(rt.alloc(), io::writer(&rt))?;
     for block in list.chunks(BLOCK) {
         for (request, record) in Records::new(block) {
-            replay(&mut out, request, record, &mut lent, &mut run)?;
+            replay(&mut out, request, record, &mut columns, &mut run)?;
         }
     }
     out.flush()

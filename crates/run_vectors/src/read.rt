@@ -2,7 +2,7 @@
 use run::dynamics::Motion;
 use run::numbers;
 use run::start::Settings;
-use run::state::{Car, Pose, Progress, Run, Setup};
+use run::state::{Car, Pose, Progress, Setup};
 use vectors::record::Record;
 
 // The pose from word k on.
@@ -42,41 +42,28 @@ pub fn quad(record: Record<'_>, k: usize) -> [[f64; 2]; 4] {
 // A state but for its sets is n, count, tick, tick limit, lap share, the four flags (lap, ended, fallback, driven) as bits of
 // a word, controls, fuel. Of these, what start fixes.
 pub fn setup(record: Record<'_>) -> Setup {
+    let [_, _, fallback, _] = record.flags(6);
     Setup {
         n: record.low(1),
         tick_limit: record.low(4),
         lap_share: record.float(5),
-        fallback: record.word(6) / 4 % 2 == 1,
+        fallback,
     }
 }
 
 // What settle changes.
 pub fn progress(record: Record<'_>) -> Progress {
-    let flags = record.word(6);
+    let [lap, ended, _, driven] = record.flags(6);
     Progress {
         visited_count: record.low(2),
         tick: record.low(3),
-        lap: flags % 2 == 1,
-        ended: flags / 2 % 2 == 1,
-        driven: flags / 8 % 2 == 1,
+        lap,
+        ended,
+        driven,
     }
 }
 
 // What drive changes.
 pub fn car(record: Record<'_>) -> Car {
     numbers::car_from(&record.floats(7))
-}
-
-// The state of zeros: an empty record has only those.
-pub fn zero_run() -> Run {
-    let nothing = Record::new(&[]);
-    Run {
-        setup: setup(nothing),
-        progress: progress(nothing),
-        car: car(nothing),
-        credited: [0; 40],
-        wheels: [0; 160],
-        poses: [0.0; 16],
-        seed: 0,
-    }
 }

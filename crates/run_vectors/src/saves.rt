@@ -1,11 +1,10 @@
 // The records that save a run and restore one, and those that put and show what only a save reads.
-use crate::lent::Lent;
-use crate::{hash, kind};
+use crate::{hash, kind, lent};
 use run::state::Run;
 use run::{restore, save};
 use std::io;
 use std::io::Write;
-use vectors::columns::{front, front_mut};
+use vectors::columns::{Columns, front, front_mut};
 use vectors::line;
 use vectors::record::Record;
 
@@ -17,7 +16,7 @@ pub fn put_last(record: Record<'_>, run: &mut Run) {
 
 // A hash of the last poses, and the seed.
 pub fn line_last<W: Write>(out: &mut W, run: &Run) -> io::Result<()> {
-    line::hash(out, hash::last(run))?;
+    line::column(out, &run.poses)?;
     writeln!(out, "{}", run.seed)
 }
 
@@ -39,7 +38,7 @@ pub fn replay_save<W: Write>(out: &mut W, record: Record<'_>, run: Run) -> io::R
         }
         Err(cause) => line::refused(out, cause)?,
     }
-    line::hash(out, vectors::hash::column(&form))
+    line::column(out, &form)
 }
 
 // Which course the bytes are of.
@@ -54,12 +53,12 @@ fn line_course<W: Write>(out: &mut W, bytes: &[u8]) -> io::Result<()> {
 pub fn replay_restore<W: Write>(
     out: &mut W,
     record: Record<'_>,
-    lent: &Lent,
+    columns: &Columns,
     run: &mut Run,
 ) -> io::Result<()> {
     let bytes = record.bytes(6, kind::byte_count(record));
     line_course(out, bytes)?;
-    let s = restore::restore(bytes, lent.columns(record), record.low(4));
+    let s = restore::restore(bytes, lent::lend(columns, record), record.low(4));
     match s.answer {
         Ok(()) => {
             writeln!(out, "restored")?;

@@ -1,8 +1,8 @@
 // The columns that a test program lends: of its own length each, of which a call is lent a part.
 ghost use Rattle.std.specs.Prelude.{◌≡◌, ◌≤◌, length, take};
 
+use crate::line;
 use crate::record::Record;
-use crate::{hash, line};
 use course::lent::LentColumns;
 use std::alloc::{AllocError, Global};
 use std::io;
@@ -76,8 +76,8 @@ impl Columns {
         self.list.fill(UNTOUCHED_ID);
     }
 
-    // Their parts, of the lengths that stand in the record from word `at` on.
-    pub fn lend(&mut self, record: Record<'_>, at: usize) -> LentColumns<'_>
+    // Their fronts of these lengths: the whole of a column where that is shorter.
+    fn fronts(&mut self, lengths: [u64; 7]) -> LentColumns<'_>
         ensures points { (length result.alpha.now ≤ length self.old.alpha.items)
             × (length result.beta.now ≤ length self.old.beta.items) × (length result.x.now ≤ length self.old.x.items)
             × (length result.y.now ≤ length self.old.y.items) }
@@ -85,7 +85,7 @@ impl Columns {
             × (length result.offsets.now ≤ length self.old.offsets.items)
             × (length result.list.now ≤ length self.old.list.items) }
     {
-        let [alpha, beta, x, y, tiles, offsets, list]: [u64; 7] = record.words(at);
+        let [alpha, beta, x, y, tiles, offsets, list] = lengths;
         LentColumns {
             alpha: front_mut(&mut self.alpha, alpha),
             beta: front_mut(&mut self.beta, beta),
@@ -97,15 +97,32 @@ impl Columns {
         }
     }
 
+    // Their parts, of the lengths that stand in the record from word `at` on.
+    pub fn lend(&mut self, record: Record<'_>, at: usize) -> LentColumns<'_>
+        ensures points { (length result.alpha.now ≤ length self.old.alpha.items)
+            × (length result.beta.now ≤ length self.old.beta.items) × (length result.x.now ≤ length self.old.x.items)
+            × (length result.y.now ≤ length self.old.y.items) }
+        ensures tiles { (length result.tiles.now ≤ length self.old.tiles.items)
+            × (length result.offsets.now ≤ length self.old.offsets.items)
+            × (length result.list.now ≤ length self.old.list.items) }
+    {
+        self.fronts(record.words(at))
+    }
+
+    // All of them.
+    pub fn whole(&mut self) -> LentColumns<'_> {
+        self.fronts([u64::MAX; 7])
+    }
+
     // The columns' hashes, a line each.
     pub fn lines<W: Write>(&self, out: &mut W) -> io::Result<()> {
-        line::hash(out, hash::column(&self.alpha))?;
-        line::hash(out, hash::column(&self.beta))?;
-        line::hash(out, hash::column(&self.x))?;
-        line::hash(out, hash::column(&self.y))?;
-        line::hash(out, hash::column(&self.tiles))?;
-        line::hash(out, hash::column(&self.offsets))?;
-        line::hash(out, hash::column(&self.list))
+        line::column(out, &self.alpha)?;
+        line::column(out, &self.beta)?;
+        line::column(out, &self.x)?;
+        line::column(out, &self.y)?;
+        line::column(out, &self.tiles)?;
+        line::column(out, &self.offsets)?;
+        line::column(out, &self.list)
     }
 }
 

@@ -1,5 +1,7 @@
 // Hashes of columns: 64 bits that depend on each entry and its place.
 
+use form::eight::Eight;
+
 // What goes into a hash as a word.
 pub trait Hashed: Copy {
     fn word(self) -> u64;
@@ -8,7 +10,7 @@ pub trait Hashed: Copy {
 // A float goes by its bits.
 impl Hashed for f64 {
     fn word(self) -> u64 {
-        crate::bits(self)
+        self.number_of()
     }
 }
 

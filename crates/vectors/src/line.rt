@@ -1,6 +1,8 @@
 // Lines of answers.
+use crate::hash::Hashed;
 use course::cause::{Cause, Numbered};
 use course::points::{LaidCourse, LayError};
+use form::eight::Eight;
 use std::io::Write;
 use std::{fmt, io};
 
@@ -10,8 +12,7 @@ pub struct Bits(pub f64);
 
 impl fmt::Display for Bits {
     fn fmt<W: fmt::Write>(&self, f: &mut fmt::Formatter<W>) -> fmt::Result {
-        let bits = crate::bits(self.0);
-        write!(f, "{bits:016x}")
+        write!(f, "{:016x}", self.0.number_of())
     }
 }
 
@@ -21,15 +22,26 @@ pub struct Flag(pub bool);
 
 impl fmt::Display for Flag {
     fn fmt<W: fmt::Write>(&self, f: &mut fmt::Formatter<W>) -> fmt::Result {
-        let digit = u8::from(self.0);
-        write!(f, "{digit}")
+        write!(f, "{}", u8::from(self.0))
     }
 }
 
 // By which cause a call was refused.
 pub fn refused<W: Write>(out: &mut W, cause: Cause) -> io::Result<()> {
-    let number = cause.number();
-    writeln!(out, "refused {number}")
+    writeln!(out, "refused {}", cause.number())
+}
+
+// By which cause lay or points was refused; at cause 3 with the list length needed.
+pub fn not_laid<W: Write>(out: &mut W, error: LayError) -> io::Result<()> {
+    match error {
+        LayError::Short(need) => writeln!(out, "refused 3\n{need}"),
+        LayError::Refused(cause) => refused(out, cause),
+    }
+}
+
+// The hash of a column.
+pub fn column<T: Hashed, W: Write>(out: &mut W, col: &[T]) -> io::Result<()> {
+    hash(out, crate::hash::column(col))
 }
 
 // A hash.
@@ -48,10 +60,6 @@ pub fn laid<W: Write>(out: &mut W, answer: Result<LaidCourse, LayError>) -> io::
             writeln!(out, "{}", Bits(c.first.x))?;
             writeln!(out, "{}", Bits(c.first.y))
         }
-        Err(LayError::Short(need)) => {
-            writeln!(out, "refused 3")?;
-            writeln!(out, "{need}")
-        }
-        Err(LayError::Refused(cause)) => refused(out, cause),
+        Err(error) => not_laid(out, error),
     }
 }

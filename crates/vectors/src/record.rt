@@ -4,7 +4,11 @@ ghost use Rattle.std.specs.Prelude.{◌≡◌, ◌≤◌, length, slice_get, Mat
 ghost use Rattle.std.specs.Int.{w64, from_le_bytes};
 ghost use Rattle.std.specs.Iterator.{at_most};
 
+use form::eight::Eight;
 use std::marker::PhantomData;
+
+// The length of a block of a long list, in bytes. An unknown code ends a block, as the zeros do that fill one up.
+pub const BLOCK: usize = 262144;
 
 // A code that is no kind of record: it ends the list.
 #[derive(Clone, Copy, Debug, PartialEq, Eq)]
@@ -40,7 +44,7 @@ impl<'a> Record<'a> {
 
     // The float whose bits are the word.
     pub fn float(self, at: usize) -> f64 {
-        crate::number(self.word(at))
+        f64::of_number(self.word(at))
     }
 
     // The low half of the word.
@@ -51,6 +55,12 @@ impl<'a> Record<'a> {
     // The low bit of the word.
     pub fn flag(self, at: usize) -> bool {
         self.word(at) % 2 == 1
+    }
+
+    // The four low bits of the word, the lowest first.
+    pub fn flags(self, at: usize) -> [bool; 4] {
+        let word = self.word(at);
+        [1, 2, 4, 8].map(|bit| word & bit != 0)
     }
 
     // The word as a number, but at most `most`.

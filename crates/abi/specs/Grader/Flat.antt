@@ -1,5 +1,5 @@
 -- Each answer as the numbers that cross the C boundary: those that the crates below define for each case. Assumes nothing.
-use Rattle.std.specs.Prelude.{List, [], ◌∷◌, ℕ, map, Result, Float, false}
+use Rattle.std.specs.Prelude.{List, ℕ, Result, Float, false}
 use Rattle.std.specs.Result.{result_unwrap_or}
 use Rattle.rng.specs.Rules.SplitMix.{Drawn}
 use Rattle.course.specs.Grader.Outcome.{CourseColumns, laid_cause_of, laid_values_of}
@@ -7,7 +7,6 @@ use Rattle.course.specs.Grader.Curbs.{curb_cause_of, curb_count_of}
 use Rattle.course.specs.Grader.Angle.{angle_cause_of, value_of}
 use Rattle.course.specs.Grader.Cause.{cause_number}
 use Rattle.course.specs.declared.cause.Cause.{Cause}
-use Rattle.course.specs.declared.checkpoints.Checkpoint.{Checkpoint}
 use Rattle.course.specs.declared.points.LaidCourse.{LaidCourse}
 use Rattle.course.specs.declared.points.LayError.{LayError}
 use Rattle.run.specs.Grader.State.{State}
@@ -34,8 +33,6 @@ use Rattle.abi.specs.declared.flat.FlatRestored.{FlatRestored}
 use Rattle.abi.specs.declared.flat.FlatSavedFor.{FlatSavedFor}
 use Rattle.abi.specs.declared.flat.FlatAngle.{FlatAngle}
 use Rattle.abi.specs.declared.flat.FlatReplayed.{FlatReplayed}
-use Rattle.abi.specs.declared.flat.FlatCheckpoint.{FlatCheckpoint}
-use Rattle.abi.specs.declared.flat.Corner.{Corner}
 use Rattle.abi.specs.declared.flat.Draw.{Draw}
 
 -- ---- courses and numbers
@@ -61,20 +58,6 @@ flat_angle a = record { cause = angle_cause_of a; value = value_of a }
 -- a draw, the generator by its state
 unfoldable pub flat_draw : Drawn ℕ → Draw
 flat_draw d = record { value = d.value; state = d.rng.state }
-
--- a checkpoint of the caller's, and the twelve of an attempt
-unfoldable pub spot_from : FlatCheckpoint → Checkpoint
-spot_from c = record { angle = c.angle; x = c.x; y = c.y }
-
-unfoldable pub checkpoints_from : List FlatCheckpoint → List Checkpoint
-checkpoints_from l = map spot_from l
-
--- a quad of the caller's, corner by corner
-unfoldable pub pair_from : Corner → List Float
-pair_from c = c.x ∷ c.y ∷ []
-
-unfoldable pub corners_from : List Corner → List (List Float)
-corners_from q = map pair_from q
 
 -- ---- the run
 
