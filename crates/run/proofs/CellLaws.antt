@@ -25,7 +25,7 @@ use Rattle.run.specs.Grader.Touch.{lists, listed_by, touched_by, sound_cell, sou
 use Rattle.run.specs.Steps.Touch.{first_side, beyond, apart_by_others, sixteen_cells, overlaps_tile, Tested, Tests, Looked}
 use Rattle.run.specs.declared.state.Pose.{Pose}
 use Rattle.run.specs.declared.quad.Side.{Side}
-use Rattle.run.proofs.TouchLaws.{some-none, some-take, every_take, tested-cong, tested-is, touch-more, none-tested}
+use Rattle.run.proofs.TouchLaws.{some-none, some-take, every_take, tested-cong, touch-more, none-tested}
 use Rattle.run.proofs.BelowLaws.{every-at}
 use Rattle.run.proofs.FourItems.{four-items}
 
@@ -63,61 +63,31 @@ every-next p ks i h n b = every_take p ks i b ∙ ap₂ ◌&&◌ h n
 
 -- ---- the cells of a quad, one after the other
 
--- after i of the cells k: the tiles that they list are tested, and the sets are as wide as before
-pub record CellsTested (q : List (List Float)) (ts : List Float) (offs l k tested₀ touched₀ tested touched : List ℕ) (i : ℕ) : Type 0 where
-  pub bound : i ≤ length k
-  pub tested-long : length tested ≡ length tested₀
-  pub touched-long : length touched ≡ length touched₀
-  pub sets : Tested (length tested₀) (overlaps_tile q ts) (λ t. some_of (λ c. lists (lookup offs l c) t) (take i k)) tested touched
+-- after i of the cells k: the tiles that they list are tested, in sets of m words
+abbrev pub CellsTested : List (List Float) → List Float → List ℕ → List ℕ → List ℕ → ℕ → List ℕ → List ℕ → ℕ → Type 0
+CellsTested q ts offs l k m tested touched i = Tested m (overlaps_tile q ts) (λ t. some_of (λ c. lists (lookup offs l c) t) (take i k)) tested touched
 
-pub no_cell : {q : List (List Float)} {ts : List Float} {offs l k tested touched : List ℕ} {m n : ℕ} → tested ≡ set_of m (λ t. false) → touched ≡ set_of n (λ t. false) → length tested ≡ m → n ≡ m
-    → CellsTested q ts offs l k tested touched tested touched 0
-no_cell {q} {ts} {tested = tested} {touched = touched} {m = m} {n = n} e f p s =
-    record {
-      bound = omega arith;
-      tested-long = refl;
-      touched-long = refl;
-      sets = none-tested (length tested) m n (overlaps_tile q ts) _ tested touched e f p s (λ t. some-none _);
-    }
+pub no_cell : (q : List (List Float)) (ts : List Float) (offs l k : List ℕ) (m : ℕ) (a b : List ℕ) → a ≡ set_of m (λ t. false) → b ≡ set_of m (λ t. false) → CellsTested q ts offs l k m a b 0
+no_cell q ts offs l k m a b e f = none-tested m (overlaps_tile q ts) _ a b e f (λ t. some-none _)
 
-module _ {q : List (List Float)} {ts : List Float} {offs l k tested₀ touched₀ a b : List ℕ} {i : ℕ} (h : CellsTested q ts offs l k tested₀ touched₀ a b i) where
-  -- the same of sets that are equal
-  pub cells_are : {a' b' : List ℕ} → a' ≡ a → b' ≡ b → CellsTested q ts offs l k tested₀ touched₀ a' b' i
-  cells_are p r =
-      record { bound = h.bound; tested-long = ap length p ∙ h.tested-long; touched-long = ap length r ∙ h.touched-long; sets = tested-is p r h.sets }
-
+module _ (q : List (List Float)) (ts : List Float) (offs l k : List ℕ) (m : ℕ) (a b : List ℕ) (i : ℕ) (h : CellsTested q ts offs l k m a b i) where
   -- the tiles of one cell more are tested
-  pub one_cell : {ids a' b' : List ℕ} → i < length k → ids ≡ lookup offs l (get_or k i 0) → length a' ≡ length a → length b' ≡ length b → Tests (overlaps_tile q ts) (lists ids) a b a' b'
-      → CellsTested q ts offs l k tested₀ touched₀ a' b' (i + 1)
-  one_cell {ids} {a'} {b'} less e p r step =
+  pub one_cell : {ids a' b' : List ℕ} → i < length k → ids ≡ lookup offs l (get_or k i 0) → Tests (overlaps_tile q ts) (lists ids) a b a' b' → CellsTested q ts offs l k m a' b' (i + 1)
+  one_cell {ids} {a'} {b'} less e step =
       let f : ℕ → ℕ → Bool = λ t c. lists (lookup offs l c) t in
-      record {
-        bound = omega (arith, less);
-        tested-long = p ∙ h.tested-long;
-        touched-long = r ∙ h.touched-long;
-        sets =
-            touch-more (length tested₀) (overlaps_tile q ts) (λ t. false) (λ t. some_of (f t) (take i k)) (lists ids) (λ t. some_of (f t) (take (i + 1) k)) a b a' b' h.tested-long step h.sets
-            (λ t. ap (λ (x : List ℕ). some_of (f t) (take i k) || lists x t) e ∙ sym (some-take (f t) k i less));
-      }
+      touch-more m (overlaps_tile q ts) (λ t. false) (λ t. some_of (f t) (take i k)) (lists ids) (λ t. some_of (f t) (take (i + 1) k)) a b a' b' step h
+      (λ t. ap (λ (x : List ℕ). some_of (f t) (take i k) || lists x t) e ∙ sym (some-take (f t) k i less))
 
   -- a cell that is among them: its tiles are tested already
-  pub same-cell : i < length k → Among k i (get_or k i 0) → CellsTested q ts offs l k tested₀ touched₀ a b (i + 1)
+  pub same-cell : i < length k → Among k i (get_or k i 0) → CellsTested q ts offs l k m a b (i + 1)
   same-cell less e =
       let f : ℕ → ℕ → Bool = λ t c. lists (lookup offs l c) t in
-      record {
-        bound = omega (arith, less);
-        tested-long = h.tested-long;
-        touched-long = h.touched-long;
-        sets =
-            tested-cong (length tested₀) (overlaps_tile q ts) (λ t. some_of (f t) (take i k)) (λ t. some_of (f t) (take (i + 1) k)) a b
-            (λ t _. sym (some-take (f t) k i less ∙ e (f t))) h.sets;
-      }
+      tested-cong m (overlaps_tile q ts) (λ t. some_of (f t) (take i k)) (λ t. some_of (f t) (take (i + 1) k)) a b (λ t _. sym (some-take (f t) k i less ∙ e (f t))) h
 
   -- all cells are done
-  pub all-touched : {m : ℕ} → length tested₀ ≡ m → k ≡ box_cells q → length k ≤ i → b ≡ set_of m (touched_by ts offs l q)
+  pub all-touched : k ≡ box_cells q → length k ≤ i → b ≡ set_of m (touched_by ts offs l q)
   unfolding touched_by listed_by
-  all-touched w e past =
-      h.sets.hit ∙ ap₂ (λ (n : ℕ) (x : List ℕ). set_of n (λ t. some_of (λ c. lists (lookup offs l c) t) x && overlap_of q (tile_of ts t))) w (take_all i k past ∙ e)
+  all-touched e past = h.hit ∙ ap (λ (x : List ℕ). set_of m (λ t. some_of (λ c. lists (lookup offs l c) t) x && overlap_of q (tile_of ts t))) (take_all i k past ∙ e)
 
 -- ---- the cells of four wheels
 -- the first w of four wheels have their cells

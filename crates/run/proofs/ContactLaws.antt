@@ -22,7 +22,7 @@ use Rattle.run.specs.Rules.Below.{any_below, how_many}
 use Rattle.run.specs.Rules.Arguments.{pose_at}
 use Rattle.run.specs.Rules.Wheel.{wheel_quad, quad_of}
 use Rattle.run.specs.Grader.Touch.{touched_by, sound_poses}
-use Rattle.run.specs.Steps.Touch.{Room, Creditable, AllCreditable, in_sets, entered_since, Credits, credits, credits_of}
+use Rattle.run.specs.Steps.Touch.{Creditable, AllCreditable, in_sets, entered_since, Credits, credits, credits_of}
 use Rattle.run.specs.declared.state.Pose.{Pose}
 use Rattle.run.specs.Grader.Words.{member, set_of}
 use Rattle.run.specs.Grader.Contact.{wheel_part, enters, entered, wheel_sets, contacted, contact_of}
@@ -80,16 +80,9 @@ unfolding wheel_part
 part-long m w W l h =
     length-take-le m (drop (w * m) W) (subst (λ (x : ℕ). m ≤ x) (sym (length-drop (w * m) W)) (drop-long (w * m) (length W) m (part-ends w m l h)))
 
--- the same part by its first word and the word after its last
-lent-part : (m w : ℕ) (W : List ℕ) → wheel_part m W w ≡ take (w * m + m - w * m) (drop (w * m) W)
-unfolding wheel_part
-lent-part m w W = ap (λ (k : ℕ). take k (drop (w * m) W)) (sym (size (w * m) m))
-
 -- ---- touch: after w wheels
-pub record Touched (m : ℕ) (W₀ : List ℕ) (P : ℕ → ℕ → Bool) (W tested : List ℕ) (w : ℕ) : Type 0 where
-  pub scratch : length tested ≡ m
+pub record Touched (m : ℕ) (W₀ : List ℕ) (P : ℕ → ℕ → Bool) (W : List ℕ) (w : ℕ) : Type 0 where
   pub long : length W ≡ 4 * m
-  pub ends : w < 4 → w * m + m ≤ length W
   pub wheels : W ≡ wheel_sets m P w ++ drop (w * m) W₀
 
 -- the quad of a wheel by its pose
@@ -98,37 +91,30 @@ unfolding quad_of
 wheel-is ps w e = e
 
 module _ {m : ℕ} {W₀ : List ℕ} {P : ℕ → ℕ → Bool} (l : length W₀ ≡ 4 * m) where
-  pub no-set : {tested : List ℕ} → length tested ≡ m → Touched m W₀ P W₀ tested 0
+  pub no-set : Touched m W₀ P W₀ 0
   unfolding wheel_sets
-  no-set a = record { scratch = a; long = l; ends = λ b. part-ends 0 m l b; wheels = sym (ap (λ (k : ℕ). drop k W₀) (zero-mul m)) }
+  no-set = record { long = l; wheels = sym (ap (λ (k : ℕ). drop k W₀) (zero-mul m)) }
 
-  module _ {W tested : List ℕ} {w : ℕ} (h : Touched m W₀ P W tested w) (b : w < 4) where
-    -- the lent part has room for what the wheel touches
-    pub own_room : {n : ℕ} {ts : List Float} → n ≤ 64 * m → n * 8 ≤ length ts → Room 1 n ts tested (take (w * m + m - w * m) (drop (w * m) W))
-    own_room a d =
-        let k = ap length (sym (lent-part m w W)) ∙ part-long m w W h.long b in
-        record { sets = omega (arith, k, h.scratch); words = omega (arith, a, h.scratch); tiles = d }
-
+  module _ {W : List ℕ} {w : ℕ} (h : Touched m W₀ P W w) (b : w < 4) where
     rest : drop (w * m + m - w * m) (drop (w * m) W) ≡ drop ((w + 1) * m) W₀
     rest =
         ap₂ (λ (k : ℕ) (x : List ℕ). drop k x) (size (w * m) m) (ap (drop (w * m)) h.wheels ∙ drop_at (wheel_sets m P w) (drop (w * m) W₀) (w * m) (sets-long m P w))
         ∙ drop-drop m (w * m) W₀ ∙ ap (λ (k : ℕ). drop k W₀) (next w m)
 
-    pub one_set : {tested' part : List ℕ} {Q : ℕ → Bool} → length tested' ≡ length tested → part ≡ set_of (length tested) Q → Q ≡ P w
-        → Touched m W₀ P (take (w * m) W ++ (part ++ drop (w * m + m - w * m) (drop (w * m) W))) tested' (w + 1)
+    pub one_set : {part : List ℕ} → part ≡ set_of m (P w) → Touched m W₀ P (take (w * m) W ++ (part ++ drop (w * m + m - w * m) (drop (w * m) W))) (w + 1)
     unfolding wheel_sets
-    one_set {part = part} a e q =
+    one_set {part} e =
         let whole : take (w * m) W ++ (part ++ drop (w * m + m - w * m) (drop (w * m) W)) ≡ wheel_sets m P (w + 1) ++ drop ((w + 1) * m) W₀ =
         ap₂ (λ (x y : List ℕ). x ++ y) (ap (take (w * m)) h.wheels ∙ take_at (wheel_sets m P w) (drop (w * m) W₀) (w * m) (sets-long m P w))
-        (ap₂ (λ (x y : List ℕ). x ++ y) (e ∙ ap₂ set_of h.scratch q) rest)
+        (ap₂ (λ (x y : List ℕ). x ++ y) e rest)
         ∙ sym (append_assoc (wheel_sets m P w) (set_of m (P w)) (drop ((w + 1) * m) W₀))
         ∙ ap (λ (k : ℕ). wheel_sets m P k ++ drop ((w + 1) * m) W₀) (sym (add-one w)) in
         let long =
         ap length whole ∙ length-append (wheel_sets m P (w + 1)) (drop ((w + 1) * m) W₀)
         ∙ ap₂ ◌+◌ (sets-long m P (w + 1)) (length-drop ((w + 1) * m) W₀) ∙ omega (arith, part-ends w m l b, next w m, l) in
-        record { scratch = a ∙ h.scratch; long = long; ends = λ d. part-ends (w + 1) m long d; wheels = whole }
+        record { long = long; wheels = whole }
 
-  pub four-sets : {W tested : List ℕ} {w : ℕ} → w ≡ 4 → Touched m W₀ P W tested w → W ≡ wheel_sets m P 4
+  pub four-sets : {W : List ℕ} {w : ℕ} → w ≡ 4 → Touched m W₀ P W w → W ≡ wheel_sets m P 4
   four-sets four h =
       h.wheels ∙ ap (λ (k : ℕ). wheel_sets m P k ++ drop (k * m) W₀) four ∙ ap (λ (x : List ℕ). wheel_sets m P 4 ++ x) (drop_of_length-le W₀ (le_of_eq l)) ∙ append-nil (wheel_sets m P 4)
 

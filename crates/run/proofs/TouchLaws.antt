@@ -20,8 +20,8 @@ use Rattle.course.specs.Grader.Index.{part_ok, lookup}
 use Rattle.run.specs.Rules.Overlap.{overlap_of}
 use Rattle.run.specs.Rules.Wheel.{box_cells}
 use Rattle.run.specs.Grader.Touch.{lists, listed_by, touched_by, sound_cell, sound_quad}
-use Rattle.run.specs.Steps.Touch.{Tested, Tests, Room, Looked}
-use Rattle.run.proofs.WordLaws.{member-set_of, set_of-cong, or-chain}
+use Rattle.run.specs.Steps.Touch.{Tested, Tests, Looked}
+use Rattle.run.proofs.WordLaws.{member-set_of, set_of-cong, length-set_of, or-chain}
 
 -- ---- tests over lists
 pub some_end : (p : ℕ → Bool) (xs : List ℕ) (x : ℕ) → some_of p (xs ++ (x ∷ [])) ≡ (some_of p xs || p x)
@@ -122,18 +122,14 @@ tested-cong m o L M tested touched e h =
 pub tested-is : {m : ℕ} {o L : ℕ → Bool} {a a' b b' : List ℕ} → a' ≡ a → b' ≡ b → Tested m o L a b → Tested m o L a' b'
 tested-is p q h = record { all = p ∙ h.all; hit = q ∙ h.hit }
 
--- a further test N after M, where the words' number is known by an equation
-pub touch-more : (m : ℕ) (o L M N Z : ℕ → Bool) (a b a' b' : List ℕ) → length a ≡ m → Tests o N a b a' b'
-    → Tested m o (λ t. L t || M t) a b → ((t : ℕ) → (M t || N t) ≡ Z t) → Tested m o (λ t. L t || Z t) a' b'
-touch-more m o L M N Z a b a' b' e step h z =
+-- a further test N after M
+pub touch-more : (m : ℕ) (o L M N Z : ℕ → Bool) (a b a' b' : List ℕ) → Tests o N a b a' b' → Tested m o (λ t. L t || M t) a b → ((t : ℕ) → (M t || N t) ≡ Z t) → Tested m o (λ t. L t || Z t) a' b'
+touch-more m o L M N Z a b a' b' step h z =
+    let e : length a ≡ m = ap length h.all ∙ length-set_of m (λ t. L t || M t) in
     tested-cong m o (λ t. (L t || M t) || N t) (λ t. L t || Z t) a' b' (λ t _. or_assoc (L t) (M t) (N t) ∙ ap (λ (x : Bool). L t || x) (z t))
     (subst (λ (k : ℕ). Tested k o (λ t. (L t || M t) || N t) a' b') e (step (λ t. L t || M t) (subst (λ (k : ℕ). Tested k o (λ t. L t || M t) a b) (sym e) h)))
 
 -- ---- a quad's four cells
-
--- room for n tiles is room for fewer, in sets of the same widths
-pub room_for : {k n : ℕ} {ts : List Float} {a b : List ℕ} (i : ℕ) (a' b' : List ℕ) → Room k n ts a b → i ≤ n → length a' ≡ length a → length b' ≡ length b → Room k i ts a' b'
-room_for {k = k} i a' b' h l p q = record { sets = q ∙ h.sets ∙ ap (λ (x : ℕ). k * x) (sym p); words = omega (arith, h.words, p, l); tiles = omega (arith, h.tiles, l) }
 
 -- the ids that a sound cell lists
 pub sound-ids : {offs l : List ℕ} {n : ℕ} {q : List (List Float)} {ks ids : List ℕ} {i : ℕ} → Looked offs l n q ks → i < length ks → ids ≡ lookup offs l (get_or ks i 0) → every_of (λ t. ltb t n) ids ≡ true
@@ -144,12 +140,11 @@ sound-ids {offs} {l} {n} {ks = ks} {i = i} h b r =
     (every-at (sound_cell offs l n) ks i (ap (every_of (sound_cell offs l n)) h.are ∙ h.sound) b)
 
 -- nothing tested yet
-pub none-tested : (m a b : ℕ) (o N : ℕ → Bool) (tested touched : List ℕ) → tested ≡ set_of a (λ t. false) → touched ≡ set_of b (λ t. false) → m ≡ a → b ≡ a → ((t : ℕ) → N t ≡ false)
-    → Tested m o N tested touched
-none-tested m a b o N tested touched e f p q z =
+pub none-tested : (m : ℕ) (o N : ℕ → Bool) (tested touched : List ℕ) → tested ≡ set_of m (λ t. false) → touched ≡ set_of m (λ t. false) → ((t : ℕ) → N t ≡ false) → Tested m o N tested touched
+none-tested m o N tested touched e f z =
     record {
-      all = e ∙ ap (λ (x : ℕ). set_of x (λ t. false)) (sym p) ∙ set_of-cong m (λ t. false) N (λ t _. sym (z t));
-      hit = f ∙ ap (λ (x : ℕ). set_of x (λ t. false)) (q ∙ sym p) ∙ set_of-cong m (λ t. false) (λ t. N t && o t) (λ t _. sym (ap (λ (x : Bool). x && o t) (z t)));
+      all = e ∙ set_of-cong m (λ t. false) N (λ t _. sym (z t));
+      hit = f ∙ set_of-cong m (λ t. false) (λ t. N t && o t) (λ t _. sym (ap (λ (x : Bool). x && o t) (z t)));
     }
 
 -- ---- no tile from n on is touched, where the look-ups are sound

@@ -3,13 +3,13 @@
 ghost use Rattle.std.specs.Prelude.{◌≡◌, true, not, ◌&&◌, ◌*◌, ◌<◌, ◌≤◌, length};
 ghost use Rattle.run.specs.Grader.Words.{member};
 ghost use Rattle.run.specs.Rules.Wheel.{quad_of};
-ghost use Rattle.run.specs.Steps.Touch.{Room, Creditable, AllCreditable, credits, credits_of, entered_since};
+ghost use Rattle.run.specs.Steps.Touch.{Creditable, AllCreditable, credits, credits_of, entered_since};
 ghost use Rattle.run.specs.Grader.Touch.{touched_by, sound_poses};
 ghost use Rattle.run.specs.Grader.Contact.{wheel_sets, contacted, contact_of};
 ghost use Rattle.run.specs.Grader.Widths.{full_words, most_tiles};
 
 use crate::quad::Stance;
-use crate::touch::Columns;
+use crate::touch::{Columns, Course};
 use crate::widths::{FULL_WORDS, WHEEL_WORDS};
 use crate::{quad, touch, words};
 
@@ -20,26 +20,20 @@ pub(crate) struct Contact {
     pub zero: bool,
 }
 
-// The sets of the four wheels become what each touches now, every one made anew; `tested` is scratch.
-fn touch_sets(stance: &Stance, columns: Columns, n: usize, tested: &mut [u64], wheels: &mut [u64])
-    requires room { Room 4 n columns.tiles.now tested.old wheels.old }
-    requires looked { sound_poses columns.offsets.now columns.list.now n stance.now.poses ≡ true }
+// The sets of the four wheels become what each touches now, every one made anew.
+// Kept by numbers: what the parts that `chunks_exact_mut` lends hold after the loop no proof knows (tried, side by side with poses and cells).
+fn touch_sets(stance: &Stance, course: Course, wheels: &mut [u64; WHEEL_WORDS])
+    requires { sound_poses course.columns.offsets.now course.columns.list.now course.n stance.now.poses ≡ true }
     ensures { wheels.new
-        ≡ wheel_sets (length tested.old)
-        (λ w. touched_by columns.entry.tiles.now columns.entry.offsets.now columns.entry.list.now
-        (quad_of stance.now.poses w)) 4 }
+        ≡ wheel_sets full_words
+        (λ w. touched_by course.entry.columns.tiles.now course.entry.columns.offsets.now
+        course.entry.columns.list.now (quad_of stance.now.poses w)) 4 }
 {
-    let m = tested.len();
     for wheel in 0..4 {
-        let from = wheel * m;
-        touch::touch_quad(
-            quad::wheel_quad(stance.poses[wheel]),
-            &stance.cells[wheel],
-            columns,
-            n,
-            tested,
-            &mut wheels[from..from + m],
-        );
+        let quad = quad::wheel_quad(stance.poses[wheel]);
+        let touched = touch::touched_set(quad, &stance.cells[wheel], course);
+        let from = wheel * FULL_WORDS;
+        wheels[from..from + FULL_WORDS].copy_from_slice(&touched);
     }
 }
 
@@ -90,8 +84,7 @@ pub(crate) fn full_contact(
         (λ w. touched_by columns.entry.tiles.now columns.entry.offsets.now columns.entry.list.now
         (quad_of stance.now.poses w)) }
 {
-    let mut tested = [0u64; FULL_WORDS];
     let before = *wheels;
-    touch_sets(stance, columns, n, &mut tested, wheels);
+    touch_sets(stance, Course { columns, n }, wheels);
     credit_sets(credited, &before, wheels, n)
 }

@@ -1,14 +1,16 @@
 // Which tiles a wheel touches, by the lent tiles and index (document 01, "Touch"). Each tile is tested
 // once for a wheel, however many cells list it and however often.
-ghost use Rattle.std.specs.Prelude.{◌≡◌, true, ◌+◌, ◌*◌, ◌≤◌, eqb, ltb, length};
+ghost use Rattle.std.specs.Prelude.{◌≡◌, true, ◌+◌, ◌*◌, ◌≤◌, ◌<◌, eqb, ltb, length};
 ghost use Rattle.std.specs.List.{list_all, flat_map};
 ghost use Rattle.course.specs.Rules.Tiles.{tile_of};
 ghost use Rattle.run.specs.Rules.Below.{every_of};
 ghost use Rattle.run.specs.Grader.Words.{set_of};
 ghost use Rattle.run.specs.Grader.Touch.{lists, touched_by, sound_cell};
-ghost use Rattle.run.specs.Steps.Touch.{overlaps_tile, Tests, Room, Looked};
+ghost use Rattle.run.specs.Steps.Touch.{overlaps_tile, Tests, Looked};
+ghost use Rattle.run.specs.Grader.Widths.{full_words, most_tiles};
 
 use crate::quad::Sided;
+use crate::widths::FULL_WORDS;
 use crate::words;
 use course::{index, tiles};
 
@@ -62,17 +64,32 @@ fn ids_below(ids: &[u32], n: usize) -> bool
     ids.iter().all(|id| (*id as usize) < n)
 }
 
+// A course as a contact has it: its columns, and how many tiles it has. A set has room for these, and all of them are lent.
+#[derive(Clone, Copy)]
+pub(crate) struct Course<'a> {
+    pub columns: Columns<'a>,
+    pub n: usize,
+    ghost few: { n ≤ most_tiles },
+    ghost lent: { n * 8 ≤ length columns.tiles.now },
+}
+
 // Tile `id` is tested, unless it was before.
-fn touch_one(wheel: &Sided, columns: Columns, id: usize, tested: &mut [u64], touched: &mut [u64])
-    requires { Room 1 (id + 1) columns.tiles.now tested.old touched.old }
-    ensures { Tests (overlaps_tile wheel.now.quad columns.entry.tiles.now) (λ t. eqb t id) tested.old touched.old
+fn touch_one(
+    wheel: &Sided,
+    course: Course,
+    id: usize,
+    tested: &mut [u64; FULL_WORDS],
+    touched: &mut [u64; FULL_WORDS],
+)
+    requires { id < course.n }
+    ensures { Tests (overlaps_tile wheel.now.quad course.entry.columns.tiles.now) (λ t. eqb t id) tested.old touched.old
         tested.new touched.new }
 {
     if words::has(tested, id) {
         return;
     }
     words::put(tested, id);
-    if wheel.overlaps(columns.tile(id)) {
+    if wheel.overlaps(course.columns.tile(id)) {
         words::put(touched, id);
     }
 }
@@ -80,48 +97,38 @@ fn touch_one(wheel: &Sided, columns: Columns, id: usize, tested: &mut [u64], tou
 // The tiles of a list are tested.
 fn touch_ids(
     wheel: &Sided,
-    columns: Columns,
+    course: Course,
     ids: &[u32],
-    n: usize,
-    tested: &mut [u64],
-    touched: &mut [u64],
+    tested: &mut [u64; FULL_WORDS],
+    touched: &mut [u64; FULL_WORDS],
 )
-    requires room { Room 1 n columns.tiles.now tested.old touched.old }
-    requires ids_below { every_of (λ t. ltb t n) ids.now ≡ true }
-    ensures { Tests (overlaps_tile wheel.now.quad columns.entry.tiles.now) (lists ids.now) tested.old
+    requires { every_of (λ t. ltb t course.n) ids.now ≡ true }
+    ensures { Tests (overlaps_tile wheel.now.quad course.entry.columns.tiles.now) (lists ids.now) tested.old
         touched.old tested.new touched.new }
 {
     for id in ids {
-        touch_one(wheel, columns, *id as usize, tested, touched);
+        touch_one(wheel, course, *id as usize, tested, touched);
     }
 }
 
-// The tiles that a wheel's quad touches become the set `touched`; `tested` is scratch, and `cells` are
-// the cells of the quad's box.
-pub(crate) fn touch_quad(
-    q: [[f64; 2]; 4],
-    cells: &[usize; 4],
-    columns: Columns,
-    n: usize,
-    tested: &mut [u64],
-    touched: &mut [u64],
-)
-    requires room { Room 1 n columns.tiles.now tested.old touched.old }
-    requires looked { Looked columns.offsets.now columns.list.now n q cells.now }
-    ensures { touched.new
-        ≡ set_of (length tested.old)
-        (touched_by columns.entry.tiles.now columns.entry.offsets.now columns.entry.list.now q) }
+// The set of the tiles that a wheel's quad touches, by the cells of the quad's box.
+pub(crate) fn touched_set(q: [[f64; 2]; 4], cells: &[usize; 4], course: Course) -> [u64; FULL_WORDS]
+    requires { Looked course.columns.offsets.now course.columns.list.now course.n q cells.now }
+    ensures { result
+        ≡ set_of full_words
+        (touched_by course.entry.columns.tiles.now course.entry.columns.offsets.now course.entry.columns.list.now q) }
 {
     let wheel = Sided::new(q);
-    words::clear(tested);
-    words::clear(touched);
+    let mut tested = [0; FULL_WORDS];
+    let mut touched = [0; FULL_WORDS];
     let mut before = None;
     for cell in cells {
         // Most of a box's cells are the same as the cell before, whose tiles are tested already.
         if before != Some(*cell) {
-            let ids = index::cell_tiles(columns.offsets, columns.list, *cell);
-            touch_ids(&wheel, columns, ids, n, tested, touched);
+            let ids = index::cell_tiles(course.columns.offsets, course.columns.list, *cell);
+            touch_ids(&wheel, course, ids, &mut tested, &mut touched);
         }
         before = Some(*cell);
     }
+    touched
 }

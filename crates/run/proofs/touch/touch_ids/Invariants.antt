@@ -6,5 +6,5 @@ use mathlib.Core.Path.{◌≡◌}
 use Rattle.run.proofs.touch.touch_ids.Given as goal
 
 abbrev pub invariant-loop-id : goal.invariant-loop-id
-invariant-loop-id l = (length l.tested ≡ length l.initial.tested) × (length l.touched ≡ length l.initial.touched)
-    × Tests (overlaps_tile l.wheel.quad l.columns.tiles.now) (lists (take l.id-index l.ids)) l.initial.tested l.initial.touched l.tested l.touched
+invariant-loop-id l =
+    Tests (overlaps_tile l.wheel.quad l.course.columns.tiles.now) (lists (take l.id-index l.ids)) l.initial.tested l.initial.touched l.tested l.touched
