@@ -25,21 +25,21 @@ use Rattle.run.specs.declared.dynamics.Force.{Force}
 -- ---- the pass
 
 -- the steps of a wheel's pass are the tyre rule
-pub wheel-passed : (w : WheelCtl) (m : Motion) (road : Bool) (fuel omega : Float) (push s : TyreForce) (t : PassedWheel) → omega ≡ turning_of w → push ≡ push_of omega m
+pub wheel_passed : (w : WheelCtl) (m : Motion) (road : Bool) (fuel omega : Float) (push s : TyreForce) (t : PassedWheel) → omega ≡ turning_of w → push ≡ push_of omega m
     → s ≡ held_of (limit_of road) push.along push.across → t ≡ finish_of w m omega s fuel → t ≡ tyre_of w m road fuel
 unfolding tyre_of
-wheel-passed w m road fuel omega push s t eo ep es et =
+wheel_passed w m road fuel omega push s t eo ep es et =
     let p = ep ∙ ap (λ (x : Float). push_of x m) eo in
     et ∙ (λ i. finish_of w m (eo i) ((es ∙ ap (λ (x : TyreForce). held_of (limit_of road) x.along x.across) p) i) fuel)
 
 -- the four wheels, the fuel going from one to the next
-pub pass-from : (car : Car) (action : ℕ) (ms : List Motion) (roads : List Bool) (w₀ w₁ w₂ w₃ : WheelCtl) (a b c d : PassedWheel)
+pub pass_from : (car : Car) (action : ℕ) (ms : List Motion) (roads : List Bool) (w₀ w₁ w₂ w₃ : WheelCtl) (a b c d : PassedWheel)
     → w₀ ≡ front_of action (ctl_at car.ctl 0) → w₁ ≡ front_of action (ctl_at car.ctl 1) → w₂ ≡ rear_of action (ctl_at car.ctl 2) → w₃ ≡ rear_of action (ctl_at car.ctl 3)
     → a ≡ tyre_of w₀ (motion_at ms 0) (road_at roads 0) car.fuel_spent → b ≡ tyre_of w₁ (motion_at ms 1) (road_at roads 1) a.fuel
     → c ≡ tyre_of w₂ (motion_at ms 2) (road_at roads 2) b.fuel → d ≡ tyre_of w₃ (motion_at ms 3) (road_at roads 3) c.fuel
     → gathered_of a b c d ≡ pass_of car action ms roads
 unfolding pass_of
-pass-from car action ms roads w₀ w₁ w₂ w₃ a b c d e₀ e₁ e₂ e₃ ha hb hc hd =
+pass_from car action ms roads w₀ w₁ w₂ w₃ a b c d e₀ e₁ e₂ e₃ ha hb hc hd =
     let pa = ha ∙ (λ i. tyre_of (e₀ i) (motion_at ms 0) (road_at roads 0) car.fuel_spent) in
     let pb = hb ∙ (λ i. tyre_of (e₁ i) (motion_at ms 1) (road_at roads 1) (pa i).fuel) in
     let pc = hc ∙ (λ i. tyre_of (e₂ i) (motion_at ms 2) (road_at roads 2) (pb i).fuel) in
