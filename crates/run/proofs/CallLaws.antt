@@ -21,8 +21,7 @@ use Rattle.run.specs.Rules.Wheel.{quad_of}
 use Rattle.run.specs.Grader.Words.{member}
 use Rattle.run.specs.Grader.Contact.{entered, Contacted, contacted, contact_of}
 use Rattle.course.proofs.BoolLaws.{or_no}
-use Rattle.run.proofs.CheckLaws.{passed}
-use Rattle.run.proofs.CheckLaws.{cause-by, none-number, met-none}
+use Rattle.run.proofs.CheckLaws.{passed, cause-by, none-number}
 use Rattle.run.proofs.CellLaws.{cells-sound-is}
 use Rattle.run.proofs.CreditLaws.{few}
 use Rattle.run.specs.Steps.Touch.{sixteen_cells}
@@ -100,12 +99,12 @@ pub record SettleFacts (most : ℕ) (u : Setup) (p : Progress) (l : Columns) (ps
 pub settle-facts : (most : ℕ) (u : Setup) (p : Progress) (l : Columns) (x y : Float) (ps : List Pose) → most ≤ most_points → Ok tt ≡ settle_check most u p l x y ps → SettleFacts most u p l ps
 unfolding settle_check unfit short_of
 settle-facts most u p l x y ps m h =
-    let a = met-none (unfit most u p || p.ended) NoRun _ h in
-    let b = met-none (not p.driven) Turn _ a.1 in
-    let c = met-none (leb u.tick_limit p.tick) Limit _ b.1 in
-    let d = met-none (short_of u.n l) Length _ c.1 in
-    let e = met-none (not (places_ok x y ps)) Range _ d.1 in
-    let v = met-none (not (sound_poses l.offsets l.list u.n ps)) Index _ e.1 in
+    let a = passed (unfit most u p || p.ended) _ _ (sym h) in
+    let b = passed (not p.driven) _ _ a.1 in
+    let c = passed (leb u.tick_limit p.tick) _ _ b.1 in
+    let d = passed (short_of u.n l) _ _ c.1 in
+    let e = passed (not (places_ok x y ps)) _ _ d.1 in
+    let v = passed (not (sound_poses l.offsets l.list u.n ps)) _ _ e.1 in
     let f = or_no (unfit most u p) p.ended a.0 in
     let g = or_no (ltb u.n 1 || ltb most u.n) (ltb u.n p.visited_count) f.0 in
     let k = or_no (ltb u.n 1) (ltb most u.n) g.0 in

@@ -13,10 +13,6 @@ pub passed : {A E : Type 0} (b : Bool) (k : E) (r : Result A E) {x : A} → cond
 passed true k r e = absurd (false≢true (ap is_ok e))
 passed false k r e = (refl, e)
 
--- the same of a check that passes, read from the right
-pub met-none : {A E : Type 0} {v : A} (b : Bool) (k : E) (r : Result A E) → Ok v ≡ cond b (Err k) r → (b ≡ false) × (Ok v ≡ r)
-met-none b k r e = let p = passed b k r (sym e) in (p.0, sym p.1)
-
 -- what `ok_or` refuses was not there, and is refused by the cause given
 pub not-there : {A : Type 0} (o : Option A) {r : Result A Cause} {k j : Cause} → r ≡ ok_or o k → r ≡ Err j → (o ≡ None) × (j ≡ k)
 not-there {A} None {k = k} e h = (refl, ap (cause_in k) (sym h ∙ e))

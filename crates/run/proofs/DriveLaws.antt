@@ -11,6 +11,8 @@ use Rattle.course.specs.declared.cause.Cause.{Cause}
 use Rattle.run.specs.Rules.Arguments.{motion_at, motions_ok}
 use Rattle.run.specs.Rules.Dynamics.{TyreForce, PassedWheel, turning_of, limit_of, held_of, push_of, finish_of, tyre_of}
 use Rattle.run.specs.Grader.State.{awaiting, unfit}
+use Rattle.run.specs.Steps.Drive.{told}
+use Rattle.run.proofs.ActionLaws.{told_refused, told_passed, told_number}
 use Rattle.run.proofs.CheckLaws.{cause-by, none-number}
 use Rattle.run.specs.Grader.Grip.{roads_of}
 use Rattle.run.specs.Rules.Pass.{front_of, rear_of, ctl_at, road_at, Passed, tyres_passed, gathered_of, pass_of}
@@ -25,21 +27,21 @@ use Rattle.run.specs.declared.dynamics.Force.{Force}
 -- ---- the pass
 
 -- the steps of a wheel's pass are the tyre rule
-pub wheel-passed : (w : WheelCtl) (m : Motion) (road : Bool) (fuel omega : Float) (push s : TyreForce) (t : PassedWheel) → omega ≡ turning_of w → push ≡ push_of omega m
+pub wheel_passed : (w : WheelCtl) (m : Motion) (road : Bool) (fuel omega : Float) (push s : TyreForce) (t : PassedWheel) → omega ≡ turning_of w → push ≡ push_of omega m
     → s ≡ held_of (limit_of road) push.along push.across → t ≡ finish_of w m omega s fuel → t ≡ tyre_of w m road fuel
 unfolding tyre_of
-wheel-passed w m road fuel omega push s t eo ep es et =
+wheel_passed w m road fuel omega push s t eo ep es et =
     let p = ep ∙ ap (λ (x : Float). push_of x m) eo in
     et ∙ (λ i. finish_of w m (eo i) ((es ∙ ap (λ (x : TyreForce). held_of (limit_of road) x.along x.across) p) i) fuel)
 
 -- the four wheels, the fuel going from one to the next
-pub pass-from : (car : Car) (action : ℕ) (ms : List Motion) (roads : List Bool) (w₀ w₁ w₂ w₃ : WheelCtl) (a b c d : PassedWheel)
+pub pass_from : (car : Car) (action : ℕ) (ms : List Motion) (roads : List Bool) (w₀ w₁ w₂ w₃ : WheelCtl) (a b c d : PassedWheel)
     → w₀ ≡ front_of action (ctl_at car.ctl 0) → w₁ ≡ front_of action (ctl_at car.ctl 1) → w₂ ≡ rear_of action (ctl_at car.ctl 2) → w₃ ≡ rear_of action (ctl_at car.ctl 3)
     → a ≡ tyre_of w₀ (motion_at ms 0) (road_at roads 0) car.fuel_spent → b ≡ tyre_of w₁ (motion_at ms 1) (road_at roads 1) a.fuel
     → c ≡ tyre_of w₂ (motion_at ms 2) (road_at roads 2) b.fuel → d ≡ tyre_of w₃ (motion_at ms 3) (road_at roads 3) c.fuel
     → gathered_of a b c d ≡ pass_of car action ms roads
 unfolding pass_of
-pass-from car action ms roads w₀ w₁ w₂ w₃ a b c d e₀ e₁ e₂ e₃ ha hb hc hd =
+pass_from car action ms roads w₀ w₁ w₂ w₃ a b c d e₀ e₁ e₂ e₃ ha hb hc hd =
     let pa = ha ∙ (λ i. tyre_of (e₀ i) (motion_at ms 0) (road_at roads 0) car.fuel_spent) in
     let pb = hb ∙ (λ i. tyre_of (e₁ i) (motion_at ms 1) (road_at roads 1) (pa i).fuel) in
     let pc = hc ∙ (λ i. tyre_of (e₂ i) (motion_at ms 2) (road_at roads 2) (pb i).fuel) in
@@ -48,19 +50,19 @@ pass-from car action ms roads w₀ w₁ w₂ w₃ a b c d e₀ e₁ e₂ e₃ ha
 
 -- ---- the call on its parts, by its cause
 module _ (m most : ℕ) (u : Setup) (p : Progress) (car : Car) (wheels : List ℕ) (action : ℕ) (ms : List Motion) where
-  pub drive_refused : (r : Result (List Force) Cause) (c : Cause) → Err c ≡ drive_check most u p action ms → r ≡ Err c
+  pub drive_refused : (r : Result (List Force) Cause) (c : Cause) → Err c ≡ told action (drive_check most u p action ms) → r ≡ Err c
       → drove_parts r p car ≡ drive_parts_of m most u p car wheels action ms
   unfolding drive_parts_of drive_at
   drive_refused r c e h =
       ap (λ (x : Result (List Force) Cause). drove_parts x p car) h
-      ∙ ap (λ (x : Result Unit Cause). drive_at x p car (pass_of car action ms (roads_of m wheels))) e
+      ∙ ap (λ (x : Result Unit Cause). drive_at x p car (pass_of car action ms (roads_of m wheels))) (told_refused _ _ e)
 
-  pub drive_accepted : (after : Car) (fs : List Force) → Ok tt ≡ drive_check most u p action ms → tyres_passed after fs ≡ pass_of car action ms (roads_of m wheels)
-      → drove_parts (Ok fs) (awaiting p) after ≡ drive_parts_of m most u p car wheels action ms
+  pub drive_accepted : (number : ℕ) (roads : List Bool) (after : Car) (fs : List Force) → Ok number ≡ told action (drive_check most u p action ms) → roads ≡ roads_of m wheels
+      → tyres_passed after fs ≡ pass_of car number ms roads → drove_parts (Ok fs) (awaiting p) after ≡ drive_parts_of m most u p car wheels action ms
   unfolding drive_parts_of drive_at
-  drive_accepted after fs e h =
-      ap (λ (d : Passed). drove_parts (Ok d.forces) (awaiting p) d.car) h
-      ∙ ap (λ (x : Result Unit Cause). drive_at x p car (pass_of car action ms (roads_of m wheels))) e
+  drive_accepted number roads after fs e on h =
+      ap (λ (d : Passed). drove_parts (Ok d.forces) (awaiting p) d.car) (h ∙ (λ i. pass_of car (told_number _ _ _ e i) ms (on i)))
+      ∙ ap (λ (x : Result Unit Cause). drive_at x p car (pass_of car action ms (roads_of m wheels))) (told_passed _ _ _ e)
 
   -- the number of its cause
   pub drive-cause-number : cause_number (drive_check most u p action ms)

@@ -6,7 +6,7 @@ use native.Mathlib.Nat.{one-mul}
 use mathlib.Core.Bool.{Bool, true, false, cond}
 use lib.IntN.{ℤ, pos}
 use lib.Dec.{T}
-use lib.Ieee.{Float, nan, inf, fin, binary64, up, down, round, mul, neg, lt, is_nan, fits, of_int}
+use lib.Ieee.{Float, nan, inf, fin, binary64, up, down, round, mul, neg, lt, is_nan, fits, of_bits, of_int}
 use lib.Ieee.Fits.{mul-fits}
 use Rattle.course.specs.Rules.Arithmetic.{◌⊖◌, ◌⊗◌, natural}
 use Rattle.course.specs.Rules.Numeric.{abs_of, min_of, signum_of}
@@ -109,7 +109,20 @@ unfolding motor_of natural of_int
 motor-cut steer angle = at-difference (steer ⊖ angle)
 
 -- by the tests that the code makes: of the product, lowered to 3, whether it is under −3
-pub motor-tests : (steer angle lowered : Float) (under : Bool) → lowered ≡ cond (lt three (fifty ⊗ (steer ⊖ angle))) three (fifty ⊗ (steer ⊖ angle)) → lt lowered (neg three) ≡ under
+motor_tests : (steer angle lowered : Float) (under : Bool) → lowered ≡ cond (lt three (fifty ⊗ (steer ⊖ angle))) three (fifty ⊗ (steer ⊖ angle)) → lt lowered (neg three) ≡ under
     → cond under (neg three) lowered ≡ motor_of steer angle
-motor-tests steer angle lowered under e h =
+motor_tests steer angle lowered under e h =
     ap (λ (b : Bool). cond b (neg three) lowered) (sym h) ∙ ap (λ (w : Float). cond (lt w (neg three)) (neg three) w) e ∙ motor-cut steer angle
+
+-- by the bits of its literals
+pub motor_cut_down : (steer angle lowered : Float)
+    → lowered ≡ cond (lt (of_bits binary64 0x4008000000000000) (of_bits binary64 0x4049000000000000 ⊗ (steer ⊖ angle))) (of_bits binary64 0x4008000000000000) (of_bits binary64 0x4049000000000000 ⊗ (steer ⊖ angle))
+    → lt lowered (neg (of_bits binary64 0x4008000000000000)) ≡ true → neg (of_bits binary64 0x4008000000000000) ≡ motor_of steer angle
+unfolding of_bits
+motor_cut_down steer angle lowered e h = motor_tests steer angle lowered true e h
+
+pub motor_lowered : (steer angle lowered : Float)
+    → lowered ≡ cond (lt (of_bits binary64 0x4008000000000000) (of_bits binary64 0x4049000000000000 ⊗ (steer ⊖ angle))) (of_bits binary64 0x4008000000000000) (of_bits binary64 0x4049000000000000 ⊗ (steer ⊖ angle))
+    → lt lowered (neg (of_bits binary64 0x4008000000000000)) ≡ false → lowered ≡ motor_of steer angle
+unfolding of_bits
+motor_lowered steer angle lowered e h = motor_tests steer angle lowered false e h

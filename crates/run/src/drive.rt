@@ -113,6 +113,7 @@ fn rear(w: WheelCtl, action: Action) -> WheelCtl
 // The tyre pass over the four wheels, the fuel going from one to the next. What pushes at the tyres is worked out for all of them
 // before any is cut: a root takes long, and so the wheels' roots do not wait for each other.
 // Kept wheel by wheel: the pass in straight lines is a form that the requirement names, so that the roots are under way at once.
+#[tactic(auto, unfolding(crate::specs::Rules::Pass::gathered_of), using(crate::proofs::DriveLaws::wheel_passed, crate::proofs::DriveLaws::pass_from))]
 fn pass(car: Car, action: Action, motion: [Motion; 4], roads: [bool; 4]) -> Passed
     ensures { tyres_passed result.car result.forces ≡ pass_of car (action_number action) motion roads }
 {

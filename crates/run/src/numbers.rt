@@ -139,6 +139,8 @@ impl Numbers for Force {
 }
 
 // The records of four wheels, one after the other from number i on.
+// Kept as four reads: the closure of `array::from_fn(|w| T::read(numbers, i + w * T::COUNT))` asks for clauses of its own, w < 4 and the length
+// again (tried), which are more lines than these.
 pub(crate) fn read_four<T: Numbers>(numbers: &[f64], i: usize) -> [T; 4]
     requires { i + 4 * T.COUNT ≤ length numbers.now }
     ensures { result ≡ four_from T.held T.COUNT numbers.now i }
