@@ -1,8 +1,9 @@
 -- The rows of a table one after another, over fields that lie end to end. Assumes nothing.
 use Prim.Native.Nat.{ℕ, zero, suc, ◌+◌, ◌*◌, ◌-◌, ◌/◌, ◌%◌, ◌^◌, ◌≤◌, ◌<◌, min}
-use mathlib.Core.Path.{◌≡◌, refl, sym, ap, ap₂, ◌∙◌, subst}
+use mathlib.Core.Path.{◌≡◌, refl, sym, ap, ap₂, ◌∙◌}
 use mathlib.Core.Bool.{Bool, true, false, cond, not, true≢false}
 use Rattle.std.specs.Option.{is_none}
+use Rattle.std.proofs.lemmas.Nat.{pow_pos}
 use mathlib.Core.List.{List, [], ◌∷◌, ◌++◌, append-nil}
 use native.Mathlib.Nat.{pow-suc, pow-le-pow_right, mul-le-mul_left, mul-add, mul_assoc, mul_comm}
 use native.Mathlib.Numerals.{add-one}
@@ -56,17 +57,6 @@ some-room n left room e =
 pub no_room : (n room : ℕ) → room < n → None ≡ cond (leb n room) (Some (room - n)) None
 no_room n room h = sym (ap (λ (b : Bool). cond b (Some (room - n)) None) (lt-leb n room h))
 
--- the widths of the first rows
-widths-take : (n : ℕ) (rows : List Row) → widths (take n rows) ≡ take n (widths rows)
-widths-take zero rows = refl
-widths-take (suc n) [] = refl
-widths-take (suc n) (r ∷ rows) = ap (λ (l : List ℕ). r.bytes ∷ l) (widths-take n rows)
-
-pub first-rows : (rows : List Row) (k n : ℕ) → n ≡ min (length rows) k → widths (take n rows) ≡ take k (widths rows)
-first-rows rows k n e =
-    let m : n ≡ min k (length rows) = omega (arith, e) in
-    ap (λ (j : ℕ). widths (take j rows)) m ∙ ap widths (take-least k rows) ∙ widths-take k rows
-
 -- the widths of a table of widths and marks
 pub widths-of : (ws : List ℕ) (zs : List Bool) → widths (rows_of ws zs) ≡ ws
 unfolding rows_of
@@ -98,16 +88,27 @@ unfolding map_of
 map_below [] = omega arith
 map_below (f ∷ fs) = omega (arith, bit-small (not (all_zero f)), map_below fs, pow-suc 2 (length fs))
 
-pub cut-many : (rows : List Row) (full : List ℕ) → length (cut (widths rows) full) ≡ length rows
+-- the first fields, one after another
+pub cut-take : (n : ℕ) (ws full : List ℕ) → take n (cut ws full) ≡ cut (take n ws) full
 unfolding cut
-cut-many [] full = refl
-cut-many (r ∷ rows) full = ap suc (cut-many rows (drop r.bytes full))
+cut-take zero ws full = refl
+cut-take (suc n) [] full = refl
+cut-take (suc n) (w ∷ ws) full = ap (λ (l : List (List ℕ)). take w full ∷ l) (cut-take n ws (drop w full))
 
-pub map-small : (rows : List Row) (full : List ℕ) → map_of (cut (widths rows) full) < 2 ^ length rows
-map-small rows full = subst (λ (k : ℕ). map_of (cut (widths rows) full) < 2 ^ k) (cut-many rows full) (map_below (cut (widths rows) full))
+pub take-next : (n m : ℕ) (fs : List (List ℕ)) (f : List ℕ) (gs : List (List ℕ)) → fs ≡ f ∷ gs → m + 1 ≡ n → take n fs ≡ f ∷ take m gs
+take-next n m fs f gs e h = ap₂ (λ (k : ℕ) (l : List (List ℕ)). take k l) (sym h ∙ add-one m) e
+
+pub take-ended : (n : ℕ) (fs : List (List ℕ)) → (0 < n → fs ≡ []) → take n fs ≡ []
+take-ended zero fs e = refl
+take-ended (suc n) fs e = ap (take (suc n)) (e (omega arith))
 
 pub power_small : (k : ℕ) → k ≤ 16 → 2 ^ k ≤ 2 ^ 16
 power_small k h = pow-le-pow_right {n = 2} (omega arith) h
+
+power-less : (k : ℕ) → k < 16 → 2 ^ k < 2 ^ 16
+power-less k h =
+    let e : 2 ^ (k + 1) ≡ 2 ^ k * 2 = ap (λ (z : ℕ). 2 ^ z) (add-one k) ∙ pow-suc 2 k in
+    omega (arith, e, power_small (k + 1) (omega (arith, h)), pow_pos k)
 
 -- a map of which k bits are gathered, and r is still to come
 pub record Gathered (all m k r : ℕ) : Type 0 where
@@ -115,12 +116,12 @@ pub record Gathered (all m k r : ℕ) : Type 0 where
   pub whole : all ≡ m + 2 ^ k * r
 
 -- one bit more, which is shifted to its place
-pub gathered : {all m k r : ℕ} (j n x r' : ℕ) → Gathered all m k r → j ≡ k → k < 16 → x ≤ 1 → n ≡ k + 1 → r ≡ x + 2 * r' → Gathered all (m + x * 2 ^ j % 2 ^ 64) n r'
+pub gathered : {all m k r : ℕ} (j n x r' : ℕ) → Gathered all m k r → j ≡ k → k < 16 → x ≤ 1 → n ≡ k + 1 → r ≡ x + 2 * r' → Gathered all (m + x * 2 ^ j % 2 ^ 16) n r'
 gathered {all} {m} {k} {r} j n x r' g same h o e q =
     let v = 2 ^ k in
     let low : v * x ≤ v = omega (arith, mul-le-mul_left {m = x} {n = 1} v o) in
-    let kept : x * v % 2 ^ 64 ≡ v * x = omega (arith, mul_comm x v, low, power_small k (omega (arith, h))) in
-    let place : x * 2 ^ j % 2 ^ 64 ≡ v * x = ap (λ (z : ℕ). x * 2 ^ z % 2 ^ 64) same ∙ kept in
+    let kept : x * v % 2 ^ 16 ≡ v * x = omega (arith, mul_comm x v, low, power-less k h) in
+    let place : x * 2 ^ j % 2 ^ 16 ≡ v * x = ap (λ (z : ℕ). x * 2 ^ z % 2 ^ 16) same ∙ kept in
     let twice : v * 2 ≡ 2 ^ n = sym (ap (λ (z : ℕ). 2 ^ z) (e ∙ add-one k) ∙ pow-suc 2 k) in
     record {
       small = omega (arith, g.small, place, low, twice);

@@ -1,6 +1,6 @@
 // The table of a saved form: its rows, in bit order, and the fields as they lie end to end in one lent
 // list of bytes.
-ghost use Rattle.std.specs.Prelude.{◌≡◌, cond, ◌-◌, ◌≤◌, leb, length, take, Some, None};
+ghost use Rattle.std.specs.Prelude.{◌≡◌, cond, ◌-◌, leb, take, Some, None};
 ghost use Rattle.std.specs.Iterator.{YieldsFirstRef, item_count};
 ghost use Rattle.form.specs.Rules.Form.{widths, sum, cut, table_fields, map_of, most_rows};
 
@@ -50,26 +50,13 @@ pub(crate) fn room_left(rows: &[Row], room: usize) -> Option<usize>
     Some(left)
 }
 
-// The map of up to sixteen fields.
-fn map_rows(fields: Fields<'_>) -> u64
-    requires { length fields.rows.now ≤ most_rows }
-    ensures { result ≡ map_of (table_fields fields.entry) }
-{
-    let mut map: u64 = 0;
-    for (k, field) in fields.enumerate() {
-        map += u64::from(!number::all_zero(field)) << k;
-    }
-    map
-}
-
 // The map of the fields that are not zeros, of up to sixteen; a field that is not there counts as zeros.
 pub fn map_of(fields: Fields<'_>) -> u16
     ensures { result ≡ map_of (cut (take most_rows (widths fields.entry.rows.now)) fields.entry.full.now) }
 {
-    let n = fields.rows.len().min(MOST_ROWS);
-    let first = Fields {
-        rows: &fields.rows[..n],
-        full: fields.full,
-    };
-    map_rows(first) as u16
+    let mut map: u16 = 0;
+    for (k, field) in fields.take(MOST_ROWS).enumerate() {
+        map += u16::from(!number::all_zero(field)) << k;
+    }
+    map
 }
