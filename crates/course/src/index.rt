@@ -51,10 +51,11 @@ fn count_rect(o: &mut [u32; OFFSET_COUNT], r: Rect)
     requires { (k : ℕ) → k < offset_count → slice_index o.old k < most_points }
     ensures { RectCounted 2 o.old o.new (rect_as r) }
 {
+    let width = r.width();
     for y in r.y0..=r.y1 {
-        let end = usize::min(y * GRID_DIM + r.x1 + 3, OFFSET_COUNT);
         let from = y * GRID_DIM + r.x0 + 2;
-        count_run(&mut o[from..usize::max(from, end)]);
+        let end = usize::min(from + width, OFFSET_COUNT);
+        count_run(&mut o[from..end]);
     }
 }
 
@@ -99,10 +100,10 @@ fn place_rect(o: &mut [u32; OFFSET_COUNT], l: &mut [u32], id: u32, r: Rect)
         → slice_index o.old (c + 1) < length l.old }
     ensures { RectPlaced o.old l.old o.new l.new id (rect_as r) }
 {
+    let width = r.width();
     for y in r.y0..=r.y1 {
         let from = y * GRID_DIM + r.x0 + 1;
-        let end = y * GRID_DIM + r.x1 + 2;
-        place_run(&mut o[from..usize::max(from, end)], l, id);
+        place_run(&mut o[from..from + width], l, id);
     }
 }
 

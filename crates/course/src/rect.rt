@@ -19,7 +19,7 @@ pub struct Rect {
 }
 
 impl Rect {
-    ghost use Rattle.std.specs.Prelude.{◌≡◌, ◌+◌, ◌*◌, ◌<◌, length};
+    ghost use Rattle.std.specs.Prelude.{◌≡◌, ◌+◌, ◌-◌, ◌*◌, ◌<◌, length};
     ghost use Rattle.course.specs.Rules.Lengths.{most_points};
     ghost use Rattle.course.specs.Rules.Rect.{rect_around, rect_of, area_of};
     ghost use Rattle.course.specs.Grader.Rect.{rect_as};
@@ -46,12 +46,19 @@ impl Rect {
         Rect::of_quad(&tiles::read_quad(numbers))
     }
 
+    // The number of its columns.
+    pub(crate) fn width(self) -> usize
+        ensures { result ≡ self.x1 + 1 - self.x0 }
+    {
+        (self.x1 + 1).saturating_sub(self.x0)
+    }
+
     // The number of its cells.
     #[tactic(auto, unfolding(crate::specs::Rules::Rect::area_of))]
     pub(crate) fn area(self) -> usize
         ensures { result ≡ area_of (rect_as self) }
     {
-        (self.x1 + 1).saturating_sub(self.x0) * (self.y1 + 1).saturating_sub(self.y0)
+        self.width() * (self.y1 + 1).saturating_sub(self.y0)
     }
 
     // The rectangle as one number, eight bits for each side.

@@ -15,7 +15,7 @@ pub place_run-requires-clause-by_index : goal.place_run-requires-clause-by_index
 place_run-requires-clause-by_index c =
     let t = c.loop-y.invariant.0 in
     let y = c.loop-y.y in
-    part-each _ _ _ _ c.max.ensures (omega (arith, c.args.r.right, c.args.r.top, c.loop-y-test.true)) _
+    part-each _ (y * grid_dim + c.args.r.x0 + 1) (y * grid_dim + c.args.r.x1 + 2) _ (omega (arith, c.width-width.ensures)) (omega (arith, c.width-width.ensures, c.args.r.left, c.args.r.right, c.args.r.top, c.loop-y-test.true)) _
     (λ k w.
     let e : k ≡ (k - 1) + 1 = omega arith in
     omega (
@@ -28,9 +28,13 @@ place_run-requires-clause-by_index c =
     ))
 
 -- the row that is placed
-row : (c : After-place_run) → PlacedTo c.args.o.now c.args.l.now (joined_of c.loop-y.o c.place_run.new.run (c.loop-y.y * grid_dim + c.args.r.x0 + 1) c.max.result) c.place_run.new.l c.args.id (rect_as c.args.r) ((c.loop-y.y + 1) * grid_dim)
-row c = place-row (rect_as c.args.r) (sides c.args.r) _ _ _ _ _ _ _ c.loop-y.y c.loop-y.auto.y c.loop-y-test.true c.loop-y.invariant.0
-    (run-placed _ _ _ _ _ c.max.ensures (omega (arith, c.args.r.right, c.args.r.top, c.loop-y-test.true)) c.place_run.auto.run _ _ _ c.place_run.ensures)
+row : (c : After-place_run) → PlacedTo c.args.o.now c.args.l.now (joined_of c.loop-y.o c.place_run.new.run (c.loop-y.y * grid_dim + c.args.r.x0 + 1) (c.loop-y.y * grid_dim + c.args.r.x0 + 1 + c.width-width.result)) c.place_run.new.l c.args.id (rect_as c.args.r) ((c.loop-y.y + 1) * grid_dim)
+row c =
+    let r = c.args.r in
+    let y = c.loop-y.y in
+    let t = c.loop-y-test.true in
+    place-row (rect_as r) (sides r) _ _ _ _ _ _ _ y c.loop-y.auto.y t c.loop-y.invariant.0
+    (run-placed _ _ _ _ _ (omega (arith, c.width-width.ensures)) (omega (arith, c.width-width.ensures, r.left, r.right, r.top, t)) c.place_run.auto.run _ _ _ c.place_run.ensures)
 
 pub loop-y-preserved : goal.loop-y-preserved
 loop-y-preserved c = (row (goal.at.loop-y-preserved c).After-place_run, omega (arith, c.args.r.top, c.loop-y-test.true))
