@@ -30,7 +30,6 @@ pub mod LaidColumns
 pub mod CurbLaws
 pub mod Turns
 pub mod FinderSteps
-pub mod Branches
 pub mod CheckpointDraws
 pub mod WalkSteps
 pub mod TrackParts

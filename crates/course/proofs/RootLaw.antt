@@ -4,7 +4,7 @@ use Prim.Native.Nat.{compare, Ordering}
 use native.Mathlib.Nat.{mul-mul-mul_comm}
 use lib.Ieee.{Float, nan, inf, fin, binary64, up, down, size, nearest, units, of_fields, of_bits, to_bits, fits, lt, le, eq}
 use lib.Ieee.Digits.{size-lt, size-le, size_reaches}
-use lib.Ieee.Fits.{down_pos, eq→eqb, nan-fits, inf-fits}
+use lib.Ieee.Fits.{down_pos, eq→eqb}
 use lib.Ieee.Bits.{of_bits-to_bits}
 use lib.Ieee.Exact.{HasValue, units_val}
 use lib.Ieee.Positive.{positive, value_pos, values_of_le}
@@ -358,16 +358,6 @@ nearest-unique x r F p n =
       | inl h ↦ absurd (lt_irrefl (operand x) (lt_of_le_of_lt (n.above (sqrt_of x) s.representable s.finite h) (lt_of_le_of_lt (le_of_eq (around r (sqrt_of x))) (s.below r n.representable n.finite h))))
       | inr h ↦ absurd (lt_irrefl (operand x) (lt_of_lt_of_le (s.above r n.representable n.finite h) (le_trans (le_of_eq (around (sqrt_of x) r)) (n.below (sqrt_of x) s.representable s.finite h))))
     ]
-
--- the root of an f64 is an f64
-pub sqrt-fits : (x : Float) → T (fits binary64 x) → T (fits binary64 (sqrt_of x))
-unfolding sqrt_of
-sqrt-fits nan F = nan-fits binary64
-sqrt-fits (inf true) F = nan-fits binary64
-sqrt-fits (inf false) F = inf-fits binary64 false
-sqrt-fits (fin s zero e) F = F
-sqrt-fits (fin true (suc m) e) F = nan-fits binary64
-sqrt-fits (fin false (suc m) e) F = (sqrt-strict (fin false (suc m) e) F (lt→ltb 0 (suc m) (zero-lt-suc m))).representable
 
 -- ---- a bound of the root by a square, with no root taken
 cross-lt : (A d u B g v P : ℕ) → A * P ≡ u * d → B * P ≡ v * g → A * g < B * d → 0 < P → u < v

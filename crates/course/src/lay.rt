@@ -99,7 +99,8 @@ fn or_ring(made: Option<usize>, cols: &mut WalkColumns) -> usize
 }
 
 // The course of a seed in columns, with so many attempts.
-// Kept as columns one by one: where `lay` handed its struct on whole, what the columns hold afterwards did not prove.
+// Kept as columns one by one, since the proof did not close: where `lay` hands its struct on, by value or by `&mut` with its fields'
+// names kept, a proof knows the names and lengths of the columns at `lay`'s return, and not what they hold.
 fn lay_within(
     attempts: u32,
     seed: u64,

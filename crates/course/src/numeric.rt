@@ -1,4 +1,4 @@
-// Rust's methods on f64, at NaN and -0 too.
+// Rust's methods on f64, at NaN and -0 too: own helpers, as document 01 names them.
 ghost use Rattle.std.specs.Prelude.{◌≡◌, false, is_nan};
 ghost use Rattle.course.specs.Rules.Numeric.{abs_of, min_of, max_of, least_of, greatest_of, clamp_of, signum_of, within};
 
@@ -10,7 +10,8 @@ pub fn abs(x: f64) -> f64
 }
 
 // The lesser of two; the other where one is NaN.
-// Kept beside `f64::min`, whose contract leaves it open which of two equal ones it gives, as 0 and -0.
+// Kept beside `f64::min`: document 01 names an own helper with Rust's meaning at NaN and -0, and the library leaves it open which of 0
+// and -0 it gives.
 #[tactic(auto, unfolding(crate::specs::Rules::Numeric::min_of))]
 pub fn min(a: f64, b: f64) -> f64
     ensures { result ≡ min_of a b }
@@ -19,7 +20,7 @@ pub fn min(a: f64, b: f64) -> f64
 }
 
 // The greater of two; the other where one is NaN.
-// Kept beside `f64::max`, which leaves the same open.
+// Kept beside `f64::max` as `min` is: document 01 names own helpers, and the library leaves the same open.
 #[tactic(auto, unfolding(crate::specs::Rules::Numeric::max_of))]
 pub fn max(a: f64, b: f64) -> f64
     ensures { result ≡ max_of a b }
@@ -28,8 +29,8 @@ pub fn max(a: f64, b: f64) -> f64
 }
 
 // The least so far, and a number: the lesser, a NaN passed over.
-// Kept as a pair with `greater`, as the library has `min` and `max`: they compare in opposite order, and one function for both
-// would branch on which of them it is.
+// Kept as a pair with `greater`: one function that is passed the comparison would be a line as long as this one, and each call of it
+// would write the comparison beside.
 fn lesser(least: f64, x: f64) -> f64
     requires { is_nan least ≡ false }
     ensures value { result ≡ min_of least x }
@@ -48,7 +49,8 @@ fn greater(greatest: f64, x: f64) -> f64
 }
 
 // The least of four numbers, a NaN passed over.
-// Kept as a pair with `greatest`: they start from opposite ends, and differ by `lesser` and `greater`.
+// Kept as a pair with `greatest`: document 01 folds both as the Rust does, each from its own end, and one function for both would be
+// passed the end and the fold, which are all that it says.
 pub fn least(a: f64, b: f64, c: f64, d: f64) -> f64
     ensures { result ≡ least_of a b c d }
 {
@@ -63,7 +65,7 @@ pub fn greatest(a: f64, b: f64, c: f64, d: f64) -> f64
 }
 
 // x, raised to lo, then lowered to hi.
-// Kept beside `f64::clamp`, which asks that lo is at most hi.
+// Kept beside `f64::clamp`, which asks that lo is at most hi: document 01 names an own helper.
 #[tactic(auto, unfolding(crate::specs::Rules::Numeric::clamp_of))]
 pub fn clamp(x: f64, lo: f64, hi: f64) -> f64
     ensures { result ≡ clamp_of x lo hi }

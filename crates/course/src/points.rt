@@ -86,7 +86,8 @@ pub(crate) fn all_good(points: &PointColumns) -> bool
 }
 
 // Cause 2 of lent columns: each has its length, those of points m entries.
-// Kept as columns one by one: after a struct is lent whole, what its columns hold did not prove to be the same.
+// Kept as columns one by one, since the proof did not close: after the struct is lent whole, by `&`, what its columns hold did not
+// prove to be the same.
 #[tactic(auto, unfolding(crate::specs::Grader::Cause::check, crate::specs::Grader::Outcome::roomy_of))]
 pub(crate) fn room_check(
     m: usize,
@@ -141,8 +142,9 @@ pub(crate) fn given_check<'a>(
 }
 
 // Zeros, tiles and index, once the columns, of m points, begin with the n points.
-// Kept as columns one by one: lay lends four of them to its walk, and columns that were taken out of a struct did not
-// prove when they were lent in one again.
+// Kept as columns one by one, since the proof did not close: by value, columns that were taken out of a struct did not prove when they
+// were lent in one again; by `&mut`, the proofs cover no read of one column while another of the same struct is lent, and tiles
+// are written while the points are.
 pub(crate) fn finish(
     m: usize,
     fallback: bool,

@@ -82,7 +82,8 @@ fn turn_down(beta: f64, alpha: f64, left: u32) -> Option<(f64, u32)>
 }
 
 // Beta more tau while it is below alpha by more than 1.5 pi.
-// Kept beside `turn_down`: one function for both would take comparison and turn as closures, which says more, not less.
+// Kept beside `turn_down`: one loop for both would be passed the test and the turn, and its contract would have to tell both as
+// functions of beta. By the signs turned over it would be no pair, but then a beta of -tau gives -0 in place of 0.
 fn turn_up(beta: f64, alpha: f64, left: u32) -> Option<(f64, u32)>
     ensures { result ≡ turn_up left beta alpha }
 {
