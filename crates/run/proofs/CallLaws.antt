@@ -4,6 +4,7 @@ use mathlib.Core.List.{List}
 use mathlib.Core.Path.{◌≡◌, sym, ap, ap₂, ◌∙◌, subst}
 use Prim.Native.Nat.{ℕ, ◌*◌, ◌≤◌, ◌<◌}
 use native.Mathlib.Omega.{arith}
+use Rattle.std.specs.List.{flat_map}
 use Rattle.std.specs.Prelude.{Result, Ok, Err}
 use lib.Dec.{ltb, leb}
 use lib.ListN.{length}
@@ -47,7 +48,7 @@ long tiles offsets n most h b m =
     omega (arith, t, k)
 
 -- cause 10, by the cells of a stance at the poses
-pub cells_tell : (offs l : List ℕ) (n : ℕ) (ps at : List Pose) (ks : List ℕ) (b : Bool) → ks ≡ sixteen_cells at → at ≡ ps → b ≡ every_of (sound_cell offs l n) ks → b ≡ sound_poses offs l n ps
+pub cells_tell : (offs l : List ℕ) (n : ℕ) (ps at : List Pose) (ks : List (List ℕ)) (b : Bool) → ks ≡ sixteen_cells at → at ≡ ps → b ≡ every_of (sound_cell offs l n) (flat_map (λ x. x) ks) → b ≡ sound_poses offs l n ps
 cells_tell offs l n ps at ks b own e h = cells-sound-is offs l n ps (own ∙ ap sixteen_cells e) h
 
 -- ---- start
