@@ -43,13 +43,12 @@ after_more m most s (d ∷ cs) c = after_more m most (reply_of m most s d).state
 -- ---- lengths: four words and twelve numbers to an answer, and an answer to a call
 
 pub words-four : (r : Answer) → length (words_of r) ≡ 4
-unfolding words_of
 words-four (drove fs) = refl
 words-four (settled v) = refl
 words-four (refused k) = refl
 
 pub numbers-twelve : (r : Answer) → length (numbers_of r) ≡ 12
-unfolding numbers_of force_numbers
+unfolding force_numbers
 numbers-twelve (drove fs) = refl
 numbers-twelve (settled v) = refl
 numbers-twelve (refused k) = refl

@@ -306,17 +306,13 @@ module _ (m most : ℕ) (c : List TrackPoint) (room : most ≤ 64 * m) (some : 0
             state-poses = ap (λ (g : Going). g.state.poses) last;
           }
 
-    or-rest : (a x : Bool) → (not a || x) ≡ true → a ≡ true → x ≡ true
-    or-rest true x e q = e
-    or-rest false x e q = absurd (true≢false (sym q))
-
     -- where something is restored, the seed, the lap share, start's poses and those of all settles are values that bytes can carry
     typed-each : (is : List (CourseItem (length c))) → typed label.seed b is ≡ true → some_restore is ≡ true
         → (ltb label.seed (2 ^ 64) ≡ true) × ((fits64 b.share ≡ true) × ((all_fit (pose_numbers b.poses) ≡ true) × (typed_items is ≡ true)))
     unfolding typed
     typed-each is t r =
         let poses = all_fit (pose_numbers b.poses) in
-        let p = or-rest (some_restore is) (ltb label.seed (2 ^ 64) && (fits64 b.share && (poses && typed_items is))) t r in
+        let p = subst (λ (a : Bool). (not a || (ltb label.seed (2 ^ 64) && (fits64 b.share && (poses && typed_items is)))) ≡ true) r t in
         let q = and_right (ltb label.seed (2 ^ 64)) (fits64 b.share && (poses && typed_items is)) p in
         let s = and_right (fits64 b.share) (poses && typed_items is) q in (
           and_left (ltb label.seed (2 ^ 64)) (fits64 b.share && (poses && typed_items is)) p,

@@ -37,7 +37,7 @@ AllWhole [] = Unit
 AllWhole (a ∷ rest) = Whole a × AllWhole rest
 
 four-back : (fs : List Force) → length fs ≡ 4 → answer_from (words_of (drove fs)) (numbers_of (drove fs)) ≡ drove fs
-unfolding answer_from words_of numbers_of force_numbers forces_from force_from
+unfolding answer_from force_numbers forces_from force_from
 four-back (a ∷ b ∷ c ∷ d ∷ []) e = refl
 four-back [] e = absurd (omega (arith, e))
 four-back (a ∷ []) e = absurd (omega (arith, e))
@@ -57,7 +57,7 @@ flags-back true true false new n = refl
 flags-back true true true new n = refl
 
 pub read_back : (a : Answer) → Whole a → answer_from (words_of a) (numbers_of a) ≡ a
-unfolding answer_from words_of numbers_of
+unfolding answer_from
 read_back (drove fs) h = four-back fs h
 read_back (settled v) h = ap settled (flags-back v.off v.lap v.ended v.new_tiles v.n)
 read_back (refused k) h = refl

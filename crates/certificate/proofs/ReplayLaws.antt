@@ -72,7 +72,7 @@ module _ (o : Outcome) where
 
   laid-is : (t kt ko : ℕ) → short_of t (first_lent columns_of kt ko) ≡ false
       → lent_by {n = t} o (laid (drop (quad_numbers (column_length t)) (take kt o.lent.tiles)) (drop offset_count (take ko o.lent.offsets)) (drop (laid_values_of o.answer).entries o.lent.list)) ≡ first_lent columns_of kt ko
-  unfolding lent_by first_lent short_of short_columns
+  unfolding lent_by short_of short_columns
   laid-is t kt ko e =
       let p = or_no (ltb (length (take kt o.lent.tiles)) (quad_numbers (column_length t))) (ltb (length (take ko o.lent.offsets)) offset_count) e in
       λ i. columns (front-of (quad_numbers (column_length t)) kt o.lent.tiles (ltb-false _ _ p.0) i) (front-of offset_count ko o.lent.offsets (ltb-false _ _ p.1) i)
@@ -92,7 +92,7 @@ module _ (o : Outcome) where
   -- the lengths that the plain scorer is told
   module _ (t : ℕ) (k : LentLengths) (same-tiles : length o.lent.tiles ≡ k.tiles) (same-offsets : length o.lent.offsets ≡ k.offsets) where
     lengths-are : (kt ko : ℕ) → lengths_of (first_lent columns_of kt ko) ≡ record { tiles = min kt k.tiles; offsets = min ko k.offsets }
-    unfolding lengths_of first_lent
+    unfolding lengths_of
     lengths-are kt ko = λ i.
         record {
           tiles = (length-take kt o.lent.tiles ∙ ap (min kt) same-tiles) i;
@@ -104,7 +104,7 @@ module _ (o : Outcome) where
     Meant ws ns = (g : CourseCall t) × (call_of o g ≡ call_from columns_of ws ns) × (told_of o g ≡ told_from k ws ns)
 
     meant : (ws : List ℕ) (ns : List Float) → Meant ws ns
-    unfolding call_of told_of call_from told_from
+    unfolding call_of told_of told_from
     meant ws ns = go (eqb (get_or ws 0 0) 0) refl
       where
         by_parts : (by : Lending t) × (lent_by o by ≡ first_lent columns_of (get_or ws 2 0) (get_or ws 3 0))
@@ -235,7 +235,6 @@ module _ (b : Opening) (k : LentLengths) (n : ℕ) (calls : List ℕ) (given : L
 
     -- the whole columns, as they are lent to start
     whole-lent : (by : Lending (length c)) × (lent_by o by ≡ columns_of o)
-    unfolding first_lent
     whole-lent =
         let p = parts o (length c) (length o.lent.tiles) (length o.lent.offsets) in
         (p.0, p.1 ∙ (λ i. columns (take-length o.lent.tiles i) (take-length o.lent.offsets i) o.lent.list))

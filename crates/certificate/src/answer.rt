@@ -24,7 +24,6 @@ impl From<Cause> for Encoded {
     ghost from_gives = { λ cause result. result ≡ encoded (refused (number_of cause)) };
 
     // A refusal, which has no numbers.
-    #[tactic(auto, unfolding(crate::specs::Grader::CallColumns::words_of, crate::specs::Grader::CallColumns::numbers_of))]
     fn from(cause: Cause) -> Encoded {
         Encoded {
             words: [2, cause.number(), 0, 0],
@@ -37,7 +36,6 @@ impl From<Result<[Force; 4], Cause>> for Encoded {
     ghost from_gives = { λ answer result. result ≡ encoded (drive_said answer) };
 
     // The answer to a drive.
-    #[tactic(auto, unfolding(crate::specs::Grader::CallColumns::words_of, crate::specs::Grader::CallColumns::numbers_of))]
     fn from(answer: Result<[Force; 4], Cause>) -> Encoded {
         match answer {
             Ok(forces) => {
@@ -57,7 +55,7 @@ impl From<Result<SettleValues, Cause>> for Encoded {
     ghost from_gives = { λ answer result. result ≡ encoded (settle_said answer) };
 
     // The answer to a settle.
-    #[tactic(auto, unfolding(crate::specs::Grader::CallColumns::words_of, crate::specs::Grader::CallColumns::numbers_of, run::specs::Grader::Saved::flags_of))]
+    #[tactic(auto, unfolding(run::specs::Grader::Saved::flags_of))]
     fn from(answer: Result<SettleValues, Cause>) -> Encoded {
         match answer {
             Ok(v) => Encoded {

@@ -82,7 +82,6 @@ pub struct Replayed {
 }
 
 // The first of the lent tiles and offsets, as many as are asked for and there are, and the whole list.
-#[tactic(auto, unfolding(crate::specs::Steps::Replay::first_lent))]
 fn first_lent(columns: Columns<'_>, tiles: u32, offsets: u32) -> Columns<'_>
     ensures { lent_columns result ≡ first_lent (lent_columns columns.entry) tiles offsets }
 {
@@ -97,7 +96,7 @@ fn first_lent(columns: Columns<'_>, tiles: u32, offsets: u32) -> Columns<'_>
 
 // The call that four words and twenty numbers hold, and its answer.
 // Kept as a number: the first word of a call stands in a column of numbers that the C interface lends, and is looked at here alone.
-#[tactic(auto, unfolding(crate::specs::Steps::Replay::call_from, crate::specs::Grader::Calls::reply_of))]
+#[tactic(auto, unfolding(crate::specs::Grader::Calls::reply_of))]
 fn reply(
     run: &mut Run,
     columns: Columns<'_>,

@@ -31,13 +31,13 @@ part_at k l i = take k (drop (k * i) l)
 -- ---- an answer's words and numbers
 
 -- the case, then its values: 0 for forces; 1 for a settle with new tiles, n and the flags off, lap and ended as 1, 2 and 4; 2 for a refusal with its number
-unfoldable pub words_of : Answer → List ℕ
+abbrev pub words_of : Answer → List ℕ
 words_of (drove fs) = 0 ∷ 0 ∷ 0 ∷ 0 ∷ []
 words_of (settled v) = 1 ∷ v.new_tiles ∷ v.n ∷ (digit v.off + 2 * digit v.lap + 4 * digit v.ended) ∷ []
 words_of (refused k) = 2 ∷ k ∷ 0 ∷ 0 ∷ []
 
 -- the forces, or zeros
-unfoldable pub numbers_of : Answer → List Float
+abbrev pub numbers_of : Answer → List Float
 numbers_of (drove fs) = force_numbers fs
 numbers_of (settled v) = replicate answer_numbers nought
 numbers_of (refused k) = replicate answer_numbers nought

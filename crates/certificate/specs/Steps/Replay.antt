@@ -10,11 +10,11 @@ use Rattle.certificate.specs.Grader.CallColumns.{call_words, call_numbers, part_
 use Rattle.certificate.specs.declared.answer.Encoded.{Encoded}
 
 -- the first of the lent tiles and offsets, and the whole list
-unfoldable pub first_lent : Columns → ℕ → ℕ → Columns
+abbrev pub first_lent : Columns → ℕ → ℕ → Columns
 first_lent l tiles offsets = columns (take tiles l.tiles) (take offsets l.offsets) l.list
 
 -- the call that four words and twenty numbers hold
-unfoldable pub call_from : Columns → List ℕ → List Float → Call
+abbrev pub call_from : Columns → List ℕ → List Float → Call
 call_from l ws ns =
     cond (eqb (get_or ws 0 0) 0) (drive (get_or ws 1 0) (motions_from ns))
     (settle (first_lent l (get_or ws 2 0) (get_or ws 3 0)) (number_at ns 0) (number_at ns 1) (poses_from ns))
