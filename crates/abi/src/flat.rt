@@ -9,10 +9,10 @@ ghost use Rattle.abi.specs.Grader.Flat.{flat_laid, flat_curbs, flat_started, fla
 ghost use Rattle.run.specs.Grader.Restore.{after_restore};
 
 use certificate::replay::Replayed;
+use course::cause;
 use course::cause::Cause;
 use course::checkpoints::Checkpoint;
 use course::points::{LaidCourse, LayError};
-use course::{cause, points};
 use run::dynamics::Force;
 use run::restore::SavedFor;
 use run::settle::SettleValues;
@@ -163,18 +163,20 @@ impl From<Result<LaidCourse, LayError>> for FlatLaid {
     ghost from_gives = { λ answer flat. flat ≡ flat_laid answer };
 
     // The answer of lay or points.
-    #[tactic(auto, unfolding(crate::specs::Grader::Flat::flat_laid))]
+    #[tactic(auto, unfolding(crate::specs::Grader::Flat::flat_laid, course::specs::Grader::Outcome::laid_cause_of, course::specs::Grader::Outcome::laid_values_of, course::specs::Grader::Outcome::error_entries))]
     fn from(answer: Result<LaidCourse, LayError>) -> FlatLaid {
-        let v = points::laid_values(answer);
-        let first = v.first;
+        let v = answer.unwrap_or_else(|error| LaidCourse {
+            entries: error.entries(),
+            ..LaidCourse::default()
+        });
         FlatLaid {
-            cause: points::laid_cause(&answer),
+            cause: cause::cause_number(&answer),
             n: v.n,
             entries: v.entries,
             fallback: v.fallback,
-            beta: first.beta,
-            x: first.x,
-            y: first.y,
+            beta: v.first.beta,
+            x: v.first.x,
+            y: v.first.y,
         }
     }
 }
@@ -183,7 +185,7 @@ impl From<Result<u32, Cause>> for FlatCurbs {
     ghost from_gives = { λ answer flat. flat ≡ flat_curbs answer };
 
     // The answer of curbs.
-    #[tactic(auto, unfolding(crate::specs::Grader::Flat::flat_curbs, course::specs::Grader::Curbs::curb_cause_of, course::specs::Grader::Curbs::curb_count_of))]
+    #[tactic(auto, unfolding(crate::specs::Grader::Flat::flat_curbs, course::specs::Grader::Curbs::curb_cause_of, course::specs::Grader::Curbs::curb_count_of, course::specs::Grader::Cause::cause_number))]
     fn from(answer: Result<u32, Cause>) -> FlatCurbs {
         FlatCurbs {
             cause: cause::cause_number(&answer),
@@ -196,7 +198,7 @@ impl From<Result<u32, Cause>> for FlatCurbs {
 impl From<Answered<StartValues>> for FlatStarted {
     ghost from_gives = { λ s f. f ≡ flat_started (begun s.answer (view s.run)) };
 
-    #[tactic(auto, unfolding(crate::specs::Grader::Flat::flat_started, crate::specs::Grader::Flat::run_of, run::specs::Grader::State::view), using(crate::proofs::Zeros::start_or_zeros))]
+    #[tactic(auto, unfolding(crate::specs::Grader::Flat::flat_started, crate::specs::Grader::Flat::run_of, run::specs::Grader::State::view, course::specs::Grader::Cause::cause_number), using(crate::proofs::Zeros::start_or_zeros))]
     fn from(s: Answered<StartValues>) -> FlatStarted {
         let v = s.answer.unwrap_or_default();
         FlatStarted {
@@ -212,7 +214,7 @@ impl From<Answered<StartValues>> for FlatStarted {
 impl From<(Result<[Force; 4], Cause>, Progress)> for FlatDriven {
     ghost from_gives = { λ d f. f ≡ flat_driven d.0 d.1 };
 
-    #[tactic(auto, unfolding(crate::specs::Grader::Flat::flat_driven))]
+    #[tactic(auto, unfolding(crate::specs::Grader::Flat::flat_driven, course::specs::Grader::Cause::cause_number))]
     fn from(d: (Result<[Force; 4], Cause>, Progress)) -> FlatDriven {
         let (answer, progress) = d;
         FlatDriven {
@@ -226,7 +228,7 @@ impl From<(Result<[Force; 4], Cause>, Progress)> for FlatDriven {
 impl From<(Result<SettleValues, Cause>, Progress)> for FlatSettled {
     ghost from_gives = { λ s f. f ≡ flat_settled s.0 s.1 };
 
-    #[tactic(auto, unfolding(crate::specs::Grader::Flat::flat_settled), using(crate::proofs::Zeros::settle_or_zeros))]
+    #[tactic(auto, unfolding(crate::specs::Grader::Flat::flat_settled, course::specs::Grader::Cause::cause_number), using(crate::proofs::Zeros::settle_or_zeros))]
     fn from(s: (Result<SettleValues, Cause>, Progress)) -> FlatSettled {
         let (answer, progress) = s;
         let v = answer.unwrap_or_default();
@@ -246,7 +248,7 @@ impl From<(Result<SettleValues, Cause>, Progress)> for FlatSettled {
 impl From<Result<RunSheet, Cause>> for FlatSheet {
     ghost from_gives = { λ a f. f ≡ flat_sheet a };
 
-    #[tactic(auto, unfolding(crate::specs::Grader::Flat::flat_sheet), using(crate::proofs::Zeros::sheet_or_zeros))]
+    #[tactic(auto, unfolding(crate::specs::Grader::Flat::flat_sheet, course::specs::Grader::Cause::cause_number), using(crate::proofs::Zeros::sheet_or_zeros))]
     fn from(answer: Result<RunSheet, Cause>) -> FlatSheet {
         let f = answer.unwrap_or_default();
         FlatSheet {
@@ -266,7 +268,7 @@ impl From<Result<RunSheet, Cause>> for FlatSheet {
 impl From<Result<u32, Cause>> for FlatSaved {
     ghost from_gives = { λ a f. f ≡ flat_saved a };
 
-    #[tactic(auto, unfolding(crate::specs::Grader::Flat::flat_saved))]
+    #[tactic(auto, unfolding(crate::specs::Grader::Flat::flat_saved, course::specs::Grader::Cause::cause_number))]
     fn from(answer: Result<u32, Cause>) -> FlatSaved {
         FlatSaved {
             cause: cause::cause_number(&answer),
@@ -279,7 +281,7 @@ impl From<Result<u32, Cause>> for FlatSaved {
 impl From<Answered<()>> for FlatRestored {
     ghost from_gives = { λ r f. f ≡ flat_restored (after_restore r.answer (view r.run)) };
 
-    #[tactic(auto, unfolding(crate::specs::Grader::Flat::flat_restored, crate::specs::Grader::Flat::run_of, run::specs::Grader::State::view))]
+    #[tactic(auto, unfolding(crate::specs::Grader::Flat::flat_restored, crate::specs::Grader::Flat::run_of, run::specs::Grader::State::view, course::specs::Grader::Cause::cause_number))]
     fn from(r: Answered<()>) -> FlatRestored {
         FlatRestored {
             cause: cause::cause_number(&r.answer),
@@ -292,7 +294,7 @@ impl From<Answered<()>> for FlatRestored {
 impl From<Result<SavedFor, Cause>> for FlatSavedFor {
     ghost from_gives = { λ a f. f ≡ flat_saved_for a };
 
-    #[tactic(auto, unfolding(crate::specs::Grader::Flat::flat_saved_for), using(crate::proofs::Zeros::saved_or_zeros))]
+    #[tactic(auto, unfolding(crate::specs::Grader::Flat::flat_saved_for, course::specs::Grader::Cause::cause_number), using(crate::proofs::Zeros::saved_or_zeros))]
     fn from(answer: Result<SavedFor, Cause>) -> FlatSavedFor {
         let v = answer.unwrap_or_default();
         FlatSavedFor {
@@ -319,7 +321,7 @@ impl From<Result<f64, Cause>> for FlatAngle {
 impl From<Replayed> for FlatReplayed {
     ghost from_gives = { λ r f. f ≡ flat_answers r.laid r.start r.sheet };
 
-    #[tactic(auto, unfolding(crate::specs::Grader::Flat::flat_answers), using(crate::proofs::Zeros::start_or_zeros))]
+    #[tactic(auto, unfolding(crate::specs::Grader::Flat::flat_answers, course::specs::Grader::Cause::cause_number), using(crate::proofs::Zeros::start_or_zeros))]
     fn from(r: Replayed) -> FlatReplayed {
         let v = r.start.unwrap_or_default();
         FlatReplayed {

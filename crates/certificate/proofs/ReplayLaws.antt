@@ -2,7 +2,7 @@
 use mathlib.Core.Bool.{Bool, true, false, cond, not, ◌&&◌, or-true}
 use mathlib.Core.List.{List, [], ◌∷◌, ◌++◌, map-append}
 use mathlib.Core.Path.{◌≡◌, refl, sym, ap, ap₂, ◌∙◌, subst}
-use Rattle.std.specs.Prelude.{Result, Err}
+use Rattle.std.specs.Result.{ResultUnwrapsOrElse}
 use Prim.Native.Nat.{ℕ, zero, suc, ◌*◌, ◌≤◌, ◌<◌, min}
 use native.Mathlib.Numerals.{add-one}
 use native.Mathlib.Omega.{arith}
@@ -334,6 +334,17 @@ module _ (seed : ℕ) (l : course.CourseColumns) (b : Opening) (n : ℕ) (calls 
       (es ∙ ap (λ (x : ℕ). start_of full_words most_tiles (columns_of o) (settings_for x (laid_label o seed) b))
       (no-count o.answer j (ap (λ (x : Outcome). laid_cause_of x.answer) eo ∙ lays seed l ∙ q)))
 
+-- what a start takes of a course's values
+pub record SameFigures (v w : LaidCourse) : Type 0 where
+  pub count : v.n ≡ w.n
+  pub ring : v.fallback ≡ w.fallback
+
+-- those of an answer, and none of a course that was not laid
+pub same-figures : (r : Result LaidCourse LayError) (P : LaidCourse → Type 0) → ((x : LaidCourse) → P x → (x.n ≡ 0) × (x.fallback ≡ false)) → (v : LaidCourse) → ResultUnwrapsOrElse r P v → SameFigures v (laid_values_of r)
+unfolding laid_values_of
+same-figures (Ok x) P none v h = record { count = ap (λ (y : LaidCourse). y.n) h; ring = ap (λ (y : LaidCourse). y.fallback) h }
+same-figures (Err e) P none v h = record { count = (none v h).0; ring = (none v h).1 }
+
 -- what each call of a replay leaves, where there is room for the calls told and their answers
 pub record ReplayCalls (seed : ℕ) (l : course.CourseColumns) (b : Opening) (n : ℕ) (calls : List ℕ) (given : List Float) (words : List ℕ) (numbers : List Float)
     (o : Outcome) (v : LaidCourse) (sa : Result StartValues Cause) (s last : State) (sh : Result RunSheet Cause) (words' : List ℕ) (numbers' : List Float) : Type 0 where
@@ -341,7 +352,7 @@ pub record ReplayCalls (seed : ℕ) (l : course.CourseColumns) (b : Opening) (n 
   pub laid : o ≡ lay_call max_attempts seed l
   pub tiles : length o.lent.tiles ≡ length l.tiles
   pub offsets : length o.lent.offsets ≡ length l.offsets
-  pub values : v ≡ laid_values_of o.answer
+  pub values : SameFigures v (laid_values_of o.answer)
   pub start : begun sa s ≡ start_of full_words most_tiles (columns_of o) (settings_for v.n (record { fallback = v.fallback; seed = seed }) b)
   pub state : last ≡ state_after full_words most_tiles s (calls_to (columns_of o) calls given n)
   pub answered : words' ≡ all_words (replies_of full_words most_tiles s (calls_to (columns_of o) calls given n)) ++ drop (answer_words * n) words
@@ -356,7 +367,7 @@ pub replayed : {seed : ℕ} {l : course.CourseColumns} {b : Opening} {n : ℕ} {
 unfolding replay_of replay_on
 replayed {seed} {l} {b} {n} {calls} {given} {words} {numbers} {o} {v} {sa} {s} h =
     let p = replay-plain seed l b n calls given (lay_number seed l) refl o h.laid h.tiles h.offsets sa s
-    (h.start ∙ (λ i. start_of full_words most_tiles (columns_of o) (settings_for (h.values i).n (record { fallback = (h.values i).fallback; seed = seed }) b))) in
+    (h.start ∙ (λ i. start_of full_words most_tiles (columns_of o) (settings_for (h.values.count i) (record { fallback = h.values.ring i; seed = seed }) b))) in
     rw h.room (λ i.
     record {
       laid = (h.laid i).answer;

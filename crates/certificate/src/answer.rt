@@ -6,7 +6,7 @@ ghost use Rattle.certificate.specs.Grader.Calls.{drive_said, settle_said};
 ghost use Rattle.run.specs.Grader.Numbers.{force_numbers};
 ghost use Rattle.certificate.specs.Grader.CallColumns.{answer_numbers, words_of, numbers_of};
 
-use course::cause::Cause;
+use course::cause::{Cause, Numbered};
 use run::dynamics::Force;
 use run::numbers;
 use run::numbers::FORCE_NUMBERS;

@@ -13,9 +13,9 @@ ghost use Rattle.course.specs.Grader.Outcome.{lent_to, left_by};
 
 use crate::{answer, call};
 use course::cause::Cause;
+use course::lay;
 use course::lent::LentColumns;
 use course::points::{LaidCourse, LayError};
-use course::{lay, points};
 use run::sheet::RunSheet;
 use run::start::{Settings, StartValues};
 use run::state::{Pose, Run};
@@ -236,7 +236,7 @@ pub fn replay(
             list,
         },
     );
-    let course = points::laid_values(laid);
+    let course = laid.unwrap_or_default();
     let columns = Columns {
         tiles,
         offsets,

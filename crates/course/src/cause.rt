@@ -1,7 +1,15 @@
 // Why a call is refused (document 01, "Refusals by cause"; document 02, order 1, adds the last two). Cause 3, a short index list, is told with a
 // length: see points.rt.
-ghost use Rattle.std.specs.Prelude.{◌≡◌};
-ghost use Rattle.course.specs.Grader.Cause.{number_of, cause_number};
+ghost use Rattle.std.specs.Prelude.{◌≡◌, ℕ};
+ghost use Rattle.course.specs.Grader.Cause.{number_of, number_by};
+
+// What a call is refused by: an error that has the number of its cause, for a host to read.
+pub trait Numbered: Copy {
+    ghost number: { Self → ℕ };
+
+    fn number(self) -> u32
+        ensures { result ≡ number self };
+}
 
 #[derive(Clone, Copy, Debug, PartialEq, Eq)]
 pub enum Cause {
@@ -29,23 +37,21 @@ pub enum Cause {
     Course = 12,
 }
 
-impl Cause {
-    // The cause's number.
+impl Numbered for Cause {
+    ghost number = { number_of };
+
     #[tactic(auto, unfolding(crate::specs::Grader::Cause::number_of))]
-    pub fn number(self) -> u32
-        ensures { result ≡ number_of self }
-    {
+    fn number(self) -> u32 {
         self as u32
     }
 }
 
 // The number of an answer's cause, 0 where it was not refused.
-#[tactic(auto, unfolding(crate::specs::Grader::Cause::cause_number))]
-pub fn cause_number<T>(answer: &Result<T, Cause>) -> u32
-    ensures { result ≡ cause_number answer.now }
+pub fn cause_number<T, E: Numbered>(answer: &Result<T, E>) -> u32
+    ensures { result ≡ number_by E.number answer.now }
 {
     match answer {
         Ok(_) => 0,
-        Err(cause) => cause.number(),
+        Err(error) => error.number(),
     }
 }

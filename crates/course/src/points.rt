@@ -3,19 +3,19 @@ ghost use Rattle.std.specs.Prelude.{◌≡◌, ◌+◌, ◌-◌, ◌*◌, ◌<�
 ghost use Rattle.course.specs.Rules.Lengths.{most_points};
 ghost use Rattle.course.specs.Rules.Tiles.{points_of};
 ghost use Rattle.course.specs.Grader.Cause.{check};
-ghost use Rattle.course.specs.Grader.Outcome.{lent, lent_to, left_by, outcome, roomy_of, lay_into, no_course, error_number, error_entries, laid_cause_of, laid_values_of};
+ghost use Rattle.course.specs.Grader.Outcome.{lent, lent_to, left_by, outcome, roomy_of, lay_into, error_number, error_entries};
 ghost use Rattle.course.specs.Grader.Points.{good_point, all_good, given_of, count_cause, columns_cause, points_call};
 ghost use Rattle.course.specs.declared.cause.Cause.TheVariants.{Length};
 ghost use Rattle.course.specs.declared.points.LayError.TheVariants.{Refused};
 ghost use Rattle.course.specs.Steps.Tiles.{Roomy};
 
-use crate::cause::Cause;
+use crate::cause::{Cause, Numbered};
 use crate::constants::{MOST_POINTS, OFFSET_COUNT};
 use crate::lent::LentColumns;
 use crate::tiles::{PointColumns, TrackPoint};
 use crate::{columns, constants, index, numeric, tiles};
 
-// The values of a course's answer.
+// The values of a course's answer; zeros by `Default`, where there is none.
 #[derive(Clone, Copy, Default)]
 pub struct LaidCourse {
     // how many points and tiles the course has
@@ -45,59 +45,28 @@ impl From<Cause> for LayError {
     }
 }
 
-impl LayError {
-    // The number of its cause.
+impl Numbered for LayError {
+    ghost number = { error_number };
+
     #[tactic(auto, unfolding(crate::specs::Grader::Outcome::error_number))]
-    pub fn number(self) -> u32
-        ensures { result ≡ error_number self }
-    {
+    fn number(self) -> u32 {
         match self {
             LayError::Short(_) => 3,
             LayError::Refused(cause) => cause.number(),
         }
     }
+}
 
+impl LayError {
     // The list length needed at cause 3, else 0.
     #[tactic(auto, unfolding(crate::specs::Grader::Outcome::error_entries))]
-    fn entries(self) -> u32
+    pub fn entries(self) -> u32
         ensures { result ≡ error_entries self }
     {
         match self {
             LayError::Short(entries) => entries,
             LayError::Refused(_) => 0,
         }
-    }
-}
-
-// The number of the cause that lay or points answered, 0 where it made a course.
-#[tactic(auto, unfolding(crate::specs::Grader::Outcome::laid_cause_of))]
-pub fn laid_cause(answer: &Result<LaidCourse, LayError>) -> u32
-    ensures { result ≡ laid_cause_of answer.now }
-{
-    match answer {
-        Ok(_) => 0,
-        Err(error) => error.number(),
-    }
-}
-
-// No course: at cause 3 the length needed stands in it.
-fn no_course(entries: u32) -> LaidCourse
-    ensures { result ≡ no_course entries }
-{
-    LaidCourse {
-        entries,
-        ..LaidCourse::default()
-    }
-}
-
-// The values that lay or points answered, 0 and false where a case has none; at cause 3 the length needed.
-#[tactic(auto, unfolding(crate::specs::Grader::Outcome::laid_values_of))]
-pub fn laid_values(answer: Result<LaidCourse, LayError>) -> LaidCourse
-    ensures { result ≡ laid_values_of answer }
-{
-    match answer {
-        Ok(values) => values,
-        Err(error) => no_course(error.entries()),
     }
 }
 

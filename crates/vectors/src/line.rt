@@ -1,6 +1,6 @@
 // Lines of answers.
 use crate::hash::Hashed;
-use course::cause::Cause;
+use course::cause::{Cause, Numbered};
 use course::points::{LaidCourse, LayError};
 use form::eight::Eight;
 use std::io::Write;

@@ -17,10 +17,14 @@ number_of Index = 10
 number_of Form = 11
 number_of Course = 12
 
+-- the number of an answer's error, by the number that each error has; 0 where the call was not refused
+abbrev pub number_by : {A E : Type 0} → (E → ℕ) → Result A E → ℕ
+number_by number (Ok values) = 0
+number_by number (Err error) = number error
+
 -- the number of an answer's cause, 0 where it was not refused
 unfoldable pub cause_number : {A : Type 0} → Result A Cause → ℕ
-cause_number (Ok values) = 0
-cause_number (Err c) = number_of c
+cause_number r = number_by number_of r
 
 -- a test that a call passes, or is refused by the cause
 unfoldable pub check : Bool → Cause → Result Unit Cause

@@ -5,7 +5,7 @@ use Rattle.course.specs.Rules.Arithmetic.{nought}
 use Rattle.course.specs.Rules.Lengths.{quad_numbers, offset_count}
 use Rattle.course.specs.Rules.Tiles.{no_point}
 use Rattle.course.specs.Grader.Course.{Course, from_points, cells_of}
-use Rattle.course.specs.Grader.Cause.{number_of}
+use Rattle.course.specs.Grader.Cause.{number_of, number_by}
 use Rattle.course.specs.declared.tiles.TrackPoint.{TrackPoint}
 use Rattle.course.specs.declared.lent.LentColumns.{LentColumns}
 use Rattle.course.specs.declared.points.LaidCourse.{LaidCourse}
@@ -87,8 +87,7 @@ error_number (Short length-needed) = 3
 error_number (Refused c) = number_of c
 
 unfoldable pub laid_cause_of : Result LaidCourse LayError → ℕ
-laid_cause_of (Ok v) = 0
-laid_cause_of (Err e) = error_number e
+laid_cause_of r = number_by error_number r
 
 -- the length needed at cause 3
 unfoldable pub error_entries : LayError → ℕ

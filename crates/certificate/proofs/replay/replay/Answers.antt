@@ -2,7 +2,7 @@
 use mathlib.Core.Path.{sym, ◌∙◌}
 use Rattle.run.specs.Grader.State.{view}
 use Rattle.certificate.specs.Grader.Replay.{replay_of}
-use Rattle.certificate.proofs.ReplayLaws.{room-each, replayed}
+use Rattle.certificate.proofs.ReplayLaws.{room-each, same-figures, replayed}
 use Rattle.certificate.proofs.replay.replay.Goals as goal
 
 pub returns-then-not-room_for : goal.returns-then-not-room_for
@@ -23,7 +23,7 @@ returns c =
       laid = c.lay-laid.ensures;
       tiles = c.lay-laid.auto.cols.1.1.1.1.0;
       offsets = c.lay-laid.auto.cols.1.1.1.1.1.0;
-      values = c.laid_values-course.ensures;
+      values = same-figures c.lay-laid.result _ (λ x p. (p.0, p.1.0)) _ c.unwrap_or_default-course.ensures;
       start = c.start-s.ensures;
       state = c.replies.ensures.run_after;
       answered = c.replies.ensures.words_after;
