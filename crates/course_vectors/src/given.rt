@@ -27,7 +27,7 @@ pub fn count(record: Record<'_>) -> usize
 fn give_column(record: Record<'_>, k: usize, col: &mut [f64]) {
     let first = record.upto(1, col.len());
     let places = front_mut(&mut col[first..], count(record) as u64);
-    record.fill_floats(k, 3, places);
+    record.fill(k, 3, places);
 }
 
 // From number `period` on and below `count`: what stands a period before.

@@ -53,6 +53,7 @@ fn settled<W: Write>(out: &mut W, fresh: u32, n: u32, flags: u32) -> io::Result<
 
 // The answer that four words and twelve numbers hold, by the first word: forces, a settle or a refusal. A call that was not
 // answered left its words untouched.
+// Kept as numbers for kinds: the C interface lends a column of words, which this shows as it stands.
 fn answer<W: Write>(out: &mut W, words: &[u32], numbers: &[f64]) -> io::Result<()> {
     match *words {
         [0, ..] => forces(out, numbers),

@@ -50,5 +50,5 @@ pub fn give_calls(record: Record<'_>, col: &mut [u32]) {
 // The numbers of the record's calls, into the front of the column.
 pub fn give_numbers(record: Record<'_>, col: &mut [f64]) {
     let n = (held(record) * CALL_NUMBERS).min(col.len());
-    record.fill_floats(FRONT + held(record) * CALL_WORDS, 1, &mut col[..n]);
+    record.fill(FRONT + held(record) * CALL_WORDS, 1, &mut col[..n]);
 }

@@ -14,7 +14,7 @@ use vectors::record::Record;
 // Every third word from number k on, one for each point.
 fn given_column(record: Record<'_>, k: usize) -> [f64; MOST_POINTS] {
     let mut col = [0.0; MOST_POINTS];
-    record.fill_floats(k, 3, front_mut(&mut col, kind::count(record) as u64));
+    record.fill(k, 3, front_mut(&mut col, kind::count(record) as u64));
     col
 }
 

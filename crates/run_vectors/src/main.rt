@@ -27,6 +27,8 @@ use vectors::columns::{Columns, put};
 use vectors::record::{BLOCK, Record, Records};
 
 // What the record does.
+// Kept as two parameters, the columns and the run: a settle lends the ones while it changes the other, so a struct of both would be
+// taken apart by each call.
 fn replay<W: Write>(
     out: &mut W,
     request: Request,

@@ -35,8 +35,9 @@ pub fn settings(record: Record<'_>) -> Settings {
 
 // The quad from word k on.
 pub fn quad(record: Record<'_>, k: usize) -> [[f64; 2]; 4] {
-    let [a, b, c, d, e, f, g, h]: [f64; 8] = record.floats(k);
-    [[a, b], [c, d], [e, f], [g, h]]
+    let mut corners = [[0.0; 2]; 4];
+    record.fill(k, 1, corners.as_flattened_mut());
+    corners
 }
 
 // A state but for its sets is n, count, tick, tick limit, lap share, the four flags (lap, ended, fallback, driven) as bits of

@@ -70,10 +70,11 @@ impl<'a> Record<'a> {
         (self.word(at) as usize).min(most)
     }
 
-    // The floats of every `step`-th word from word `from` on, into the column.
-    pub fn fill_floats(self, from: usize, step: usize, col: &mut [f64]) {
+    // Every `step`-th word from word `from` on, or the float that it is the bits of, into the column.
+    pub fn fill<E: Eight>(self, from: usize, step: usize, col: &mut [E]) {
         for (i, place) in col.iter_mut().enumerate() {
-            *place = self.float(i.saturating_mul(step).saturating_add(from));
+            let at = i.saturating_mul(step).saturating_add(from);
+            *place = E::of_number(self.word(at));
         }
     }
 
@@ -87,16 +88,14 @@ impl<'a> Record<'a> {
     // The N words from word `from` on.
     pub fn words<const N: usize>(self, from: usize) -> [u64; N] {
         let mut words = [0; N];
-        for (i, place) in words.iter_mut().enumerate() {
-            *place = self.word(i.saturating_add(from));
-        }
+        self.fill(from, 1, &mut words);
         words
     }
 
     // The N floats from word `from` on.
     pub fn floats<const N: usize>(self, from: usize) -> [f64; N] {
         let mut numbers = [0.0; N];
-        self.fill_floats(from, 1, &mut numbers);
+        self.fill(from, 1, &mut numbers);
         numbers
     }
 
