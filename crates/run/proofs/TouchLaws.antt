@@ -7,7 +7,7 @@ use native.Mathlib.Omega.{arith}
 use native.Mathlib.Numerals.{add-one}
 use native.Mathlib.Decide.{ℕ_discrete}
 use lib.ListN.{length, get_or, take}
-use lib.Seq.{take-suc}
+use lib.Seq.{take-suc, take_all}
 use Rattle.std.specs.List.{list_all}
 use lib.Dec.{eqb, ltb}
 use lib.Ieee.{Float}
@@ -128,6 +128,22 @@ touch-more m o L M N Z a b a' b' step h z =
     let e : length a ≡ m = ap length h.all ∙ length-set_of m (λ t. L t || M t) in
     tested-cong m o (λ t. (L t || M t) || N t) (λ t. L t || Z t) a' b' (λ t _. or_assoc (L t) (M t) (N t) ∙ ap (λ (x : Bool). L t || x) (z t))
     (subst (λ (k : ℕ). Tested k o (λ t. (L t || M t) || N t) a' b') e (step (λ t. L t || M t) (subst (λ (k : ℕ). Tested k o (λ t. L t || M t) a b) (sym e) h)))
+
+-- ---- the ids of a list, one after the other
+-- each is below n
+pub id_below : (ids : List ℕ) {n i : ℕ} → every_of (λ t. ltb t n) ids ≡ true → i < length ids → get_or ids i 0 < n
+id_below ids {n} {i} e h = ltb-true _ _ (every-at (λ t. ltb t n) ids i e h)
+
+module _ {o : ℕ → Bool} {a b : List ℕ} (ids : List ℕ) where
+  pub no_id : Tests o (lists (take 0 ids)) a b a b
+  no_id L h = tested-cong _ o L (λ t. L t || lists (take 0 ids) t) a b (λ t _. sym (ap (λ (x : Bool). L t || x) (some-none (eqb t)) ∙ or-false (L t))) h
+
+  pub one_id : {a' b' a″ b″ : List ℕ} {i : ℕ} → i < length ids → Tests o (lists (take i ids)) a b a' b' → Tests o (λ t. eqb t (get_or ids i 0)) a' b' a″ b″ → Tests o (lists (take (i + 1) ids)) a b a″ b″
+  one_id {i = i} less h step L k =
+      touch-more _ o L (lists (take i ids)) (λ u. eqb u (get_or ids i 0)) (lists (take (i + 1) ids)) _ _ _ _ step (h L k) (λ u. sym (some-take (eqb u) ids i less))
+
+  pub all_ids : {a' b' : List ℕ} {i : ℕ} → length ids ≤ i → Tests o (lists (take i ids)) a b a' b' → Tests o (lists ids) a b a' b'
+  all_ids {a'} {b'} {i} past h = subst (λ (x : List ℕ). Tests o (lists x) a b a' b') (take_all i ids past) h
 
 -- ---- a quad's four cells
 

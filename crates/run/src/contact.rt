@@ -30,10 +30,13 @@ fn touch_sets(stance: &Stance, course: Course, wheels: &mut [u64; WHEEL_WORDS])
         course.entry.columns.list.now (quad_of stance.now.poses w)) 4 }
 {
     for wheel in 0..4 {
-        let quad = quad::wheel_quad(stance.poses[wheel]);
-        let touched = touch::touched_set(quad, &stance.cells[wheel], course);
         let from = wheel * FULL_WORDS;
-        wheels[from..from + FULL_WORDS].copy_from_slice(&touched);
+        touch::touch_quad(
+            quad::wheel_quad(stance.poses[wheel]),
+            &stance.cells[wheel],
+            course,
+            &mut wheels[from..from + FULL_WORDS],
+        );
     }
 }
 

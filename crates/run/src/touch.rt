@@ -73,62 +73,49 @@ pub(crate) struct Course<'a> {
     ghost lent: { n * 8 ≤ length columns.tiles.now },
 }
 
-// Tile `id` is tested, unless it was before.
-fn touch_one(
-    wheel: &Sided,
-    course: Course,
-    id: usize,
-    tested: &mut [u64; FULL_WORDS],
-    touched: &mut [u64; FULL_WORDS],
-)
-    requires { id < course.n }
-    ensures { Tests (overlaps_tile wheel.now.quad course.entry.columns.tiles.now) (λ t. eqb t id) tested.old touched.old
-        tested.new touched.new }
-{
-    if words::has(tested, id) {
-        return;
-    }
-    words::put(tested, id);
-    if wheel.overlaps(course.columns.tile(id)) {
-        words::put(touched, id);
-    }
-}
-
-// The tiles of a list are tested.
+// The tiles of a list are tested, each that was not before.
 fn touch_ids(
     wheel: &Sided,
     course: Course,
     ids: &[u32],
     tested: &mut [u64; FULL_WORDS],
-    touched: &mut [u64; FULL_WORDS],
+    touched: &mut [u64],
 )
-    requires { every_of (λ t. ltb t course.n) ids.now ≡ true }
+    requires ids_below { every_of (λ t. ltb t course.n) ids.now ≡ true }
+    requires room { length touched.old ≡ full_words }
     ensures { Tests (overlaps_tile wheel.now.quad course.entry.columns.tiles.now) (lists ids.now) tested.old
         touched.old tested.new touched.new }
 {
     for id in ids {
-        touch_one(wheel, course, *id as usize, tested, touched);
+        let t = *id as usize;
+        if words::has(tested, t) {
+            continue;
+        }
+        words::put(tested, t);
+        if wheel.overlaps(course.columns.tile(t)) {
+            words::put(touched, t);
+        }
     }
 }
 
-// The set of the tiles that a wheel's quad touches, by the cells of the quad's box.
-pub(crate) fn touched_set(q: [[f64; 2]; 4], cells: &[usize; 4], course: Course) -> [u64; FULL_WORDS]
-    requires { Looked course.columns.offsets.now course.columns.list.now course.n q cells.now }
-    ensures { result
+// The tiles that a wheel's quad touches become the set `touched`, by the cells of the quad's box.
+pub(crate) fn touch_quad(q: [[f64; 2]; 4], cells: &[usize; 4], course: Course, touched: &mut [u64])
+    requires looked { Looked course.columns.offsets.now course.columns.list.now course.n q cells.now }
+    requires room { length touched.old ≡ full_words }
+    ensures { touched.new
         ≡ set_of full_words
         (touched_by course.entry.columns.tiles.now course.entry.columns.offsets.now course.entry.columns.list.now q) }
 {
     let wheel = Sided::new(q);
     let mut tested = [0; FULL_WORDS];
-    let mut touched = [0; FULL_WORDS];
+    words::clear(touched);
     let mut before = None;
     for cell in cells {
         // Most of a box's cells are the same as the cell before, whose tiles are tested already.
         if before != Some(*cell) {
             let ids = index::cell_tiles(course.columns.offsets, course.columns.list, *cell);
-            touch_ids(&wheel, course, ids, &mut tested, &mut touched);
+            touch_ids(&wheel, course, ids, &mut tested, touched);
         }
         before = Some(*cell);
     }
-    touched
 }

@@ -26,6 +26,13 @@ pub(crate) fn put(set: &mut [u64], id: usize)
     set[id / 64] = set[id / 64] | (1u64 << (id % 64));
 }
 
+// The empty set.
+pub(crate) fn clear(set: &mut [u64])
+    ensures { set.new ≡ set_of (length set.old) (λ t. false) }
+{
+    set.fill(0);
+}
+
 // What is in `wheel` and not in `before` is credited; how many of these tiles were not credited before. A
 // course has few tiles for the words at hand: those after the word of tile n - 1 are not gone through.
 pub(crate) fn credit(credited: &mut [u64], before: &[u64], wheel: &[u64], n: usize) -> u32

@@ -12,15 +12,14 @@ use Rattle.run.proofs.contact.touch_sets.Goals as goal
 pub loop-wheel-init : goal.loop-wheel-init
 loop-wheel-init c = no-set (search rules)
 
-pub touched_set-touched-requires : goal.touched_set-touched-requires
-touched_set-touched-requires c = own-cells _ _ c.args.stance.now.own_cells c.requires c.loop-wheel-test.true (wheel-is _ _ c.wheel_quad-quad.ensures)
+pub touch_quad-requires : goal.touch_quad-requires
+touch_quad-requires c = record { looked = own-cells _ _ c.args.stance.now.own_cells c.requires c.loop-wheel-test.true (wheel-is _ _ c.wheel_quad.ensures); room = search rules }
 
 pub loop-wheel-preserved : goal.loop-wheel-preserved
 loop-wheel-preserved c =
     let a = c.args.course.columns in
     one_set (search rules) c.loop-wheel.invariant c.loop-wheel-test.true
-    (c.copy_from_slice.ensures.after ∙ c.touched_set-touched.ensures
-    ∙ ap (λ q. set_of full_words (touched_by a.tiles.now a.offsets.now a.list.now q)) (wheel-is _ _ c.wheel_quad-quad.ensures))
+    (c.touch_quad.ensures ∙ ap (λ q. set_of full_words (touched_by a.tiles.now a.offsets.now a.list.now q)) (wheel-is _ _ c.wheel_quad.ensures))
 
 pub returns : goal.returns
 returns c = four-sets (search rules) (omega (arith, c.loop-wheel-test.false)) c.loop-wheel.invariant

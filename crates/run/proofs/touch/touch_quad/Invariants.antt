@@ -1,8 +1,8 @@
--- `run::touch::touched_set` meets its contract. Assumes nothing.
+-- `run::touch::touch_quad` meets its contract. Assumes nothing.
 use Rattle.std.specs.Prelude.{IfSome}
 use Rattle.run.proofs.CellLaws.{CellsTested, Among}
 use Rattle.run.specs.Grader.Widths.{full_words}
-use Rattle.run.proofs.touch.touched_set.Given as goal
+use Rattle.run.proofs.touch.touch_quad.Given as goal
 
 abbrev pub invariant-loop-cell : goal.invariant-loop-cell
 invariant-loop-cell l =

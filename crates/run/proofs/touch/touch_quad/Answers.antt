@@ -1,10 +1,12 @@
--- `run::touch::touched_set` meets its contract. Assumes nothing.
+-- `run::touch::touch_quad` meets its contract. Assumes nothing.
 use Rattle.run.proofs.TouchLaws.{tested-is, sound-ids}
 use Rattle.run.specs.Grader.Widths.{full_words}
+use mathlib.Core.Bool.{false}
 use Rattle.run.proofs.CreditLaws.{zeros-empty}
+use Rattle.run.proofs.WordLaws.{length-set_of}
 use Rattle.run.proofs.CellLaws.{Among, among_last, as-before, no_cell, one_cell, same-cell, all-touched}
 use Rattle.std.specs.Prelude.{IfSome}
-use Prim.Native.Nat.{◌+◌, ◌<◌, ◌≤◌}
+use Prim.Native.Nat.{ℕ, ◌+◌, ◌<◌, ◌≤◌}
 use lib.ListN.{length}
 use lib.Ieee.{Float}
 use mathlib.Core.List.{List}
@@ -13,16 +15,19 @@ use Rattle.run.specs.Rules.Wheel.{box_cells}
 use Rattle.run.specs.Grader.Words.{set_of}
 use Rattle.run.specs.Grader.Touch.{touched_by}
 use native.Mathlib.Omega.{arith}
-use Rattle.run.proofs.touch.touched_set.Goals as goal
-use Rattle.run.proofs.touch.touched_set.Goals.{then-ne, else-ne}
+use Rattle.run.proofs.touch.touch_quad.Goals as goal
+use Rattle.run.proofs.touch.touch_quad.Goals.{then-ne, else-ne}
 
 pub loop-cell-init : goal.loop-cell-init
-loop-cell-init c = (no_cell _ _ _ _ c.args.cells.now full_words _ _ (zeros-empty full_words) (zeros-empty full_words), tt)
+loop-cell-init c = (
+  no_cell _ _ _ _ c.args.cells.now full_words _ _ (zeros-empty full_words) (c.clear.ensures ∙ ap (λ (m : ℕ). set_of m (λ t. false)) c.requires.room),
+  tt,
+)
 
 pub touch_ids-requires : goal.touch_ids-requires
 touch_ids-requires c =
     let b : c.loop-cell.cell-index < length c.args.cells.now = omega (arith, c.loop-cell-test.true, c.told-cells) in
-    sound-ids c.requires b c.cell_tiles-ids.ensures
+    record { ids_below = sound-ids c.requires.looked b c.cell_tiles-ids.ensures; room = ap length c.loop-cell.invariant.0.hit ∙ length-set_of full_words _ }
 
 pub loop-cell-preserved : goal.loop-cell-preserved
 loop-cell-preserved c =
@@ -46,5 +51,5 @@ returns c =
     let past : length c.args.cells.now ≤ c.loop-cell.cell-index = omega (arith, c.loop-cell-test.false, c.told-cells) in
     let l = c.args.course.columns in
     let e = c.new-wheel.ensures in
-    all-touched _ _ _ _ _ _ _ _ _ c.loop-cell.invariant.0 (c.requires.are ∙ ap box_cells (sym e)) past
+    all-touched _ _ _ _ _ _ _ _ _ c.loop-cell.invariant.0 (c.requires.looked.are ∙ ap box_cells (sym e)) past
     ∙ ap (λ (q : List (List Float)). set_of full_words (touched_by l.tiles.now l.offsets.now l.list.now q)) e
