@@ -11,9 +11,6 @@ use Rattle.form.proofs.eight.put.Goals as goal
 pub returns-then-out-values-clause-value : goal.returns-then-out-values-clause-value
 returns-then-out-values-clause-value g c = sym (store-short _ _ (omega (arith, c.if-out-values.true, each-length g.E.Eight.number_of c.args.values.now)))
 
-pub loop-i-init : goal.loop-i-init
-loop-i-init g c = (omega (arith, c.if-out-values.false), begins _ _ _ refl)
-
 pub loop-i-preserved : goal.loop-i-preserved
 loop-i-preserved g c =
     let f = g.E.Eight.number_of in
