@@ -1,10 +1,10 @@
 -- `form::eight::put` meets its contract. Assumes nothing.
 use Rattle.form.proofs.ByteLaws.{eight-on, each-length, each_none, stored, store-short}
 use Rattle.form.specs.Rules.Bytes.{each_bytes}
-use Rattle.form.proofs.Filling.{begins, ends}
+use Rattle.form.proofs.Filling.{ends}
 use lib.ListN.{length}
 use Prim.Native.Nat.{◌≤◌}
-use mathlib.Core.Path.{refl, sym, ap, ◌∙◌}
+use mathlib.Core.Path.{sym, ap, ◌∙◌}
 use native.Mathlib.Omega.{arith}
 use Rattle.form.proofs.eight.put.Goals as goal
 

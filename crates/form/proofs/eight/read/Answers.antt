@@ -1,6 +1,6 @@
 -- `form::eight::read` meets its contract. Assumes nothing.
 use Rattle.form.proofs.Filling.{grown, grown_up}
-use Rattle.form.proofs.ByteLaws.{chunk-said, from-none, from_all, from_more, fill-short, fill-room}
+use Rattle.form.proofs.ByteLaws.{chunk-said, from-none, from_more, fill-short, fill-room}
 use native.Mathlib.Omega.{arith}
 use lib.ListN.{length, take}
 use Prim.Native.Nat.{◌<◌, ◌≤◌, ◌/◌}
