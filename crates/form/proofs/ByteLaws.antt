@@ -240,9 +240,6 @@ module _ {A : Type 0} (g : ℕ → A) where
   unfolding each_from
   from-none n i bs h = let e : n - i ≡ 0 = omega arith in ap (λ (j : ℕ). each_from g j bs) e
 
-  pub from_all : (n : ℕ) (bs : List ℕ) → each_from g (n - 0) bs ≡ each_from g n bs
-  from_all n bs = let e : n - 0 ≡ n = omega arith in ap (λ (j : ℕ). each_from g j bs) e
-
   pub from_more : (n i : ℕ) (x : A) (bs : List ℕ) → i < n → x ≡ g (number (take 8 (drop (i * 8) bs)))
       → each_from g (n - i) (drop (i * 8) bs) ≡ x ∷ each_from g (n - (i + 1)) (drop ((i + 1) * 8) bs)
   unfolding each_from

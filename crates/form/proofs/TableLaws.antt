@@ -136,12 +136,6 @@ gathered {all} {m} {k} {r} j n x r' g same h o e q =
     sums : (x y z : ℕ) → x + (y + z) ≡ x + y + z
     sums x y z = omega arith
 
-pub gathered-none : (all n : ℕ) (r : ℕ) → n ≡ 0 → r ≡ all → Gathered all 0 n r
-gathered-none all n r e q =
-    let one : 2 ^ n ≡ 1 = ap (λ (z : ℕ). 2 ^ z) e in
-    let self : all ≡ 0 + 1 * all = omega arith in
-    record { small = omega (arith, one); whole = self ∙ ap₂ (λ (p s : ℕ). 0 + p * s) (sym one) (sym q) }
-
 pub gathered-all : (all m k r : ℕ) → Gathered all m k r → r ≡ 0 → m ≡ all
 gathered-all all m k r g e = sym (g.whole ∙ ap (λ (z : ℕ). m + 2 ^ k * z) e ∙ none m (2 ^ k))
   where

@@ -1,18 +1,15 @@
 -- `form::eight::put` meets its contract. Assumes nothing.
 use Rattle.form.proofs.ByteLaws.{eight-on, each-length, each_none, stored, store-short}
 use Rattle.form.specs.Rules.Bytes.{each_bytes}
-use Rattle.form.proofs.Filling.{begins, ends}
+use Rattle.form.proofs.Filling.{ends}
 use lib.ListN.{length}
 use Prim.Native.Nat.{◌≤◌}
-use mathlib.Core.Path.{refl, sym, ap, ◌∙◌}
+use mathlib.Core.Path.{sym, ap, ◌∙◌}
 use native.Mathlib.Omega.{arith}
 use Rattle.form.proofs.eight.put.Goals as goal
 
 pub returns-then-out-values-clause-value : goal.returns-then-out-values-clause-value
 returns-then-out-values-clause-value g c = sym (store-short _ _ (omega (arith, c.if-out-values.true, each-length g.E.Eight.number_of c.args.values.now)))
-
-pub loop-i-init : goal.loop-i-init
-loop-i-init g c = (omega (arith, c.if-out-values.false), begins _ _ _ refl)
 
 pub loop-i-preserved : goal.loop-i-preserved
 loop-i-preserved g c =

@@ -1,6 +1,6 @@
 -- `form::eight::read` meets its contract. Assumes nothing.
 use Rattle.form.proofs.Filling.{grown, grown_up}
-use Rattle.form.proofs.ByteLaws.{chunk-said, from-none, from_all, from_more, fill-short, fill-room}
+use Rattle.form.proofs.ByteLaws.{chunk-said, from-none, from_more, fill-short, fill-room}
 use native.Mathlib.Omega.{arith}
 use lib.ListN.{length, take}
 use Prim.Native.Nat.{◌<◌, ◌≤◌, ◌/◌}
@@ -10,9 +10,6 @@ use Rattle.form.proofs.eight.read.Goals as goal
 
 pub returns-then-eights-values-clause-value : goal.returns-then-eights-values-clause-value
 returns-then-eights-values-clause-value g c = sym (fill-short g.E.Eight.of_number _ _ (omega (arith, c.if-eights-values.true, c.as_chunks.ensures.front_len)))
-
-pub loop-i-init : goal.loop-i-init
-loop-i-init g c = from_all g.E.Eight.of_number _ _
 
 pub loop-i-preserved : goal.loop-i-preserved
 loop-i-preserved g c =

@@ -1,17 +1,9 @@
 -- `form::pack::put_standing` meets its contract. Assumes nothing.
-use Rattle.form.proofs.Filling.{begins, ends-whole, next_fits, part-on}
+use Rattle.form.proofs.Filling.{ends-whole, next_fits, part-on}
 use Rattle.form.proofs.TableLaws.{ended, standing-next, standing-none}
-use Rattle.form.specs.Rules.Form.{table_fields, standing}
-use mathlib.Core.Path.{refl, ap, ap₂, ◌∙◌}
+use mathlib.Core.Path.{refl}
 use native.Mathlib.Omega.{arith}
 use Rattle.form.proofs.pack.put_standing.Goals as goal
-
-pub loop-field-init : goal.loop-field-init
-loop-field-init c =
-    let z = c.zip-field-items.ensures in
-    begins _ _ _
-    (ap (λ it. standing it.b.rest (table_fields it.a)) c.into_iter-field-iterator.ensures.into_iter_gives
-    ∙ ap₂ (λ b s. standing b.rest (table_fields s)) z.second z.first)
 
 pub slice_bounds-copy_from_slice-end : goal.slice_bounds-copy_from_slice-end
 slice_bounds-copy_from_slice-end c =

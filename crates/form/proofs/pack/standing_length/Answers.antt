@@ -2,16 +2,9 @@
 use Rattle.form.proofs.TableLaws.{ended, standing-next, standing-none, standing-within}
 use Rattle.form.specs.Rules.Form.{widths, table_fields, standing}
 use lib.ListN.{length, length-append}
-use mathlib.Core.Path.{◌≡◌, ap, ap₂}
+use mathlib.Core.Path.{◌≡◌, ap}
 use native.Mathlib.Omega.{arith}
 use Rattle.form.proofs.pack.standing_length.Goals as goal
-
-pub loop-field-init : goal.loop-field-init
-loop-field-init c =
-    let z = c.zip-field-items.ensures in
-    let e = ap (λ it. length (standing it.b.rest (table_fields it.a))) c.into_iter-field-iterator.ensures.into_iter_gives in
-    let d = ap₂ (λ b s. length (standing b.rest (table_fields s))) z.second z.first in
-    omega (arith, e, d)
 
 pub overflow_add-n : goal.overflow_add-n
 overflow_add-n c =

@@ -1,12 +1,9 @@
 -- `form::table::room_left` meets its contract. Assumes nothing.
 use Rattle.form.specs.Rules.Form.{widths, sum}
 use Rattle.form.proofs.TableLaws.{sum-at, sum-none, some-room, no_room}
-use mathlib.Core.Path.{refl, ◌∙◌}
+use mathlib.Core.Path.{◌∙◌}
 use native.Mathlib.Omega.{arith}
 use Rattle.form.proofs.table.room_left.Goals as goal
-
-pub loop-row-init : goal.loop-row-init
-loop-row-init c = refl
 
 pub returns-in_err-left : goal.returns-in_err-left
 returns-in_err-left c =

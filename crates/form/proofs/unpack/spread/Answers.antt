@@ -1,24 +1,10 @@
 -- `form::unpack::spread` meets its contract. Assumes nothing.
 use Rattle.form.proofs.ReadLaws.{spread-room, spread-enough, spread-more, joined_length, fields-none}
 use Rattle.form.proofs.TableLaws.{ended}
-use Rattle.form.specs.Steps.Form.{standing_sum, fields_in}
-use Rattle.form.specs.Rules.Form.{widths, sum, joined}
-use Rattle.form.proofs.Filling.{begins, ends}
-use mathlib.Core.Path.{ap, ap₂, ◌∙◌}
+use Rattle.form.specs.Rules.Form.{widths}
+use Rattle.form.proofs.Filling.{ends}
 use native.Mathlib.Omega.{arith}
 use Rattle.form.proofs.unpack.spread.Goals as goal
-
-pub loop-row-init : goal.loop-row-init
-loop-row-init c =
-    let z = c.zip-row-items.ensures in
-    let it = c.into_iter-row-iterator.ensures.into_iter_gives in
-    let rows = ap (λ i. i.a.rest.now) it ∙ ap (λ i. i.rest.now) z.first ∙ c.iter.ensures.rest in
-    let map = ap (λ i. i.b.rest) it ∙ ap (λ b. b.rest) z.second in
-    record {
-      enough = omega (arith, c.requires.map_in_bounds, ap₂ (λ rs m. standing_sum (widths rs) m) rows map);
-      room = omega (arith, c.requires.widths_in_bounds, ap (λ rs. sum (widths rs)) rows);
-      filled = begins _ _ _ (ap₂ (λ rs m. joined (fields_in (widths rs) m c.args.bytes.now)) rows map);
-    }
 
 pub overflow_add-end : goal.overflow_add-end
 overflow_add-end c =
