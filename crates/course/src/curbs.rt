@@ -29,16 +29,18 @@ fn is_steep(d: f64) -> bool
 
 // Whether four turns are steep and all to one side.
 // Kept as tests written out, as the definition has them: an array of the four with three closures is no shorter.
+#[tactic(auto, unfolding(crate::specs::Grader::Curbs::one_way))]
 fn one_way(t: f64, u: f64, v: f64, w: f64) -> bool
     ensures { result ≡ one_way t u v w }
 {
-    let all = is_steep(t) & (is_steep(u) & (is_steep(v) & is_steep(w)));
+    let all = is_steep(t) && is_steep(u) && is_steep(v) && is_steep(w);
     let up = (0.0 < t) & ((0.0 < u) & ((0.0 < v) & (0.0 < w)));
     let down = (t < 0.0) & ((u < 0.0) & ((v < 0.0) & (w < 0.0)));
-    all & (up | down)
+    all && (up | down)
 }
 
 // The number of the point after point i of n, round the course.
+#[tactic(auto, unfolding(crate::specs::Grader::Curbs::after_of))]
 fn after(i: usize, n: usize) -> usize
     requires { i < n }
     ensures value { result ≡ after_of n i }
@@ -128,6 +130,7 @@ fn curb_quad(p: TrackPoint, q: TrackPoint) -> [[f64; 2]; 4]
 }
 
 // White and red in turn.
+#[tactic(auto, unfolding(crate::specs::Grader::Curbs::white_of))]
 fn white_of(i: usize) -> u8
     ensures { result ≡ white_of i }
 {

@@ -59,6 +59,7 @@ fn edges_at(p: TrackPoint) -> Edges
 }
 
 // The tile from the edges e of a point back to the edges f of the point before.
+#[tactic(auto, unfolding(crate::specs::Steps::Tiles::quad_between))]
 fn tile_quad(e: Edges, f: Edges) -> [[f64; 2]; 4]
     ensures { result ≡ quad_between e f }
 {
@@ -68,6 +69,7 @@ fn tile_quad(e: Edges, f: Edges) -> [[f64; 2]; 4]
 }
 
 // The number of the point before point i of n, round the course.
+#[tactic(auto, unfolding(crate::specs::Rules::Tiles::before_of))]
 pub(crate) fn before(i: usize, n: usize) -> usize
     requires { i < n }
     ensures value { result ≡ before_of n i }
@@ -80,6 +82,7 @@ pub(crate) fn before(i: usize, n: usize) -> usize
 }
 
 // The quad of a tile's eight numbers.
+#[tactic(auto, unfolding(crate::specs::Rules::Tiles::tile_of))]
 pub fn read_quad(numbers: &[f64; 8]) -> [[f64; 2]; 4]
     ensures { result ≡ tile_of numbers.now 0 }
 {
