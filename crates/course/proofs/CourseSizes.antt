@@ -10,6 +10,9 @@ use Rattle.course.specs.Rules.Step.{Walk, TrackStep, step_of}
 use Rattle.course.specs.Rules.Track.{last_pass, step_alphas, well_glued, between_passes, if_glued, from_earlier, to_later, track_of}
 use Rattle.course.specs.Rules.Walk.{Trail, follow, onward, walk_from, walk_start, walk_of}
 use Rattle.course.specs.Rules.Lay.{point_of, accepted, attempt_on, ring_point, ring_of, CoursePoints, or_else, course_on, course_from, course_within, course_of}
+use Rattle.course.specs.Steps.Lay.{course_by}
+use Rattle.course.specs.declared.lay.Origin.{Origin}
+use Rattle.course.specs.declared.lay.Origin.TheVariants.{Seed, Checkpoints}
 use Rattle.course.specs.declared.checkpoints.Checkpoint.{Checkpoint}
 use Rattle.course.specs.declared.tiles.TrackPoint.{TrackPoint}
 use Rattle.course.proofs.TrackParts.{pass_le}
@@ -97,6 +100,10 @@ from-sized (suc m) g = or-sized (attempt_on (checkpoints_of 12 g)) (course_from 
 pub within-sized : (attempts seed : ℕ) → Sized (course_within attempts seed)
 unfolding course_within
 within-sized attempts seed = from-sized attempts (seeded seed)
+
+pub by-sized : (o : Origin) → Sized (course_by o)
+by-sized (Seed attempts seed) = within-sized attempts seed
+by-sized (Checkpoints cs) = on-sized cs
 
 pub course-sized : (seed : ℕ) → Sized (course_of seed)
 unfolding course_of

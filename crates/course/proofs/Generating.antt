@@ -8,9 +8,11 @@ use Rattle.course.specs.Rules.Lengths.{laid_length}
 use Rattle.course.specs.Rules.Checkpoints.{checkpoints_of}
 use Rattle.course.specs.Rules.Tiles.{betas, xs, ys}
 use Rattle.course.specs.Rules.Lay.{attempt_on, ring_point, ring_of, CoursePoints, ring_course, or_else, course_on, course_from, course_within}
-use Rattle.course.specs.Steps.Lay.{Columns, InFront, or_later, tried_from, tried_within, Ringed, OrRing}
+use Rattle.course.specs.Steps.Lay.{Columns, InFront, or_later, tried_from, tried_within, tried_by, course_by, Ringed, OrRing}
 use Rattle.course.specs.declared.checkpoints.Checkpoint.{Checkpoint}
 use Rattle.course.specs.declared.tiles.TrackPoint.{TrackPoint}
+use Rattle.course.specs.declared.lay.Origin.{Origin}
+use Rattle.course.specs.declared.lay.Origin.TheVariants.{Seed, Checkpoints}
 use Rattle.course.proofs.ColumnLaws.{Grown, grown-none, drop_past}
 use Rattle.course.proofs.CourseSizes.{ring-length}
 use Rattle.course.proofs.Turns.{suc-pred}
@@ -173,6 +175,10 @@ within-tried attempts seed = sym (course-tried attempts (seeded seed))
 pub on-attempt : (cs : List Checkpoint) → or_else (attempt_on cs) ring_course ≡ course_on cs
 unfolding course_on
 on-attempt cs = refl
+
+pub by-tried : (o : Origin) → or_else (tried_by o) ring_course ≡ course_by o
+by-tried (Seed attempts seed) = within-tried attempts seed
+by-tried (Checkpoints cs) = on-attempt cs
 
 -- the course p is generated: its points stand in front
 pub record Made (p : CoursePoints) (c c' : Columns) (n : ℕ) (fallback : Bool) : Type 0 where

@@ -6,7 +6,7 @@ ghost use Rattle.course.specs.Grader.Outcome.{lent, lent_to, left_by, outcome};
 ghost use Rattle.course.specs.Rules.Lay.{ring_point, attempt_on};
 ghost use Rattle.course.specs.Grader.LayCall.{lay_call, lay_on_call};
 ghost use Rattle.course.specs.Rules.Checkpoints.{checkpoints_of};
-ghost use Rattle.course.specs.Steps.Lay.{columns_of, SameColumns, InFront, tried_within, Ringed, OrRing};
+ghost use Rattle.course.specs.Steps.Lay.{columns_of, SameColumns, InFront, tried_by, lay_by, tried_within, Ringed, OrRing};
 
 use crate::checkpoints::Checkpoint;
 use crate::constants::{LAID_LENGTH, MAX_ATTEMPTS, TAU, TRACK_RAD};
@@ -59,6 +59,28 @@ fn first_attempt(attempts: u32, seed: u64, cols: &mut WalkColumns) -> Option<usi
     None
 }
 
+// What a course is laid from: a seed, with so many attempts, or checkpoints for the one attempt.
+#[derive(Clone, Copy)]
+enum Origin {
+    Seed { attempts: u32, seed: u64 },
+    Checkpoints([Checkpoint; 12]),
+}
+
+impl Origin {
+    // The attempt that is not refused.
+    fn attempt(&self, cols: &mut WalkColumns) -> Option<usize>
+        ensures same { SameColumns cols.old cols.new }
+        ensures in_front { InFront (tried_by self.now) (columns_of cols.old) (columns_of cols.new)
+            (unwrap_or result 0) }
+        ensures some { IfSome result (λ n. 0 < n) }
+    {
+        match self {
+            Origin::Seed { attempts, seed } => first_attempt(*attempts, *seed, cols),
+            Origin::Checkpoints(cs) => attempt(cs, cols),
+        }
+    }
+}
+
 // Point i of the ring.
 fn ring_point(i: u32) -> TrackPoint
     ensures { result ≡ ring_point i }
@@ -98,12 +120,11 @@ fn or_ring(made: Option<usize>, cols: &mut WalkColumns) -> usize
     100
 }
 
-// The course of a seed in columns, with so many attempts.
+// The course of a seed or of given checkpoints in columns.
 // Kept as columns one by one, since the proof did not close: where `lay` hands its struct on, by value or by `&mut` with its fields'
 // names kept, a proof knows the names and lengths of the columns at `lay`'s return, and not what they hold.
-fn lay_within(
-    attempts: u32,
-    seed: u64,
+fn lay_from(
+    origin: &Origin,
     alpha: &mut [f64],
     beta: &mut [f64],
     x: &mut [f64],
@@ -113,11 +134,11 @@ fn lay_within(
     list: &mut [u32],
 ) -> Result<LaidCourse, LayError>
     ensures { outcome result (lent alpha.new beta.new x.new y.new tiles.new offsets.new list.new)
-        ≡ lay_call attempts seed (lent alpha.old beta.old x.old y.old tiles.old offsets.old list.old) }
+        ≡ lay_by origin.now (lent alpha.old beta.old x.old y.old tiles.old offsets.old list.old) }
 {
     points::room_check(LAID_LENGTH, alpha, beta, x, y, tiles, offsets)?;
     let mut walked = WalkColumns { alpha, beta, x, y };
-    let made = first_attempt(attempts, seed, &mut walked);
+    let made = origin.attempt(&mut walked);
     let n = or_ring(made, &mut walked);
     points::finish(
         LAID_LENGTH,
@@ -134,6 +155,7 @@ fn lay_within(
 }
 
 // The course of a seed in the lent columns, with so many attempts.
+#[tactic(auto, unfolding(crate::specs::Grader::LayCall::lay_call))]
 pub fn lay_attempts(attempts: u32, seed: u64, cols: LentColumns<'_>) -> Result<LaidCourse, LayError>
     ensures { outcome result (left_by cols.exit) ≡ lay_call attempts seed (lent_to cols.entry) }
 {
@@ -146,10 +168,12 @@ pub fn lay_attempts(attempts: u32, seed: u64, cols: LentColumns<'_>) -> Result<L
         offsets,
         list,
     } = cols;
-    lay_within(attempts, seed, alpha, beta, x, y, tiles, offsets, list)
+    let origin = Origin::Seed { attempts, seed };
+    lay_from(&origin, alpha, beta, x, y, tiles, offsets, list)
 }
 
 // The course of a seed in the lent columns.
+#[tactic(auto, unfolding(crate::specs::Grader::LayCall::lay_call, crate::specs::Rules::Constants::max_attempts))]
 pub fn lay(seed: u64, cols: LentColumns<'_>) -> Result<LaidCourse, LayError>
     ensures { outcome result (left_by cols.exit) ≡ lay_call max_attempts seed (lent_to cols.entry) }
 {
@@ -162,12 +186,16 @@ pub fn lay(seed: u64, cols: LentColumns<'_>) -> Result<LaidCourse, LayError>
         offsets,
         list,
     } = cols;
-    lay_within(MAX_ATTEMPTS, seed, alpha, beta, x, y, tiles, offsets, list)
+    let origin = Origin::Seed {
+        attempts: MAX_ATTEMPTS,
+        seed,
+    };
+    lay_from(&origin, alpha, beta, x, y, tiles, offsets, list)
 }
 
 // The course of one attempt with given checkpoints in the lent columns, the ring where that attempt is refused. It lets
 // the limit on the search be met on purpose.
-// Kept beside `lay_attempts`: a closure in place of the one call that differs would need a contract over the lent columns.
+#[tactic(auto, unfolding(crate::specs::Grader::LayCall::lay_on_call))]
 pub fn lay_checkpoints(cs: [Checkpoint; 12], cols: LentColumns<'_>) -> Result<LaidCourse, LayError>
     ensures { outcome result (left_by cols.exit) ≡ lay_on_call cs (lent_to cols.entry) }
 {
@@ -180,14 +208,8 @@ pub fn lay_checkpoints(cs: [Checkpoint; 12], cols: LentColumns<'_>) -> Result<La
         offsets,
         list,
     } = cols;
-    points::room_check(LAID_LENGTH, alpha, beta, x, y, tiles, offsets)?;
-    let mut walked = WalkColumns { alpha, beta, x, y };
-    let made = attempt(&cs, &mut walked);
-    let n = or_ring(made, &mut walked);
-    points::finish(
-        LAID_LENGTH,
-        made.is_none(),
-        n,
+    lay_from(
+        &Origin::Checkpoints(cs),
         alpha,
         beta,
         x,

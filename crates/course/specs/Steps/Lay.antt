@@ -4,7 +4,9 @@ use Rattle.rng.specs.declared.SplitMix64.{SplitMix64}
 use Rattle.rng.specs.Rules.SplitMix.{after, seeded}
 use Rattle.course.specs.Rules.Constants.{checkpoint_count}
 use Rattle.course.specs.Rules.Checkpoints.{checkpoints_of}
-use Rattle.course.specs.Rules.Lay.{attempt_on, ring_of}
+use Rattle.course.specs.Rules.Lay.{CoursePoints, attempt_on, ring_of, course_on, course_within}
+use Rattle.course.specs.Grader.Outcome.{CourseColumns, Outcome}
+use Rattle.course.specs.Grader.LayCall.{lay_cause, lay_at}
 use Rattle.course.specs.Rules.Lengths.{step_limit, laid_length}
 use Rattle.course.specs.Rules.Finder.{Destination}
 use Rattle.course.specs.Rules.Step.{Walk, TrackStep, Sight}
@@ -13,6 +15,8 @@ use Rattle.course.specs.Rules.Track.{step_alphas, step_betas, step_xs, step_ys, 
 use Rattle.course.specs.Rules.Tiles.{betas, xs, ys}
 use Rattle.course.specs.declared.checkpoints.Checkpoint.{Checkpoint}
 use Rattle.course.specs.declared.finder.Dest.{Dest}
+use Rattle.course.specs.declared.lay.Origin.{Origin}
+use Rattle.course.specs.declared.lay.Origin.TheVariants.{Seed, Checkpoints}
 use Rattle.course.specs.declared.step.Walk.{Walk as CodeWalk}
 use Rattle.course.specs.declared.step.TrackStep.{TrackStep as CodeTrackStep}
 use Rattle.course.specs.declared.step.Sight.{Sight as CodeSight}
@@ -114,6 +118,19 @@ tried_from (suc n) g = or_later (attempt_on (checkpoints_of checkpoint_count g))
 
 unfoldable pub tried_within : ℕ → ℕ → List TrackPoint
 tried_within attempts seed = tried_from attempts (seeded seed)
+
+-- what a course is laid from: what is tried, and the course
+abbrev pub tried_by : Origin → List TrackPoint
+tried_by (Seed attempts seed) = tried_within attempts seed
+tried_by (Checkpoints cs) = attempt_on cs
+
+abbrev pub course_by : Origin → CoursePoints
+course_by (Seed attempts seed) = course_within attempts seed
+course_by (Checkpoints cs) = course_on cs
+
+-- the call that lays it
+abbrev pub lay_by : Origin → CourseColumns → Outcome
+lay_by o l = lay_at (lay_cause l) (course_by o) l
 
 -- the ring stands in front of columns as they were before
 pub record Ringed (c c' : Columns) : Type 0 where
