@@ -11,23 +11,25 @@ use borrow.Author.Tests.{ltb-false}
 use Rattle.std.specs.Prelude.{Result, Ok, Err}
 use Rattle.course.specs.declared.cause.Cause.{Cause}
 use Rattle.form.specs.Rules.Bytes.{low, all_zero, word_bytes, leaves, store}
+use Rattle.form.specs.declared.table.Row.{Row}
 use Rattle.form.specs.declared.pack.NoRoom.{NoRoom}
 use Rattle.form.specs.declared.short.TooShort.{TooShort}
-use Rattle.form.specs.Rules.Form.{cut, joined, most_rows, map_of, standing, packed, Wrote, wrote, pack_into}
+use Rattle.form.specs.Rules.Form.{widths, cut, joined, most_rows, map_of, standing, packed, Wrote, wrote, pack_into}
 use Rattle.form.proofs.ByteLaws.{low-length, stored-whole}
 use Rattle.form.proofs.Filling.{Filling, begins, part-on, part-long, ends-whole, ends-with}
-use Rattle.form.proofs.TableLaws.{packed-length, pack-room}
+use Rattle.form.proofs.TableLaws.{packed-length, pack-room, widths-of}
 use Rattle.form.proofs.MapLaws.{left_out, cut-joined}
 use Rattle.form.proofs.LaterRows.{zeros-low}
 use Rattle.run.specs.Rules.Arguments.{save_room}
 use Rattle.run.specs.Grader.Widths.{full_words}
 use Rattle.run.specs.Grader.State.{State, unfit}
-use Rattle.run.specs.Grader.Saved.{Fields, fields_of, flags_of, wide_seed, narrow_part, wide_part, ten_fields, bytes_of, field_bytes, saved_form}
+use Rattle.run.specs.Grader.Numbers.{pose_count}
+use Rattle.run.specs.Grader.Saved.{Fields, fields_of, flags_of, wide_seed, narrow_part, wide_part, ten_fields, bytes_of, field_bytes, second_form, saved_form}
 use Rattle.run.specs.Grader.Save.{save_check, after_save, save_at, save_of}
 use Rattle.run.specs.Steps.Save.{seed_parts, first_fields, last_fields, first_bytes, last_from, all_bytes}
 use Rattle.run.specs.declared.saved.SeedParts.{SeedParts}
 use Rattle.run.proofs.CheckLaws.{passed}
-use Rattle.run.proofs.FieldSizes.{first_of, last_of, apart, words_long, Whole, bytes-sized, sized-length, first-length, last-length, all-bytes}
+use Rattle.run.proofs.FieldSizes.{first_of, last_of, apart, words_long, Whole, state-whole, bytes-sized, sized-length, first-length, last-length, all-bytes}
 
 -- ---- how long
 
@@ -134,20 +136,33 @@ the_length (Ok n) = n
 the_length (Err e) = e.needed
 
 -- a save that is not refused has room for its form
-pub save-packed : (most : ℕ) (s : State) (out out' : List ℕ) (a : Result Unit Cause) (r : Result ℕ NoRoom) → Whole full_words (fields_of s) → a ≡ save_check most s.setup s.progress (length out) → a ≡ Ok tt
-    → wrote r out' ≡ pack_into (saved_form (fields_of s)) out → r ≡ Ok (length (saved_form (fields_of s)))
-save-packed most s out out' a r h e z w =
-    let room = save-fits most s (length out) (sym e ∙ z) in
-    ap (λ (x : Wrote). x.length) (w ∙ sym (pack-room (saved_form (fields_of s)) out _ _ refl (omega (arith, room, form_small (fields_of s) h)) refl))
+module _ (most : ℕ) (s : State) (out out' full : List ℕ) (rows : List Row) (m : ℕ) (a : Result Unit Cause) (r : Result ℕ NoRoom) (credited : length s.credited ≡ full_words) (poses : length s.poses ≡ pose_count)
+    (table : rows ≡ second_form full_words) (all : full ≡ joined (bytes_of (fields_of s))) (map : m ≡ map_of (cut (take most_rows (widths rows)) full))
+    (p : wrote r out' ≡ pack_into (packed m (cut (widths rows) full)) out) (e : a ≡ save_check most s.setup s.progress (length out)) (z : a ≡ Ok tt) where
+  abbrev form : List ℕ
+  form = saved_form (fields_of s)
 
-pub save-accepted : (most : ℕ) (s : State) (out out' : List ℕ) (a : Result Unit Cause) (n : ℕ) (r : Result ℕ NoRoom) → Whole full_words (fields_of s) → a ≡ save_check most s.setup s.progress (length out) → a ≡ Ok tt
-    → wrote r out' ≡ pack_into (saved_form (fields_of s)) out → r ≡ Ok n → after_save (Ok n) out' ≡ save_of most s out
-unfolding save_of save_at
-save-accepted most s out out' a n r h e z w q =
-    let room = save-fits most s (length out) (sym e ∙ z) in
-    ap (λ (x : Wrote). after_save (Ok (the_length x.length)) x.out) (ap (λ (t : Result ℕ NoRoom). wrote t out') (sym q) ∙ w ∙ sym (pack-room (saved_form (fields_of s)) out _ _ refl (omega (arith, room, form_small (fields_of s) h)) refl))
-    ∙ ap (λ (j : Result Unit Cause). save_at j s out) (sym z ∙ e)
+  small : length form ≤ save_room
+  small = form_small (fields_of s) (state-whole full_words s credited poses)
 
--- the length is small
-pub save-length : (f : Fields) (r : Result ℕ NoRoom) (n : ℕ) → Whole full_words f → r ≡ Ok (length (saved_form f)) → r ≡ Ok n → n ≤ save_room
-save-length f r n h e w = omega (arith, ap the_length (sym w ∙ e), form_small f h)
+  room : save_room ≤ length out
+  room = save-fits most s (length out) (sym e ∙ z)
+
+  form-is : wrote r out' ≡ wrote (Ok (length form)) (form ++ drop (length form) out)
+  form-is =
+      form-packed (fields_of s) (widths rows) full out out' m r (state-whole full_words s credited poses) (ap widths table ∙ widths-of (field_bytes full_words) []) all map p
+      ∙ sym (pack-room form out _ _ refl (omega (arith, room, small)) refl)
+
+  pub save-packed : r ≡ Ok (length (saved_form (fields_of s)))
+  save-packed = ap (λ (x : Wrote). x.length) form-is
+
+  module _ (n : ℕ) (q : r ≡ Ok n) where
+    -- the length is small
+    pub save-length : n ≤ save_room
+    save-length = omega (arith, ap the_length (sym q ∙ save-packed), small)
+
+    pub save-accepted : after_save (Ok n) out' ≡ save_of most s out
+    unfolding save_of save_at
+    save-accepted =
+        ap (λ (x : Wrote). after_save (Ok (the_length x.length)) x.out) (ap (λ (t : Result ℕ NoRoom). wrote t out') (sym q) ∙ form-is)
+        ∙ ap (λ (j : Result Unit Cause). save_at j s out) (sym z ∙ e)

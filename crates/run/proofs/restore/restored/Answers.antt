@@ -29,9 +29,6 @@ returns-in_err-restore_check c =
     rw (p.1, p.2)
     (restore-refused full_words most_tiles a.bytes.now (lent_columns a.columns) a.n _ _ _ loaded_at c.restore_check.ensures c.in_err-restore_check.was)
 
-pub restore_check-requires : goal.restore_check-requires
-restore_check-requires c = c.at-stance.ensures ∙ c.poses_from-poses.ensures
-
 pub full_contact-requires : goal.full_contact-requires
 full_contact-requires c =
     let loaded_at = is-loaded (c.ok_or.ensures.ok_part ∙ ap result_ok c.in_ok-f.was) c.load.ensures in

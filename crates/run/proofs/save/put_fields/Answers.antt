@@ -1,23 +1,14 @@
 -- `run::save::put_fields` meets its contract. Assumes nothing.
 use mathlib.Core.Path.{◌≡◌, ap, ◌∙◌}
-use native.Mathlib.Omega.{arith}
 use lib.ListN.{length, take}
 use borrow.Author.Rules.{rules}
 use Rattle.run.specs.Grader.Widths.{full_words}
 use Rattle.run.specs.Grader.State.{view}
 use Rattle.run.specs.Grader.Numbers.{control_count, pose_count}
 use Rattle.run.specs.Grader.Saved.{fields_of}
-use Rattle.run.proofs.NumberLaws.{controls-taken}
 use Rattle.run.proofs.FieldSizes.{state-whole}
 use Rattle.run.proofs.SaveLaws.{fields-put}
 use Rattle.run.proofs.save.put_fields.Goals as goal
-
-pub put_last-requires : goal.put_last-requires
-put_last-requires c =
-    let poses-length : length c.args.run.poses ≡ pose_count =
-    search rules
-    in
-    record { controls_len = controls-taken _ _ c.put_car.ensures; poses_len = poses-length; full_len = omega (arith, c.requires) }
 
 pub returns : goal.returns
 unfolding view fields_of

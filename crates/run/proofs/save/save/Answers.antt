@@ -1,17 +1,12 @@
 -- `run::save::save` meets its contract. Assumes nothing.
-use mathlib.Core.List.{[]}
-use mathlib.Core.Path.{◌≡◌, ap, ◌∙◌}
+use mathlib.Core.Path.{◌≡◌}
 use native.Mathlib.Omega.{arith}
 use lib.ListN.{length}
 use borrow.Author.Rules.{rules}
-use Rattle.form.specs.Rules.Form.{widths}
-use Rattle.form.proofs.TableLaws.{widths-of}
 use Rattle.run.specs.Grader.Widths.{full_words, most_tiles}
 use Rattle.run.specs.Grader.State.{view}
 use Rattle.run.specs.Grader.Numbers.{pose_count}
-use Rattle.run.specs.Grader.Saved.{fields_of, field_bytes}
-use Rattle.run.proofs.FieldSizes.{state-whole}
-use Rattle.run.proofs.SaveLaws.{save-refused, form-packed, save-length, save-accepted, save-packed}
+use Rattle.run.proofs.SaveLaws.{save-refused, save-packed, save-length, save-accepted}
 use Rattle.std.proofs.lemmas.Result.{err_from_is_err_and}
 use Rattle.run.proofs.save.save.Goals as goal
 
@@ -30,10 +25,7 @@ unwrap-length-requires c =
     let poses-length : length c.args.run.poses ≡ pose_count =
     search rules
     in
-    let s = view c.args.run in
-    let h = state-whole full_words s credited-length poses-length in
-    let w = form-packed (fields_of s) _ _ c.args.out.now _ _ _ h (ap widths c.rows-rows.ensures ∙ widths-of (field_bytes full_words) []) c.put_fields.ensures c.map_of-map.ensures c.pack.ensures in
-    let e = save-packed most_tiles s c.args.out.now _ _ _ h c.save_check.ensures c.in_ok-save_check.was w in
+    let e = save-packed most_tiles (view c.args.run) c.args.out.now _ _ _ _ _ _ credited-length poses-length c.rows-rows.ensures c.put_fields.ensures c.map_of-map.ensures c.pack.ensures c.save_check.ensures c.in_ok-save_check.was in
     rw e
 
 pub overflow_cast-result : goal.overflow_cast-result
@@ -45,11 +37,8 @@ overflow_cast-result c =
     let poses-length : length c.args.run.poses ≡ pose_count =
     search rules
     in
-    let s = view c.args.run in
-    let h = state-whole full_words s credited-length poses-length in
-    let w = form-packed (fields_of s) _ _ c.args.out.now _ _ _ h (ap widths c.rows-rows.ensures ∙ widths-of (field_bytes full_words) []) c.put_fields.ensures c.map_of-map.ensures c.pack.ensures in
-    let e = save-packed most_tiles s c.args.out.now _ _ _ h c.save_check.ensures c.in_ok-save_check.was w in
-    omega (arith, save-length (fields_of s) _ _ h e c.unwrap-length.ensures)
+    let e = save-length most_tiles (view c.args.run) c.args.out.now _ _ _ _ _ _ credited-length poses-length c.rows-rows.ensures c.put_fields.ensures c.map_of-map.ensures c.pack.ensures c.save_check.ensures c.in_ok-save_check.was _ c.unwrap-length.ensures in
+    omega (arith, e)
 
 pub returns : goal.returns
 unfolding view
@@ -60,7 +49,4 @@ returns c =
     let poses-length : length c.args.run.poses ≡ pose_count =
     search rules
     in
-    let s = view c.args.run in
-    let h = state-whole full_words s credited-length poses-length in
-    let w = form-packed (fields_of s) _ _ c.args.out.now _ _ _ h (ap widths c.rows-rows.ensures ∙ widths-of (field_bytes full_words) []) c.put_fields.ensures c.map_of-map.ensures c.pack.ensures in
-    save-accepted most_tiles s c.args.out.now _ _ _ _ h c.save_check.ensures c.in_ok-save_check.was w c.unwrap-length.ensures
+    save-accepted most_tiles (view c.args.run) c.args.out.now _ _ _ _ _ _ credited-length poses-length c.rows-rows.ensures c.put_fields.ensures c.map_of-map.ensures c.pack.ensures c.save_check.ensures c.in_ok-save_check.was _ c.unwrap-length.ensures
