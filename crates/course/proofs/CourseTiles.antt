@@ -1,5 +1,5 @@
 -- The points and tiles of columns. Assumes nothing.
-use Rattle.std.proofs.Common.{◌≡◌, ℕ, zero, suc, ◌+◌, ◌-◌, ◌*◌, ◌<◌, ◌≤◌, Bool, true, ◌&&◌, List, [], ◌∷◌, ◌++◌, map, length, get_or, take, sym, refl, ap, ◌∙◌, subst, ap₂, add-one, zero-add, sub-one, arith, length-append, length-take-le, get_or-take, take-suc, ext_get_or}
+use Rattle.std.proofs.Common.{◌≡◌, ℕ, zero, suc, ◌+◌, ◌-◌, ◌*◌, ◌<◌, ◌≤◌, Bool, ◌&&◌, List, [], ◌∷◌, ◌++◌, map, length, get_or, take, sym, refl, ap, ◌∙◌, subst, ap₂, add-one, zero-add, arith, length-append, length-take-le, get_or-take, take-suc, ext_get_or}
 use Rattle.std.specs.List.{list_all, range_with_len}
 use Rattle.std.proofs.lemmas.List.FromFn.{map-range_with_len_more}
 use mathlib.Core.List.{map-append}
@@ -12,7 +12,6 @@ use Rattle.course.specs.Steps.Tiles.{puts, edges_at, quad_between}
 use Rattle.course.specs.Grader.Points.{good_point, all_good}
 use Rattle.course.specs.declared.tiles.TrackPoint.{TrackPoint}
 use Rattle.course.specs.declared.tiles.Edges.{Edges}
-use Rattle.course.proofs.BoolLaws.{swap}
 use Rattle.course.proofs.ColumnLaws.{Grown, grown-none, puts-grown}
 
 module _ (b e n : List Float) where
@@ -20,11 +19,6 @@ module _ (b e n : List Float) where
   unfolding points_of
   points-long zero = refl
   points-long (suc k) = length-append (points_of b e n k) _ ∙ ap (λ (m : ℕ). m + 1) (points-long k) ∙ add-one k
-
-  -- one more point
-  pub points-more : (k : ℕ) → points_of b e n (k + 1) ≡ points_of b e n k ++ (point_at b e n k ∷ [])
-  unfolding points_of
-  points-more k = rw add-one
 
   pub point-read : (k i : ℕ) → i < k → get_or (points_of b e n k) i no_point ≡ point_at b e n i
   unfolding points_of
@@ -87,18 +81,6 @@ good-list f (i ∷ is) = ap (λ (z : Bool). good_point (f i) && z) (good-list f 
 pub good-each : (b e n : List Float) (k : ℕ) → list_all (λ i. good_point (point_at b e n i)) (range_with_len 0 k) ≡ all_good (points_of b e n k)
 good-each b e n k = good-list (point_at b e n) (range_with_len 0 k) ∙ sym (ap all_good (points-each b e n k))
 
-pub good_none : (b e n : List Float) → all_good (points_of b e n 0) ≡ true
-unfolding all_good points_of
-good_none b e n = refl
-
-good-snoc : (ps : List TrackPoint) (p : TrackPoint) → all_good (ps ++ (p ∷ [])) ≡ good_point p && all_good ps
-unfolding all_good
-good-snoc [] p = refl
-good-snoc (q ∷ ps) p = ap (λ (z : Bool). good_point q && z) (good-snoc ps p) ∙ swap (good_point q) (good_point p) (all_good ps)
-
-pub good_more : (b e n : List Float) (k : ℕ) → all_good (points_of b e n (k + 1)) ≡ good_point (point_at b e n k) && all_good (points_of b e n k)
-good_more b e n k = ap all_good (points-more b e n k) ∙ good-snoc (points_of b e n k) (point_at b e n k)
-
 -- ---- tiles
 pub tiles-long : (ps : List TrackPoint) (k : ℕ) → length (tiles_to ps k) ≡ k * 8
 unfolding tiles_to eight
@@ -135,11 +117,6 @@ tiles-next ps q c l i h is g =
 pub tiles_more : (ps : List TrackPoint) (q : List (List Float)) (c c' l : List Float) (i : ℕ) → i * 8 + 8 ≤ length l → q ≡ tile_at ps i → c' ≡ puts (eight q) (i * 8) c → Grown (tiles_to ps i) c l (i * 8)
     → Grown (tiles_to ps (i + 1)) c' l ((i + 1) * 8)
 tiles_more ps q c c' l i h is e g = subst (λ (z : List Float). Grown (tiles_to ps (i + 1)) z l ((i + 1) * 8)) (sym e) (tiles-next ps q c l i h is g)
-
-pub before-later : (n i : ℕ) → (i ≡ 0 → ⊥) → i - 1 ≡ before_of n i
-unfolding before_of
-before-later n zero z = absurd (z refl)
-before-later n (suc i) z = sub-one (suc i)
 
 -- the quad of the edges of two points
 between : (p q : TrackPoint) → quad_between (edges_at p) (edges_at q) ≡ tile_quad p q

@@ -107,3 +107,6 @@ three-tenths = refl
 pub thousandth : decimal 1 1000 ≡ of_bits binary64 0x3f50624dd2f1a9fc
 unfolding decimal round of_bits
 thousandth = refl
+
+-- the literals of the code, for `using`
+pub ruleset literals = (width-bits, outer-bits, steep-bits, one-bits, sixteen, thousand, start-bits)

@@ -21,6 +21,7 @@ const OUTER: f64 = TRACK_WIDTH + BORDER;
 const STEEP: f64 = TRACK_TURN_RATE * 0.2;
 
 // Whether a turn is steep enough for a curb.
+#[tactic(auto, using(crate::proofs::Literals::literals), unfolding(crate::specs::Grader::Curbs::steep_turn))]
 fn is_steep(d: f64) -> bool
     ensures { result ≡ steep_turn d }
 {
@@ -98,6 +99,7 @@ impl PointColumns<'_> {
 }
 
 // The outer side of the turn from q to p.
+#[tactic(auto, using(crate::proofs::Literals::literals), unfolding(crate::specs::Grader::Curbs::side_of))]
 fn side_of(p: TrackPoint, q: TrackPoint) -> f64
     ensures { result ≡ side_of p q }
 {
@@ -116,6 +118,7 @@ fn edge_of(p: TrackPoint, t: SinCos, s: f64, w: f64) -> [f64; 2]
 }
 
 // The curb from p back to q.
+#[tactic(auto, using(crate::proofs::Literals::literals), unfolding(crate::specs::Grader::Curbs::curb_quad))]
 fn curb_quad(p: TrackPoint, q: TrackPoint) -> [[f64; 2]; 4]
     ensures { result ≡ curb_quad p q }
 {

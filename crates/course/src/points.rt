@@ -72,6 +72,7 @@ impl LayError {
 }
 
 // Whether a given point is within its range (cause 8).
+#[tactic(auto, using(crate::proofs::Literals::literals), unfolding(crate::specs::Grader::Points::good_point))]
 fn good_point(p: TrackPoint) -> bool
     ensures { result ≡ good_point p }
 {

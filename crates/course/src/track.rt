@@ -19,6 +19,7 @@ pub(crate) struct Part {
 }
 
 // Whether the angles pass through the start at i.
+#[tactic(auto, using(crate::proofs::Literals::literals), unfolding(crate::specs::Rules::Track::passes_at))]
 fn passes_at(alpha: &[f64], i: usize) -> bool
     requires { (0 < i) × (i < length alpha.now) }
     ensures { result ≡ passes_at alpha.now i }
