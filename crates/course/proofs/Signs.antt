@@ -1,26 +1,11 @@
--- Tests on floats: NaN, and the sign. Assumes nothing.
+-- Tests on floats: the sign. Assumes nothing.
 use Rattle.std.proofs.Common.{◌≡◌, ℕ, ◌*◌, true, false, T, eqb, ℤ, sym, refl, subst}
 use mathlib.Core.Bool.{false≢true}
 use Rattle.std.specs.Float.{float_signum, float_with_sign}
-use lib.Ieee.{of_int, Float, nan, inf, fin, is_nan, lt, mul, binary64, neg, up, down, round}
+use lib.Ieee.{of_int, Float, nan, inf, fin, lt, mul, binary64, neg, up, down, round}
 use Rattle.course.specs.Rules.Arithmetic.{natural}
 use Rattle.course.specs.Rules.Numeric.{signum_of, abs_of}
 use Rattle.course.proofs.Bounds.{plain, plain-round, neg-round}
-
--- what stands in a true comparison is no NaN
-pub number-of-lt : (x y : Float) → lt x y ≡ true → is_nan x ≡ false
-unfolding lt is_nan
-number-of-lt nan y h = absurd (false≢true h)
-number-of-lt (inf s) y h = refl
-number-of-lt (fin s m e) y h = refl
-
-pub number-of-lt-right : (x y : Float) → lt x y ≡ true → is_nan y ≡ false
-unfolding lt is_nan
-number-of-lt-right nan nan h = absurd (false≢true h)
-number-of-lt-right (inf s) nan h = absurd (false≢true h)
-number-of-lt-right (fin s m e) nan h = absurd (false≢true h)
-number-of-lt-right x (inf s) h = refl
-number-of-lt-right x (fin s m e) h = refl
 
 -- ---- the library's methods give what the definitions do
 pub signum-is : (x : Float) → float_signum x ≡ signum_of x

@@ -31,6 +31,7 @@ pub fn max(a: f64, b: f64) -> f64
 // The least so far, and a number: the lesser, a NaN passed over.
 // Kept as a pair with `greater`: one function that is passed the comparison would be a line as long as this one, and each call of it
 // would write the comparison beside.
+#[tactic(auto, unfolding(crate::specs::Rules::Numeric::min_of))]
 fn lesser(least: f64, x: f64) -> f64
     requires { is_nan least ≡ false }
     ensures value { result ≡ min_of least x }
@@ -40,6 +41,7 @@ fn lesser(least: f64, x: f64) -> f64
 }
 
 // The greatest so far, and a number: the greater, a NaN passed over.
+#[tactic(auto, unfolding(crate::specs::Rules::Numeric::max_of))]
 fn greater(greatest: f64, x: f64) -> f64
     requires { is_nan greatest ≡ false }
     ensures value { result ≡ max_of greatest x }

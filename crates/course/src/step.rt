@@ -82,8 +82,8 @@ fn turn_down(beta: f64, alpha: f64, left: u32) -> Option<(f64, u32)>
 }
 
 // Beta more tau while it is below alpha by more than 1.5 pi.
-// Kept beside `turn_down`: one loop for both would be passed the test and the turn, and its contract would have to tell both as
-// functions of beta. By the signs turned over it would be no pair, but then a beta of -tau gives -0 in place of 0.
+// Kept beside `turn_down`, since one loop for both is no plainer: it would be passed the test and the turn, and its contract would have
+// to tell both as functions of beta. With the signs turned over instead, a beta of -tau would give -0 in place of 0.
 fn turn_up(beta: f64, alpha: f64, left: u32) -> Option<(f64, u32)>
     ensures { result ≡ turn_up left beta alpha }
 {
@@ -98,6 +98,7 @@ fn turn_up(beta: f64, alpha: f64, left: u32) -> Option<(f64, u32)>
 }
 
 // Both, with four turns in all: the fifth refuses.
+#[tactic(auto, unfolding(crate::specs::Rules::Step::then_up, crate::specs::Rules::Step::turn_of))]
 fn turn(beta: f64, alpha: f64) -> Option<(f64, u32)>
     ensures { result ≡ turn_of beta alpha }
 {

@@ -232,6 +232,7 @@ pub fn cosine(a: f64) -> Result<f64, Cause>
 }
 
 // base + w * p, p the series of the arc tangent of w.
+#[tactic(auto, unfolding(crate::specs::Rules::Trig::arc))]
 fn arc_from(base: f64, w: f64) -> f64
     ensures { result ≡ arc base w }
 {
@@ -249,6 +250,7 @@ fn arc_tangent(t: f64) -> f64
 }
 
 // The smaller over the larger of two magnitudes.
+#[tactic(auto, unfolding(crate::specs::Rules::Trig::ratio_of))]
 fn ratio(ay: f64, ax: f64) -> f64
     ensures { result ≡ ratio_of ay ax }
 {
@@ -287,6 +289,7 @@ fn signed(y: f64, a: f64) -> f64
 }
 
 // The angle of (x, y), not both zero.
+#[tactic(auto, unfolding(crate::specs::Rules::Trig::direction_of))]
 fn direction(y: f64, x: f64) -> f64
     ensures { result ≡ direction_of y x }
 {

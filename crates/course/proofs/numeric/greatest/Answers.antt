@@ -10,15 +10,6 @@ pub greater-requires : goal.greater-requires
 unfolding is_nan of_bits neg
 greater-requires c = refl
 
-pub greater-requires-2 : goal.greater-requires-2
-greater-requires-2 c = c.greater.ensures.result_value
-
-pub greater-requires-3 : goal.greater-requires-3
-greater-requires-3 c = c.greater-2.ensures.result_value
-
-pub greater-requires-4 : goal.greater-requires-4
-greater-requires-4 c = c.greater-3.ensures.result_value
-
 pub returns : goal.returns
 unfolding greatest_of of_bits f64_min f64_max decimal round neg
 returns c =

@@ -10,15 +10,6 @@ pub lesser-requires : goal.lesser-requires
 unfolding is_nan of_bits neg
 lesser-requires c = refl
 
-pub lesser-requires-2 : goal.lesser-requires-2
-lesser-requires-2 c = c.lesser.ensures.result_value
-
-pub lesser-requires-3 : goal.lesser-requires-3
-lesser-requires-3 c = c.lesser-2.ensures.result_value
-
-pub lesser-requires-4 : goal.lesser-requires-4
-lesser-requires-4 c = c.lesser-3.ensures.result_value
-
 pub returns : goal.returns
 unfolding least_of of_bits f64_max decimal round neg
 returns c =

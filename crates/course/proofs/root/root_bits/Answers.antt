@@ -1,7 +1,7 @@
 -- `course::root::root_bits` meets its contract: m * 2 ^ h is X * 4 ^ K, with X of 105 or 106 digits, by h's parity; the whole root of 4 * X, halved, is rounded. Assumes nothing.
 use Rattle.std.proofs.Common.{◌≡◌, ℕ, ◌+◌, ◌-◌, ◌*◌, ◌/◌, ◌%◌, ◌≤◌, arith}
 use Rattle.course.specs.Steps.Root.{significand, power}
-use Rattle.course.proofs.RootScale.{reaches, shifted, root-small, rounded, bits_at}
+use Rattle.course.proofs.RootScale.{reaches, shifted, rounded, bits_at}
 use Rattle.course.proofs.root.root_bits.Goals as goal
 
 -- the parity of the power, and half of the rest
@@ -18,16 +18,6 @@ pub whole_root-w-requires : goal.whole_root-w-requires
 whole_root-w-requires c =
     let b = c.args.b in
     (reaches (significand b) (odd b) (omega arith) (omega arith) (omega arith), shifted (significand b) (odd b) (omega arith) (omega arith), omega arith)
-
-pub overflow_add-result-2 : goal.overflow_add-result-2
-overflow_add-result-2 c =
-    let b = c.args.b in
-    omega (arith, root-small (significand b) (odd b) c.whole_root-w.result (omega arith) (omega arith) c.whole_root-w.ensures)
-
-pub overflow_add-result-3 : goal.overflow_add-result-3
-overflow_add-result-3 c =
-    let b = c.args.b in
-    omega (arith, root-small (significand b) (odd b) c.whole_root-w.result (omega arith) (omega arith) c.whole_root-w.ensures)
 
 pub returns : goal.returns
 returns c =
