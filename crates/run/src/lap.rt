@@ -6,6 +6,7 @@ use course::constants::PLAYFIELD;
 use course::numeric;
 
 // The lap flag after a contact, by the credit of this contact.
+#[tactic(auto, unfolding(crate::specs::Rules::Lap::lap_of, course::specs::Rules::Arithmetic::natural))]
 pub(crate) fn update_lap(lap: bool, zero: bool, credited: u32, n: u32, share: f64) -> bool
     ensures { result ≡ lap_of lap zero credited n share }
 {

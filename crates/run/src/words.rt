@@ -27,6 +27,7 @@ pub(crate) fn put(set: &mut [u64], id: usize)
 }
 
 // The empty set.
+#[tactic(auto, using(crate::proofs::CreditLaws::zeros_empty))]
 pub(crate) fn clear(set: &mut [u64])
     ensures { set.new ≡ set_of (length set.old) (λ t. false) }
 {
