@@ -56,8 +56,8 @@ empty-words m ws el h = is-set_of m ws (λ t. false) el fit (λ t b. ap (λ (w :
         ]
 
 -- zeros hold nothing
-pub zeros-empty : (m : ℕ) → replicate m 0 ≡ set_of m (λ t. false)
-zeros-empty m = empty-words m (replicate m 0) (length-replicate m 0) (λ j h. get_d-zeros m j)
+pub zeros_empty : (m : ℕ) → replicate m 0 ≡ set_of m (λ t. false)
+zeros_empty m = empty-words m (replicate m 0) (length-replicate m 0) (λ j h. get_d-zeros m j)
 
 pub ones-few : (w : ℕ) → w < 2 ^ 64 → ones w ≤ 64
 ones-few w h = subst (λ (x : ℕ). x ≤ 64) (sym (ones-bits w h)) (few 64 (bit_of w))

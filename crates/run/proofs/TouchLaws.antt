@@ -49,10 +49,10 @@ unfolding every_of
 every-none p = refl
 
 -- as the library tests them
-pub every-by_all : (p : ℕ → Bool) (xs : List ℕ) → list_all p xs ≡ every_of p xs
+pub every_by_all : (p : ℕ → Bool) (xs : List ℕ) → list_all p xs ≡ every_of p xs
 unfolding every_of
-every-by_all p [] = refl
-every-by_all p (x ∷ xs) = ap (λ (b : Bool). p x && b) (every-by_all p xs)
+every_by_all p [] = refl
+every_by_all p (x ∷ xs) = ap (λ (b : Bool). p x && b) (every_by_all p xs)
 
 pub every-at : (p : ℕ → Bool) (xs : List ℕ) (i : ℕ) → every_of p xs ≡ true → i < length xs → p (get_or xs i 0) ≡ true
 unfolding every_of

@@ -1,5 +1,5 @@
-// One contact of four wheels over the lent course (document 01, "Touch"; the Rust's `contact_pass`), in place over sets
-// of any number of words: first what each wheel touches now, then the credit of what it entered.
+// One contact of four wheels over the lent course (document 01, "Touch"; the Rust's `contact_pass`), in place over a state's
+// sets: first what each wheel touches now, then the credit of what it entered.
 ghost use Rattle.std.specs.Prelude.{◌≡◌, true, not, ◌&&◌, ◌*◌, ◌<◌, ◌≤◌, length};
 ghost use Rattle.run.specs.Grader.Words.{member};
 ghost use Rattle.run.specs.Rules.Wheel.{quad_of};

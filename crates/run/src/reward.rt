@@ -12,13 +12,15 @@ pub struct Weights {
 }
 
 // The Rust's default weights.
-pub fn default_weights() -> Weights
-    ensures { result ≡ default_weights }
-{
-    Weights {
-        tile: 1000.0,
-        step: -0.1,
-        off_playfield: -100.0,
+impl Default for Weights {
+    ghost is_default = { λ w. w ≡ default_weights };
+
+    fn default() -> Weights {
+        Weights {
+            tile: 1000.0,
+            step: -0.1,
+            off_playfield: -100.0,
+        }
     }
 }
 

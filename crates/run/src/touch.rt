@@ -33,6 +33,7 @@ impl Columns<'_> {
     }
 
     // The cell may be looked up: no cause 10.
+    #[tactic(auto, unfolding(crate::specs::Grader::Touch::sound_cell), using(crate::proofs::TouchLaws::every_by_all))]
     fn cell_sound(self, n: usize, cell: usize) -> bool
         ensures { result ≡ sound_cell self.entry.offsets.now self.entry.list.now n cell }
     {

@@ -27,6 +27,7 @@ pub(crate) fn put(set: &mut [u64], id: usize)
 }
 
 // The empty set.
+#[tactic(auto, using(crate::proofs::CreditLaws::zeros_empty))]
 pub(crate) fn clear(set: &mut [u64])
     ensures { set.new ≡ set_of (length set.old) (λ t. false) }
 {
@@ -50,7 +51,7 @@ pub(crate) fn credit(credited: &mut [u64], before: &[u64], wheel: &[u64], n: usi
         let entered = now & !last;
         // Mostly nothing was entered, and the count is dear where the processor has no instruction for it.
         if entered != 0 {
-            fresh += u64::count_ones(entered & !credited[i]);
+            fresh += (entered & !credited[i]).count_ones();
             credited[i] |= entered;
         }
     }

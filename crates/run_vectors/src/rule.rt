@@ -37,7 +37,7 @@ pub fn replay_reward<W: Write>(out: &mut W, record: Record<'_>) -> io::Result<()
 }
 
 pub fn replay_weights<W: Write>(out: &mut W) -> io::Result<()> {
-    let w = reward::default_weights();
+    let w = Weights::default();
     writeln!(
         out,
         "{}\n{}\n{}",

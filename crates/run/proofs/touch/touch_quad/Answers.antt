@@ -2,7 +2,7 @@
 use Rattle.run.proofs.TouchLaws.{tested-is, sound-ids}
 use Rattle.run.specs.Grader.Widths.{full_words}
 use mathlib.Core.Bool.{false}
-use Rattle.run.proofs.CreditLaws.{zeros-empty}
+use Rattle.run.proofs.CreditLaws.{zeros_empty}
 use Rattle.run.proofs.WordLaws.{length-set_of}
 use Rattle.run.proofs.CellLaws.{Among, among_last, as-before, no_cell, one_cell, same-cell, all-touched}
 use Rattle.std.specs.Prelude.{IfSome}
@@ -20,7 +20,7 @@ use Rattle.run.proofs.touch.touch_quad.Goals.{then-ne, else-ne}
 
 pub loop-cell-init : goal.loop-cell-init
 loop-cell-init c = (
-  no_cell _ _ _ _ c.args.cells.now full_words _ _ (zeros-empty full_words) (c.clear.ensures ∙ ap (λ (m : ℕ). set_of m (λ t. false)) c.requires.room),
+  no_cell _ _ _ _ c.args.cells.now full_words _ _ (zeros_empty full_words) (c.clear.ensures ∙ ap (λ (m : ℕ). set_of m (λ t. false)) c.requires.room),
   tt,
 )
 
