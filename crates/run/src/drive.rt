@@ -23,7 +23,7 @@ pub(crate) struct Passed {
     pub forces: [Force; 4],
 }
 
-// What the driver does in a tick, in the order of its numbers.
+// What a driver does in a tick, in the order of the numbers from 0.
 #[derive(Clone, Copy, Debug, PartialEq, Eq)]
 pub enum Action {
     Nothing,
@@ -193,15 +193,14 @@ fn on_road(wheels: &[u64], words: usize, w: usize) -> bool
 }
 
 // Which wheels touched a tile at the last contact.
-// Kept as a loop: it is the one place that calls the test, so that this is compiled into it.
 #[tactic(auto, unfolding(crate::specs::Steps::Drive::roads_to), using(crate::proofs::RoadLaws::roads_more, crate::proofs::RoadLaws::roads_all))]
 fn roads_of(wheels: &[u64], words: usize) -> [bool; 4]
     requires { 4 * words ≤ length wheels.now }
     ensures { result ≡ roads_of words wheels.now }
 {
     let mut roads = [false; 4];
-    for w in 0..4 {
-        roads[w] = on_road(wheels, words, w);
+    for (w, road) in roads.iter_mut().enumerate() {
+        *road = on_road(wheels, words, w);
     }
     roads
 }

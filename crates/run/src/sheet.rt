@@ -26,7 +26,7 @@ fn share(credited: u32, n: u32) -> u32
     requires { (0 < n) × (credited ≤ n) }
     ensures { result ≡ share_of credited n }
 {
-    (1000 * (credited as u64) / (n as u64)) as u32
+    (1000 * u64::from(credited) / u64::from(n)) as u32
 }
 
 // The figures of a run, ended or not; refused where its counts are not those of a run. They are read from what start fixed and what

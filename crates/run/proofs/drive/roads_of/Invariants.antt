@@ -4,4 +4,4 @@ use mathlib.Core.Path.{◌≡◌}
 use Rattle.run.proofs.drive.roads_of.Given as goal
 
 abbrev pub invariant-loop-w : goal.invariant-loop-w
-invariant-loop-w l = l.roads ≡ roads_to l.words l.wheels l.w
+invariant-loop-w l = l.road-items ≡ roads_to l.words l.wheels l.w
