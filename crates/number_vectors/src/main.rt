@@ -64,14 +64,9 @@ impl Kind for Operation {
 // What a call answers that may refuse.
 fn line_angle<W: Write>(out: &mut W, answer: Result<f64, Cause>) -> io::Result<()> {
     match answer {
-        Ok(x) => line_float(out, x),
+        Ok(x) => writeln!(out, "{}", Bits(x)),
         Err(cause) => line::refused(out, cause),
     }
-}
-
-fn line_float<W: Write>(out: &mut W, x: f64) -> io::Result<()> {
-    let bits = Bits(x);
-    writeln!(out, "{bits}")
 }
 
 // The answer of one record. An operation leaves out the arguments that it does not take.
@@ -83,13 +78,13 @@ fn line_answer<W: Write>(out: &mut W, operation: Operation, record: Record<'_>) 
         Operation::Sine => line_angle(out, trig::sine(a)),
         Operation::Cosine => line_angle(out, trig::cosine(a)),
         Operation::Atan2 => line_angle(out, trig::atan2(a, b)),
-        Operation::Sqrt => line_float(out, root::sqrt(a)),
+        Operation::Sqrt => writeln!(out, "{}", Bits(root::sqrt(a))),
         Operation::Cell => writeln!(out, "{}", cell::cell_of(a)),
-        Operation::Abs => line_float(out, numeric::abs(a)),
-        Operation::Min => line_float(out, numeric::min(a, b)),
-        Operation::Max => line_float(out, numeric::max(a, b)),
-        Operation::Clamp => line_float(out, numeric::clamp(a, b, c)),
-        Operation::Signum => line_float(out, numeric::signum(a)),
+        Operation::Abs => writeln!(out, "{}", Bits(numeric::abs(a))),
+        Operation::Min => writeln!(out, "{}", Bits(numeric::min(a, b))),
+        Operation::Max => writeln!(out, "{}", Bits(numeric::max(a, b))),
+        Operation::Clamp => writeln!(out, "{}", Bits(numeric::clamp(a, b, c))),
+        Operation::Signum => writeln!(out, "{}", Bits(numeric::signum(a))),
         Operation::Inside => writeln!(out, "{}", Flag(numeric::inside(a, b))),
     }
 }

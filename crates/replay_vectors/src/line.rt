@@ -18,15 +18,17 @@ pub fn started<W: Write>(out: &mut W, answer: Result<StartValues, Cause>) -> io:
 
 // Tick, credited, n, lap, ended, fallback, share.
 fn figures<W: Write>(out: &mut W, s: RunSheet) -> io::Result<()> {
-    write!(out, "sheet {} {} {}", s.tick, s.credited, s.n)?;
-    write!(
+    writeln!(
         out,
-        " {} {} {}",
+        "sheet {} {} {} {} {} {} {}",
+        s.tick,
+        s.credited,
+        s.n,
         Flag(s.lap),
         Flag(s.ended),
-        Flag(s.fallback)
-    )?;
-    writeln!(out, " {}", s.share)
+        Flag(s.fallback),
+        s.share
+    )
 }
 
 pub fn sheet<W: Write>(out: &mut W, answer: Result<RunSheet, Cause>) -> io::Result<()> {
@@ -47,8 +49,8 @@ fn forces<W: Write>(out: &mut W, numbers: &[f64]) -> io::Result<()> {
 
 // New tiles, n, off, lap, ended: the flags as bits of a word.
 fn settled<W: Write>(out: &mut W, fresh: u32, n: u32, flags: u32) -> io::Result<()> {
-    write!(out, "settled {fresh} {n}")?;
-    writeln!(out, " {} {} {}", flags % 2, flags / 2 % 2, flags / 4)
+    let [off, lap, ended] = [flags % 2, flags / 2 % 2, flags / 4];
+    writeln!(out, "settled {fresh} {n} {off} {lap} {ended}")
 }
 
 // The answer that four words and twelve numbers hold, by the first word: forces, a settle or a refusal. A call that was not

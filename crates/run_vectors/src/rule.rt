@@ -13,14 +13,8 @@ pub fn replay_sheet<W: Write>(out: &mut W, run: &Run) -> io::Result<()> {
     match sheet::sheet(run.setup, run.progress) {
         Ok(s) => {
             writeln!(out, "{}\n{}\n{}", s.tick, s.credited, s.n)?;
-            writeln!(
-                out,
-                "{}\n{}\n{}",
-                Flag(s.lap),
-                Flag(s.ended),
-                Flag(s.fallback)
-            )?;
-            writeln!(out, "{}", s.share)
+            writeln!(out, "{}\n{}", Flag(s.lap), Flag(s.ended))?;
+            writeln!(out, "{}\n{}", Flag(s.fallback), s.share)
         }
         Err(cause) => line::refused(out, cause),
     }

@@ -2,8 +2,8 @@
 use crate::{hash, kind, lent};
 use run::state::Run;
 use run::{restore, save};
-use std::io;
 use std::io::Write;
+use std::{fmt, io};
 use vectors::columns::{Columns, front, front_mut};
 use vectors::line;
 use vectors::record::Record;
@@ -20,22 +20,24 @@ pub fn line_last<W: Write>(out: &mut W, run: &Run) -> io::Result<()> {
     writeln!(out, "{}", run.seed)
 }
 
-// A line with two digits for each byte.
-fn line_bytes<W: Write>(out: &mut W, bytes: &[u8]) -> io::Result<()> {
-    for byte in bytes {
-        write!(out, "{byte:02x}")?;
+// Bytes, printed in two hexadecimal digits each.
+#[derive(Clone, Copy)]
+struct Hex<'a>(&'a [u8]);
+
+impl fmt::Display for Hex<'_> {
+    fn fmt<W: fmt::Write>(&self, f: &mut fmt::Formatter<W>) -> fmt::Result {
+        for byte in self.0 {
+            write!(f, "{byte:02x}")?;
+        }
+        Ok(())
     }
-    writeln!(out)
 }
 
 // A save into a part of the output: its length, and as many of the first bytes as are asked for; and a hash of the whole.
 pub fn replay_save<W: Write>(out: &mut W, record: Record<'_>, run: Run) -> io::Result<()> {
     let mut form = [165u8; 700];
     match save::save(run, front_mut(&mut form, record.word(1))) {
-        Ok(length) => {
-            writeln!(out, "{length}")?;
-            line_bytes(out, front(&form, record.word(2)))?;
-        }
+        Ok(length) => writeln!(out, "{length}\n{}", Hex(front(&form, record.word(2))))?,
         Err(cause) => line::refused(out, cause)?,
     }
     line::column(out, &form)
