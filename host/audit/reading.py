@@ -217,7 +217,7 @@ def read_source(path, crate, root):
         for path in used_paths(m[1]):
             file.used[path[-1]] = path
     for at, line in enumerate(file.text):
-        take_names(file, line)
+        take_names(file, line.strip())
         m = IMPL.match(line)
         of = m[1] if m else (None if line.startswith("}") else of)
         m = DECLARED.match(line)
