@@ -66,7 +66,8 @@ impl Rect {
     pub(crate) fn pack(self) -> f64
         ensures { Packs result (rect_as self) }
     {
-        f64::from_bits((self.x0 + self.x1 * 256 + self.y0 * 65536 + self.y1 * 16777216) as u64)
+        let sides = [self.x0 as u8, self.x1 as u8, self.y0 as u8, self.y1 as u8];
+        f64::from_bits(u32::from_le_bytes(sides) as u64)
     }
 
     // The rectangle that a number packs.
@@ -75,12 +76,12 @@ impl Rect {
         requires { Packed v }
         ensures { rect_as result ≡ rect_in v }
     {
-        let b = f64::to_bits(v) as usize;
+        let [x0, x1, y0, y1, ..] = f64::to_bits(v).to_le_bytes();
         Rect {
-            x0: b % 256,
-            x1: b / 256 % 256,
-            y0: b / 65536 % 256,
-            y1: b / 16777216 % 256,
+            x0: x0 as usize,
+            x1: x1 as usize,
+            y0: y0 as usize,
+            y1: y1 as usize,
         }
     }
 }
