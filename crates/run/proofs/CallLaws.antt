@@ -12,7 +12,6 @@ use lib.Ieee.{Float}
 use borrow.Author.Tests.{ltb-false, leb-false, not-false}
 use Rattle.course.specs.Grader.Cause.{number_of, cause_number}
 use Rattle.course.specs.declared.cause.Cause.{Cause}
-use Rattle.course.specs.declared.cause.Cause.TheVariants.{State as NoRun, Length, Turn, Limit, Range, Index}
 use Rattle.course.specs.Rules.Lengths.{most_points, column_length, quad_numbers, offset_count}
 use Rattle.course.proofs.LengthLaws.{points-fit}
 use Rattle.run.specs.Grader.State.{State, state_of, Columns, short_of, unfit}

@@ -7,8 +7,8 @@ use native.Mathlib.Omega.{arith}
 use native.Mathlib.Numerals.{add-one}
 use native.Mathlib.Decide.{ℕ_discrete, dec_lt}
 use lib.Dec.{eqb}
-use lib.ListN.{get_or, set, drop}
-use lib.Seq.{get_or-take, get_or-drop}
+use lib.ListN.{get_or, set, take, drop, length, length-drop}
+use lib.Seq.{get_or-take, get_or-drop, length-take-le}
 use borrow.Author.Tests.{eqb-true, not-false}
 use Rattle.run.specs.Rules.Below.{any_below}
 use Rattle.run.specs.Grader.Contact.{wheel_part}
@@ -23,12 +23,28 @@ unfolding any_below any_stands
 stands_none ws from = refl
 
 -- one word more
-pub stands_more : (ws : List ℕ) (from i : ℕ) (b : Bool) → b ≡ any_stands i ws from → (b || not (eqb (get_or ws (from + i) 0) 0)) ≡ any_stands (i + 1) ws from
+stands_more : (ws : List ℕ) (from i : ℕ) (b : Bool) → b ≡ any_stands i ws from → (b || not (eqb (get_or ws (from + i) 0) 0)) ≡ any_stands (i + 1) ws from
 unfolding any_below any_stands stands
 stands_more ws from i b e = ap (λ (a : Bool). a || stands ws from i) e ∙ ap (λ (k : ℕ). any_below k (stands ws from)) one
   where
     one : suc i ≡ i + 1
     one = omega arith
+
+-- the words looked at are a part of the list
+part_long : (ws : List ℕ) (from count : ℕ) → from + count ≤ length ws → length (take (from + count - from) (drop from ws)) ≡ count
+part_long ws from count h = length-take-le (from + count - from) (drop from ws) (omega (arith, length-drop from ws, h)) ∙ omega arith
+
+pub stands_next : (ws : List ℕ) (from count i : ℕ) (b : Bool) → from + count ≤ length ws → i < length (take (from + count - from) (drop from ws)) → b ≡ any_stands i ws from
+    → (b || not (eqb (get_or (take (from + count - from) (drop from ws)) i 0) 0)) ≡ any_stands (i + 1) ws from
+stands_next ws from count i b h l e =
+    let k : i < from + count - from = omega (arith, part_long ws from count h, l) in
+    let item = get_or-take (from + count - from) (drop from ws) i 0 k ∙ get_or-drop from ws i 0 in
+    ap (λ (x : ℕ). b || not (eqb x 0)) item ∙ stands_more ws from i b e
+
+-- all of them
+pub stands_end : (ws : List ℕ) (from count i : ℕ) (b : Bool) → from + count ≤ length ws → i ≤ length (take (from + count - from) (drop from ws))
+    → length (take (from + count - from) (drop from ws)) ≤ i → b ≡ any_stands i ws from → b ≡ any_stands count ws from
+stands_end ws from count i b h l m e = e ∙ ap (λ (k : ℕ). any_stands k ws from) (omega (arith, part_long ws from count h, l, m))
 
 -- a word that does not stand is 0
 falls : (ws : List ℕ) (from j : ℕ) → stands ws from j ≡ false → get_or ws (from + j) 0 ≡ 0

@@ -161,14 +161,14 @@ fn motion_ok(m: Motion) -> bool
 
 // Whether one of `count` words from `from` on is not 0.
 // Kept as a loop that reads them all: one of known length the compiler unrolls, and it reads several words at a time.
-#[tactic(auto, using(crate::proofs::RoadLaws::stands_none, crate::proofs::RoadLaws::stands_more))]
+#[tactic(auto, using(crate::proofs::RoadLaws::stands_none, crate::proofs::RoadLaws::stands_next, crate::proofs::RoadLaws::stands_end))]
 fn any_stands(wheels: &[u64], from: usize, count: usize) -> bool
     requires { from + count ≤ length wheels.now }
     ensures { result ≡ any_stands count wheels.now from }
 {
     let mut any = false;
-    for i in 0..count {
-        any |= wheels[from + i] != 0;
+    for word in &wheels[from..from + count] {
+        any |= *word != 0;
     }
     any
 }

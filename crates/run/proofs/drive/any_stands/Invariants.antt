@@ -3,5 +3,5 @@ use mathlib.Core.Path.{◌≡◌}
 use Rattle.run.specs.Steps.Drive.{any_stands}
 use Rattle.run.proofs.drive.any_stands.Given as goal
 
-abbrev pub invariant-loop-i : goal.invariant-loop-i
-invariant-loop-i l = l.any ≡ any_stands l.i l.wheels l.from
+abbrev pub invariant-loop-word : goal.invariant-loop-word
+invariant-loop-word l = l.any ≡ any_stands l.word-index l.wheels l.from
