@@ -206,7 +206,9 @@ pub(crate) fn sin_cos(a: f64) -> SinCos
     turned(a, quarter_turns(a))
 }
 
-// Cosine and sine of a, |a| at most 16, else cause 8.
+// Cosine and sine of a, |a| at most 16, else cause 8. It is compiled into the two that call it, where both results stay in
+// registers.
+#[inline(always)]
 fn checked_sin_cos(a: f64) -> Result<SinCos, Cause>
     ensures cosine { result_map_both (λ t. t.cos) (λ e. e) result ≡ cosine_call a }
     ensures sine { result_map_both (λ t. t.sin) (λ e. e) result ≡ sine_call a }
