@@ -40,6 +40,7 @@ pub fn put<T: Copy>(col: &mut [T], place: u64, number: T)
 }
 
 // The columns of a course.
+// Kept beside course's `LentColumns`, which is the seven as a call is lent them: these own what those are parts of.
 #[derive(Drop)]
 pub struct Columns {
     pub alpha: Vec<f64>,
