@@ -61,7 +61,7 @@ impl Rect {
         self.width() * (self.y1 + 1).saturating_sub(self.y0)
     }
 
-    // The rectangle as one number, eight bits for each side.
+    // The rectangle as one number, a byte for each side.
     // Kept in a number's bits: the grader has no memory of its own, and the scratch it is lent is a column of numbers.
     pub(crate) fn pack(self) -> f64
         ensures { Packs result (rect_as self) }

@@ -32,9 +32,6 @@ write_curbs-found-requires c =
     let f = fits c.column_length-m.ensures.value p in
     rw c.in_ok-points.ensures.count (omega (arith, f.few, f.small), omega (arith, f.few, f.quads), omega (arith, f.few, f.white))
 
-pub overflow_mul-m : goal.overflow_mul-m
-overflow_mul-m c = omega (arith, c.column_length-m.ensures.upper_bound)
-
 -- what the code did
 record Written (b e n : List Float) (k m : ℕ) (q : List Float) (w : List ℕ) (found : ℕ) (q' : List Float) (w' : List ℕ) : Type 0 where
   passed : Passed b e n k (curb_room m q w)

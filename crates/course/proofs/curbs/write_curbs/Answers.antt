@@ -6,21 +6,9 @@ use Rattle.course.proofs.curbs.write_curbs.Goals as goal
 pub loop-i-init : goal.loop-i-init
 loop-i-init c = curbs-none _ _ _ _ _ _
 
-pub put_curb-m-requires : goal.put_curb-m-requires
-put_curb-m-requires c =
-    let t = c.loop-i.invariant in
-    let r = c.requires in
-    record { i_in_bounds = (t.few, c.loop-i-test.true); room = (r.0, omega (arith, r.1, t.same-quads), omega (arith, r.2, t.same-white)) }
-
 pub loop-i-preserved : goal.loop-i-preserved
 loop-i-preserved c =
     let l = c.loop-i in
     let t = c.loop-i-test.true in
     let r = c.requires in
     curbs-more _ _ _ _ _ _ l.i _ _ _ _ _ _ (omega (arith, t, r.0, r.1)) (omega (arith, t, r.0, r.2)) l.invariant c.put_curb-m.ensures
-
-pub shape_of-quads : goal.shape_of-quads
-shape_of-quads c = c.loop-i.invariant.same-quads
-
-pub shape_of-white : goal.shape_of-white
-shape_of-white c = c.loop-i.invariant.same-white
