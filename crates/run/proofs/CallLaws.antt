@@ -4,7 +4,6 @@ use mathlib.Core.List.{List}
 use mathlib.Core.Path.{◌≡◌, sym, ap, ap₂, ◌∙◌, subst}
 use Prim.Native.Nat.{ℕ, ◌*◌, ◌≤◌, ◌<◌}
 use native.Mathlib.Omega.{arith}
-use Rattle.std.specs.List.{flat_map}
 use Rattle.std.specs.Prelude.{Result, Ok, Err}
 use lib.Dec.{ltb, leb}
 use lib.ListN.{length}
@@ -16,16 +15,13 @@ use Rattle.course.specs.Rules.Lengths.{most_points, column_length, quad_numbers,
 use Rattle.course.proofs.LengthLaws.{points-fit}
 use Rattle.run.specs.Grader.State.{State, state_of, Columns, short_of, unfit}
 use Rattle.run.specs.Rules.Arguments.{poses_ok, short_columns, settings_ok, places_ok}
-use Rattle.run.specs.Grader.Touch.{sound_cell, sound_poses, touched_by}
+use Rattle.run.specs.Grader.Touch.{sound_poses, touched_by}
 use Rattle.run.specs.Rules.Wheel.{quad_of}
 use Rattle.run.specs.Grader.Words.{member}
 use Rattle.run.specs.Grader.Contact.{entered, Contacted, contacted, contact_of}
 use Rattle.course.proofs.BoolLaws.{or_no}
 use Rattle.run.proofs.CheckLaws.{passed, cause-by, none-number}
-use Rattle.run.proofs.CellLaws.{cells-sound-is}
 use Rattle.run.proofs.CreditLaws.{few}
-use Rattle.run.specs.Steps.Touch.{sixteen_cells}
-use Rattle.run.specs.Rules.Below.{every_of}
 use Rattle.run.specs.Grader.Numbers.{pose_numbers}
 use Rattle.run.specs.Rules.Lap.{lap_of, off_field}
 use Rattle.run.specs.declared.start.Settings.{Settings}
@@ -36,7 +32,6 @@ use Rattle.run.specs.declared.state.Setup.{Setup}
 use Rattle.run.specs.declared.state.Progress.{Progress}
 use Rattle.run.specs.declared.state.Car.{Car}
 use Rattle.run.specs.declared.state.Pose.{Pose}
-use Rattle.run.specs.declared.settle.SettleValues.{SettleValues}
 
 -- the lent tiles are long enough for n of them
 pub long : (tiles offsets n most : ℕ) → short_columns n tiles offsets ≡ false → ltb most n ≡ false → most ≤ most_points → n * 8 ≤ tiles
@@ -46,10 +41,6 @@ long tiles offsets n most h b m =
     let k = points-fit n (omega (arith, ltb-false most n b, m)) in
     omega (arith, t, k)
 
--- cause 10, by the cells of a stance at the poses
-pub cells_tell : (offs l : List ℕ) (n : ℕ) (ps at : List Pose) (ks : List (List ℕ)) (b : Bool) → ks ≡ sixteen_cells at → at ≡ ps → b ≡ every_of (sound_cell offs l n) (flat_map (λ x. x) ks) → b ≡ sound_poses offs l n ps
-cells_tell offs l n ps at ks b own e h = cells-sound-is offs l n ps (own ∙ ap sixteen_cells e) h
-
 -- ---- start
 pub record StartFacts (most : ℕ) (l : Columns) (a : Settings) : Type 0 where
   pub some : 0 < a.n
@@ -57,10 +48,10 @@ pub record StartFacts (most : ℕ) (l : Columns) (a : Settings) : Type 0 where
   pub tiles : a.n * 8 ≤ length l.tiles
   pub sound : sound_poses l.offsets l.list a.n a.poses ≡ true
 
-pub start-facts : (most : ℕ) (l : Columns) (a : Settings) → most ≤ most_points → start_check most l a ≡ Ok tt → StartFacts most l a
+pub start-facts : (most : ℕ) (l : Columns) (a : Settings) → most ≤ most_points → Ok tt ≡ start_check most l a → StartFacts most l a
 unfolding start_check start_short short_of
 start-facts most l a m h =
-    let p = passed (not (settings_ok a.share a.limit)) _ _ h in
+    let p = passed (not (settings_ok a.share a.limit)) _ _ (sym h) in
     let q = passed (start_short most l a.n) _ _ p.1 in
     let r = passed (not (poses_ok a.poses)) _ _ q.1 in
     let s = passed (not (sound_poses l.offsets l.list a.n a.poses)) _ _ r.1 in
@@ -73,19 +64,18 @@ start-facts most l a m h =
       sound = not-false (sound_poses l.offsets l.list a.n a.poses) s.0;
     }
 
-pub start-refused : (m most : ℕ) (l : Columns) (a : Settings) (r : Result Unit Cause) (k : Cause) (s : State) → r ≡ start_check most l a → r ≡ Err k → s ≡ zero_state m
-    → begun (Err k) s ≡ start_of m most l a
+pub start-refused : (m most : ℕ) (l : Columns) (a : Settings) (k : Cause) (s : State) → Err k ≡ start_check most l a → s ≡ zero_state m → begun (Err k) s ≡ start_of m most l a
 unfolding start_of start_at
-start-refused m most l a r k s e n z = ap (begun (Err k)) z ∙ ap (λ (j : Result Unit Cause). start_at m j l a) (sym n ∙ e)
+start-refused m most l a k s e z = ap (begun (Err k)) z ∙ ap (λ (j : Result Unit Cause). start_at m j l a) e
 
-pub start-accepted : (m most : ℕ) (l : Columns) (a : Settings) (r : Result Unit Cause) (c w : List ℕ) (f : ℕ) (z lap : Bool) (p : Progress) (car : Car) (last : List Float) → r ≡ start_check most l a → r ≡ Ok tt
+pub start-accepted : (m most : ℕ) (l : Columns) (a : Settings) (c w : List ℕ) (f : ℕ) (z lap : Bool) (p : Progress) (car : Car) (last : List Float) → Ok tt ≡ start_check most l a
     → contacted c w f z ≡ first_contact m l a.poses
     → lap ≡ lap_of false z f a.n a.share → p ≡ first_progress f lap → car ≡ still_car → last ≡ pose_numbers a.poses
     → begun (Ok (record { count = f; lap = lap })) (state_of (setup_of a) p car c w last a.seed) ≡ start_of m most l a
 unfolding start_of start_at started_by
-start-accepted m most l a r c w f z lap p car last e n h el ep er es =
+start-accepted m most l a c w f z lap p car last e h el ep er es =
     (λ i. begun (Ok (record { count = f; lap = el i })) (state_of (setup_of a) ((ep ∙ ap (first_progress f) el) i) (er i) c w (es i) a.seed))
-    ∙ ap (started_by a) h ∙ ap (λ (j : Result Unit Cause). start_at m j l a) (sym n ∙ e)
+    ∙ ap (started_by a) h ∙ ap (λ (j : Result Unit Cause). start_at m j l a) e
 
 -- ---- settle
 pub record SettleFacts (most : ℕ) (u : Setup) (p : Progress) (l : Columns) (ps : List Pose) : Type 0 where
@@ -127,16 +117,11 @@ pub settle-cause-number : (most : ℕ) (u : Setup) (p : Progress) (l : Columns) 
 unfolding settle_check number_of
 settle-cause-number most u p l x y ps = simp (cause-by, none-number)
 
--- a cause was found for a settle
-pub record SettleCaused (most : ℕ) (u : Setup) (p : Progress) (l : Columns) (x y : Float) (ps : List Pose) (e : Cause) : Type 0 where
-  pub cause : Err e ≡ settle_check most u p l x y ps
-
-pub settle-refused : (m : ℕ) {most : ℕ} {u : Setup} {p : Progress} {c w : List ℕ} {last : List Float} {l : Columns} {x y : Float} {ps : List Pose} {r : Result SettleValues Cause} {e : Cause}
-    → SettleCaused most u p l x y ps e → r ≡ Err e → settled_poses (settled_parts r p c w) last ≡ settle_poses_of m most u p c w last l x y ps
+pub settle-refused : (m most : ℕ) (u : Setup) {p : Progress} {c w : List ℕ} {last : List Float} (l : Columns) (x y : Float) (ps : List Pose) {e : Cause}
+    → Err e ≡ settle_check most u p l x y ps → settled_poses (settled_parts (Err e) p c w) last ≡ settle_poses_of m most u p c w last l x y ps
 unfolding settle_poses_of settle_parts_of settle_at poses_after
-settle-refused m {u = u} {p = p} {c = c} {w = w} {last = last} {l = l} {x = x} {y = y} {ps = ps} h is =
-    ap (λ (r : Result SettleValues Cause). settled_poses (settled_parts r p c w) last) is
-    ∙ ap (λ (d : SettledParts). settled_poses d (poses_after d.answer ps last)) (ap (λ (r : Result Unit Cause). settle_at m r u p c w l x y ps) h.cause)
+settle-refused m most u {p} {c} {w} {last} l x y ps h =
+    ap (λ (d : SettledParts). settled_poses d (poses_after d.answer ps last)) (ap (λ (r : Result Unit Cause). settle_at m r u p c w l x y ps) h)
 
 -- what each call of an accepted settle leaves
 pub record SettleCalls (m most : ℕ) (u : Setup) (p : Progress) (c w : List ℕ) (l : Columns) (x y : Float) (ps : List Pose) (c' w' : List ℕ) (f : ℕ) (z o : Bool) (next : Progress) (last' : List Float) : Type 0 where

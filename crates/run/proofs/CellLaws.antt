@@ -16,7 +16,6 @@ use Rattle.std.specs.Prelude.{Option, Some, None, IfSome}
 use Rattle.std.specs.Option.{option_eq}
 use Rattle.course.specs.Rules.Tiles.{tile_of}
 use Rattle.course.specs.Grader.Index.{lookup}
-use Rattle.course.proofs.BoolLaws.{and_left, and_right}
 use Rattle.run.specs.Rules.Below.{some_of, every_of, every_below}
 use Rattle.run.specs.Grader.Words.{set_of}
 use Rattle.run.specs.Rules.Overlap.{apart_on, apart_along, apart_by_edges, overlap_of}
@@ -130,9 +129,9 @@ every-flat p a b c d =
     ∙ sym (and_assoc (e a) (e b) (e c && e d)) ∙ sym (and_assoc (e a && e b) (e c) (e d))
 
 -- so cause 10 by the cells is cause 10 by the poses
-pub cells-sound-is : (offs l : List ℕ) (n : ℕ) (ps : List Pose) {ks : List (List ℕ)} {b : Bool} → ks ≡ sixteen_cells ps → b ≡ every_of (sound_cell offs l n) (flat_map (λ x. x) ks) → b ≡ sound_poses offs l n ps
+pub cells-sound-is : (offs l : List ℕ) (n : ℕ) (ps : List Pose) {ks : List (List ℕ)} {cells : List ℕ} → cells ≡ flat_map (λ x. x) ks → ks ≡ sixteen_cells ps → every_of (sound_cell offs l n) cells ≡ sound_poses offs l n ps
 unfolding sixteen_cells sound_poses sound_quad every_below
-cells-sound-is offs l n ps e h = h ∙ ap (λ (x : List (List ℕ)). every_of (sound_cell offs l n) (flat_map (λ x. x) x)) e ∙ every-flat (sound_cell offs l n) _ _ _ _
+cells-sound-is offs l n ps flat own = ap (every_of (sound_cell offs l n)) (flat ∙ ap (flat_map (λ x. x)) own) ∙ every-flat (sound_cell offs l n) _ _ _ _
 
 -- the look-ups of one wheel are sound where those of all four are
 pub own-sound : (offs l : List ℕ) (n : ℕ) (ps : List Pose) (w : ℕ) → sound_poses offs l n ps ≡ true → w < 4 → sound_quad offs l n (quad_of ps w) ≡ true

@@ -34,10 +34,10 @@ pub record RestoreFacts (most : ℕ) (l : Columns) (n : ℕ) (f : Fields) : Type
   pub tiles : n * 8 ≤ length l.tiles
   pub sound : sound_poses l.offsets l.list n (poses_at f.poses 0) ≡ true
 
-pub restore-facts : (most : ℕ) (l : Columns) (n : ℕ) (f : Fields) → most ≤ most_points → sound_fields most f ≡ true → restore_check l n (Some f) ≡ Ok tt → RestoreFacts most l n f
+pub restore-facts : (most : ℕ) (l : Columns) (n : ℕ) (f : Fields) → most ≤ most_points → sound_fields most f ≡ true → Ok tt ≡ restore_check l n (Some f) → RestoreFacts most l n f
 unfolding restore_check sound_fields short_of
 restore-facts most l n f m h e =
-    let p = passed (not (eqb n f.n)) _ _ e in
+    let p = passed (not (eqb n f.n)) _ _ (sym e) in
     let q = passed (short_of n l) _ _ p.1 in
     let r = passed (not (sound_poses l.offsets l.list n (poses_at f.poses 0))) _ _ q.1 in
     let same : n ≡ f.n = eqb-true n f.n (not-false (eqb n f.n) p.0) in
@@ -73,15 +73,11 @@ module _ (m most : ℕ) (bs : List ℕ) (l : Columns) (n : ℕ) where
   unfolding restore_of restore_at restore_check
   restore-none e = ap (λ (r : Option Fields). restore_at m (restore_check l n r) l r) e
 
-  pub restore-refused : (f : Fields) (r : Result Unit Cause) (k : Cause) → Some f ≡ loaded m most bs → r ≡ restore_check l n (Some f) → r ≡ Err k
-      → after_restore (Err k) (zero_state m) ≡ restore_of m most bs l n
+  pub restore-refused : (f : Fields) (k : Cause) → Some f ≡ loaded m most bs → Err k ≡ restore_check l n (Some f) → after_restore (Err k) (zero_state m) ≡ restore_of m most bs l n
   unfolding restore_of restore_at
-  restore-refused f r k e c h =
-      ap (λ (j : Result Unit Cause). restore_at m j l (Some f)) (sym h ∙ c) ∙ ap (λ (x : Option Fields). restore_at m (restore_check l n x) l x) e
+  restore-refused f k e c = ap (λ (j : Result Unit Cause). restore_at m j l (Some f)) c ∙ ap (λ (x : Option Fields). restore_at m (restore_check l n x) l x) e
 
-  pub restore-accepted : (s : State) (f : Fields) (r : Result Unit Cause) → Some f ≡ loaded m most bs → r ≡ restore_check l n (Some f) → r ≡ Ok tt → s ≡ restored_state m l f
-      → after_restore (Ok tt) s ≡ restore_of m most bs l n
+  pub restore-accepted : (s : State) (f : Fields) → Some f ≡ loaded m most bs → Ok tt ≡ restore_check l n (Some f) → s ≡ restored_state m l f → after_restore (Ok tt) s ≡ restore_of m most bs l n
   unfolding restore_of restore_at
-  restore-accepted s f r e c h q =
-      ap (after_restore (Ok tt)) q ∙ ap (λ (j : Result Unit Cause). restore_at m j l (Some f)) (sym h ∙ c)
-      ∙ ap (λ (x : Option Fields). restore_at m (restore_check l n x) l x) e
+  restore-accepted s f e c q =
+      ap (after_restore (Ok tt)) q ∙ ap (λ (j : Result Unit Cause). restore_at m j l (Some f)) c ∙ ap (λ (x : Option Fields). restore_at m (restore_check l n x) l x) e

@@ -1,6 +1,8 @@
 -- For private functions alone: no public contract reaches these.
 -- of quad, touch, contact and words
 pub mod Touch
+-- of start, settle and restore
+pub mod Stand
 -- of drive
 pub mod Drive
 -- of save

@@ -5,6 +5,7 @@ ghost use Rattle.run.specs.Grader.State.{view, lent_columns};
 ghost use Rattle.run.specs.Grader.Numbers.{poses_at};
 ghost use Rattle.run.specs.Grader.Restore.{run_from, after_restore, restore_of, saved_course_of, restore_check};
 ghost use Rattle.run.specs.Steps.Load.{fields_as, restored_as};
+ghost use Rattle.run.specs.Steps.Stand.{StanceOr};
 
 use crate::load::Fields;
 use crate::quad::Stance;
@@ -21,12 +22,11 @@ pub struct SavedFor {
     pub n: u32,
 }
 
-// Refused by the first of the causes 12, 2 and 10 that holds of what was saved and of the lent course.
+// Where the wheels stand at the last poses, or the first of the causes 12, 2 and 10 that holds of what was saved and of the lent course.
 #[tactic(auto, unfolding(crate::specs::Grader::Restore::restore_check, crate::specs::Grader::State::short_of))]
-fn restore_check(f: Fields, columns: Columns<'_>, n: u32, stance: &Stance) -> Result<(), Cause>
-    requires { stance.now.poses ≡ poses_at f.poses 0 }
-    ensures { result
-        ≡ restore_check (lent_columns columns.entry) n (Some (fields_as f)) }
+fn restore_check(f: Fields, columns: Columns<'_>, n: u32) -> Result<Stance, Cause>
+    ensures { StanceOr (restore_check (lent_columns columns.entry) n (Some (fields_as f)))
+        (poses_at f.poses 0) result }
 {
     if n != f.n {
         return Err(Cause::Course);
@@ -34,10 +34,11 @@ fn restore_check(f: Fields, columns: Columns<'_>, n: u32, stance: &Stance) -> Re
     if state::is_short(n, columns.tiles.len(), columns.offsets.len()) {
         return Err(Cause::Length);
     }
-    if !columns.cells_sound(n as usize, &stance.cells) {
+    let stance = Stance::at(numbers::poses_from(&f.poses));
+    if !columns.stance_sound(n as usize, &stance) {
         return Err(Cause::Index);
     }
-    Ok(())
+    Ok(stance)
 }
 
 // The saved run with these sets; so many tiles are credited as the first set has.
@@ -78,9 +79,7 @@ fn restored(bytes: &[u8], columns: Columns<'_>, n: u32) -> Result<Run, Cause>
         (lent_columns columns.entry) n }
 {
     let f = load::load(bytes).ok_or(Cause::Form)?;
-    let poses = numbers::poses_from(&f.poses);
-    let stance = Stance::at(poses);
-    restore_check(f, columns, n, &stance)?;
+    let stance = restore_check(f, columns, n)?;
     let mut scratch = [0u64; FULL_WORDS];
     let mut wheels = [0u64; WHEEL_WORDS];
     contact::full_contact(&stance, columns, n as usize, &mut scratch, &mut wheels);

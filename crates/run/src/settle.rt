@@ -3,6 +3,7 @@ ghost use Rattle.std.specs.Prelude.{◌≡◌, ◌+◌, ◌<◌};
 ghost use Rattle.run.specs.Grader.Widths.{full_words, most_tiles};
 ghost use Rattle.run.specs.Grader.State.{view, lent_columns};
 ghost use Rattle.run.specs.Grader.Settle.{settled_progress, settled_parts, settled_poses, settle_poses_of, after_settle, settle_of, settle_check};
+ghost use Rattle.run.specs.Steps.Stand.{StanceOr};
 
 use crate::numbers::POSE_NUMBERS;
 use crate::quad::Stance;
@@ -30,19 +31,18 @@ pub struct SettleValues {
     pub ended: bool,
 }
 
-// Refused by the first of the causes 4, 5, 6, 2, 8 and 10 that holds.
-#[tactic(auto, unfolding(crate::specs::Grader::Settle::settle_check, crate::specs::Grader::State::short_of, crate::specs::Rules::Arguments::places_ok), using(crate::proofs::CallLaws::cells_tell))]
+// Where the wheels stand, or the first of the causes 4, 5, 6, 2, 8 and 10 that holds.
+#[tactic(auto, unfolding(crate::specs::Grader::Settle::settle_check, crate::specs::Grader::State::short_of, crate::specs::Rules::Arguments::places_ok))]
 fn settle_check(
     setup: Setup,
     progress: Progress,
     columns: Columns<'_>,
     places: Places,
-    stance: &Stance,
-) -> Result<(), Cause>
-    requires { stance.now.poses ≡ places.poses }
-    ensures { result
-        ≡ settle_check most_tiles setup progress (lent_columns columns.entry)
-        places.x places.y places.poses }
+) -> Result<Stance, Cause>
+    ensures { StanceOr
+        (settle_check most_tiles setup progress (lent_columns columns.entry)
+        places.x places.y places.poses)
+        places.poses result }
 {
     if state::is_unfit(setup, progress) | progress.ended {
         return Err(Cause::State);
@@ -59,10 +59,11 @@ fn settle_check(
     if !((state::in_range(places.x) & state::in_range(places.y)) & state::poses_ok(places.poses)) {
         return Err(Cause::Range);
     }
-    if !columns.cells_sound(setup.n as usize, &stance.cells) {
+    let stance = Stance::at(places.poses);
+    if !columns.stance_sound(setup.n as usize, &stance) {
         return Err(Cause::Index);
     }
-    Ok(())
+    Ok(stance)
 }
 
 // The progress after a contact with `fresh` new tiles.
@@ -96,8 +97,7 @@ pub fn settle_parts(
         ≡ settle_poses_of full_words most_tiles setup progress.old credited.old wheels.old
         last.old (lent_columns columns.entry) places.x places.y places.poses }
 {
-    let stance = Stance::at(places.poses);
-    settle_check(setup, *progress, columns, places, &stance)?;
+    let stance = settle_check(setup, *progress, columns, places)?;
     let c = contact::full_contact(&stance, columns, setup.n as usize, credited, wheels);
     let off = lap::is_off(places.x, places.y);
     let next = settled_progress(setup, *progress, c.fresh, c.zero, off);

@@ -4,6 +4,7 @@ ghost use Rattle.run.specs.Grader.Widths.{full_words, most_tiles};
 ghost use Rattle.run.specs.Grader.State.{view, lent_columns};
 ghost use Rattle.run.specs.Grader.Start.{start_check, first_progress, begun, start_of};
 ghost use Rattle.run.specs.Rules.Arguments.{settings_ok};
+ghost use Rattle.run.specs.Steps.Stand.{StanceOr};
 
 use crate::numbers::POSE_NUMBERS;
 use crate::quad::Stance;
@@ -39,11 +40,11 @@ pub(crate) fn settings_ok(share: f64, limit: u32) -> bool
     ((0.0 <= share) & (share <= 1.0)) & ((1 <= limit) & (limit <= 1000000))
 }
 
-// Refused by the first of the causes 1, 2, 8 and 10 that holds.
-#[tactic(auto, unfolding(crate::specs::Grader::Start::start_check, crate::specs::Grader::Start::start_short, crate::specs::Grader::State::short_of), using(crate::proofs::CallLaws::cells_tell))]
-fn start_check(columns: Columns<'_>, settings: Settings, stance: &Stance) -> Result<(), Cause>
-    requires { stance.now.poses ≡ settings.poses }
-    ensures { result ≡ start_check most_tiles (lent_columns columns.entry) settings }
+// Where the wheels stand, or the first of the causes 1, 2, 8 and 10 that holds.
+#[tactic(auto, unfolding(crate::specs::Grader::Start::start_check, crate::specs::Grader::Start::start_short, crate::specs::Grader::State::short_of))]
+fn start_check(columns: Columns<'_>, settings: Settings) -> Result<Stance, Cause>
+    ensures { StanceOr (start_check most_tiles (lent_columns columns.entry) settings)
+        settings.poses result }
 {
     let n = settings.n;
     if !settings_ok(settings.share, settings.limit) {
@@ -57,10 +58,11 @@ fn start_check(columns: Columns<'_>, settings: Settings, stance: &Stance) -> Res
     if !state::poses_ok(settings.poses) {
         return Err(Cause::Range);
     }
-    if !columns.cells_sound(n as usize, &stance.cells) {
+    let stance = Stance::at(settings.poses);
+    if !columns.stance_sound(n as usize, &stance) {
         return Err(Cause::Index);
     }
-    Ok(())
+    Ok(stance)
 }
 
 // Tick 0 and no drive made, with so many tiles credited.
@@ -80,14 +82,15 @@ pub fn start(columns: Columns<'_>, settings: Settings) -> Answered<StartValues>
     ensures { begun result.answer (view result.run)
         ≡ start_of full_words most_tiles (lent_columns columns.entry) settings }
 {
-    let stance = Stance::at(settings.poses);
-    let check = start_check(columns, settings, &stance);
-    if let Err(cause) = check {
-        return Answered {
-            answer: Err(cause),
-            run: Run::default(),
-        };
-    }
+    let stance = match start_check(columns, settings) {
+        Ok(stance) => stance,
+        Err(cause) => {
+            return Answered {
+                answer: Err(cause),
+                run: Run::default(),
+            };
+        }
+    };
     let n = settings.n;
     let mut credited = [0u64; FULL_WORDS];
     let mut wheels = [0u64; WHEEL_WORDS];

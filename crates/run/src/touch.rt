@@ -1,15 +1,15 @@
 // Which tiles a wheel touches, by the lent tiles and index (document 01, "Touch"). Each tile is tested
 // once for a wheel, however many cells list it and however often.
 ghost use Rattle.std.specs.Prelude.{◌≡◌, true, ◌+◌, ◌*◌, ◌≤◌, ◌<◌, eqb, ltb, length};
-ghost use Rattle.std.specs.List.{list_all, flat_map};
+ghost use Rattle.std.specs.List.{list_all};
 ghost use Rattle.course.specs.Rules.Tiles.{tile_of};
 ghost use Rattle.run.specs.Rules.Below.{every_of};
 ghost use Rattle.run.specs.Grader.Words.{set_of};
-ghost use Rattle.run.specs.Grader.Touch.{lists, touched_by, sound_cell};
+ghost use Rattle.run.specs.Grader.Touch.{lists, touched_by, sound_cell, sound_poses};
 ghost use Rattle.run.specs.Steps.Touch.{overlaps_tile, Tests, Looked};
 ghost use Rattle.run.specs.Grader.Widths.{full_words, most_tiles};
 
-use crate::quad::Sided;
+use crate::quad::{Sided, Stance};
 use crate::widths::FULL_WORDS;
 use crate::words;
 use course::{index, tiles};
@@ -32,7 +32,7 @@ impl Columns<'_> {
         tiles::read_quad(numbers)
     }
 
-    // The cell may be looked up: no cause 10.
+    // The cell may be looked up.
     #[tactic(auto, unfolding(crate::specs::Grader::Touch::sound_cell), using(crate::proofs::TouchLaws::every_by_all))]
     fn cell_sound(self, n: usize, cell: usize) -> bool
         ensures { result ≡ sound_cell self.entry.offsets.now self.entry.list.now n cell }
@@ -41,14 +41,13 @@ impl Columns<'_> {
             && ids_below(index::cell_tiles(self.offsets, self.list, cell), n)
     }
 
-    // All cells may be looked up. One that is the same as the cell before it needs no look-up of its own.
-    pub(crate) fn cells_sound(self, n: usize, cells: &[[usize; 4]]) -> bool
+    // All cells of the wheels may be looked up: no cause 10. One that is the same as the cell before it needs no look-up of its own.
+    pub(crate) fn stance_sound(self, n: usize, stance: &Stance) -> bool
         ensures { result
-            ≡ every_of (sound_cell self.entry.offsets.now self.entry.list.now n)
-            (flat_map (λ x. x) cells.now) }
+            ≡ sound_poses self.entry.offsets.now self.entry.list.now n stance.now.poses }
     {
         let mut before = None;
-        for cell in cells.as_flattened() {
+        for cell in stance.cells.as_flattened() {
             if before != Some(*cell) && !self.cell_sound(n, *cell) {
                 return false;
             }

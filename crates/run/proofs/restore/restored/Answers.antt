@@ -21,23 +21,22 @@ returns-in_err-f c =
     let q = not-there c.load.result c.ok_or.ensures.value c.in_err-f.was in
     rw (p.1, p.2, q.1) (restore-none full_words most_tiles a.bytes.now (lent_columns a.columns) a.n (not-loaded q.0 c.load.ensures))
 
-pub returns-in_err-restore_check : goal.returns-in_err-restore_check
-returns-in_err-restore_check c =
+pub returns-in_err-stance : goal.returns-in_err-stance
+returns-in_err-stance c =
     let loaded_at = is-loaded (c.ok_or.ensures.ok_part ∙ ap result_ok c.in_ok-f.was) c.load.ensures in
     let a = c.args in
-    let p = err_from_is_err_and c.from_residual-in_err-restore_check.result c.from_residual-in_err-restore_check.ensures.1 in
-    rw (p.1, p.2)
-    (restore-refused full_words most_tiles a.bytes.now (lent_columns a.columns) a.n _ _ _ loaded_at c.restore_check.ensures c.in_err-restore_check.was)
+    let p = err_from_is_err_and c.from_residual-in_err-stance.result c.from_residual-in_err-stance.ensures.1 in
+    rw (p.1, p.2) (restore-refused full_words most_tiles a.bytes.now (lent_columns a.columns) a.n _ _ loaded_at c.in_err-stance.ensures)
 
 pub full_contact-requires : goal.full_contact-requires
 full_contact-requires c =
     let loaded_at = is-loaded (c.ok_or.ensures.ok_part ∙ ap result_ok c.in_ok-f.was) c.load.ensures in
     let f = fields_as c.in_ok-f.f in
     let a = c.args in
+    let s = c.in_ok-stance.ensures in
     let kept-is = kept-sound full_words most_tiles a.bytes.now f (sym loaded_at) in
-    let h = restore-facts most_tiles (lent_columns a.columns) a.n f (lit≤ tt) kept-is (sym c.restore_check.ensures ∙ c.in_ok-restore_check.was) in
-    let sound = ap (sound_poses a.columns.offsets.now a.columns.list.now a.n) (c.at-stance.ensures ∙ c.poses_from-poses.ensures) ∙ h.sound in
-    (h.some, h.few, h.tiles, sound)
+    let h = restore-facts most_tiles (lent_columns a.columns) a.n f (lit≤ tt) kept-is s.passed in
+    (h.some, h.few, h.tiles, ap (sound_poses a.columns.offsets.now a.columns.list.now a.n) s.poses ∙ h.sound)
 
 pub returns : goal.returns
 unfolding first_contact
@@ -45,6 +44,7 @@ returns c =
     let loaded_at = is-loaded (c.ok_or.ensures.ok_part ∙ ap result_ok c.in_ok-f.was) c.load.ensures in
     let f = fields_as c.in_ok-f.f in
     let a = c.args in
-    let touched = ap (λ (x : Contacted). x.wheels) (c.full_contact.ensures ∙ ap (first_contact full_words (lent_columns a.columns)) (c.at-stance.ensures ∙ c.poses_from-poses.ensures)) in
+    let s = c.in_ok-stance.ensures in
+    let touched = ap (λ (x : Contacted). x.wheels) (c.full_contact.ensures ∙ ap (first_contact full_words (lent_columns a.columns)) s.poses) in
     let made = run-restored full_words (lent_columns a.columns) f (view c.run_of.result) _ _ c.run_of.ensures refl touched in
-    restore-accepted full_words most_tiles a.bytes.now (lent_columns a.columns) a.n (view c.run_of.result) f _ loaded_at c.restore_check.ensures c.in_ok-restore_check.was made
+    restore-accepted full_words most_tiles a.bytes.now (lent_columns a.columns) a.n (view c.run_of.result) f loaded_at s.passed made

@@ -1,8 +1,6 @@
 -- `run::touch::touch_ids` meets its contract. Assumes nothing.
 use Rattle.run.specs.Rules.Overlap.{overlap_of}
 use Rattle.run.specs.Grader.Words.{member, set_of}
-use Rattle.run.specs.Grader.Widths.{full_words}
-use Rattle.run.specs.Grader.Touch.{lists}
 use Rattle.run.proofs.TouchLaws.{one_id, no_id, all_ids, id_below, tested-is, tested-before, tested-hit, tested-miss}
 use lib.Dec.{eqb}
 use lib.ListN.{length, get_or}
@@ -10,7 +8,6 @@ use Prim.Native.Nat.{ℕ, ◌*◌, ◌<◌}
 use mathlib.Core.Bool.{◌||◌}
 use mathlib.Core.Path.{◌≡◌, refl, sym, ap, ◌∙◌}
 use native.Mathlib.Omega.{arith}
-use borrow.Author.Rules.{rules}
 use Rattle.run.proofs.touch.touch_ids.Goals as goal
 use Rattle.run.proofs.touch.touch_ids.Goals.{then-overlaps, else-overlaps}
 

@@ -1,5 +1,5 @@
--- `run::touch::Columns::cells_sound` meets its contract. Assumes nothing.
-use Rattle.run.proofs.CellLaws.{as-before, every-next}
+-- `run::touch::Columns::stance_sound` meets its contract. Assumes nothing.
+use Rattle.run.proofs.CellLaws.{as-before, every-next, cells-sound-is}
 use Rattle.run.proofs.TouchLaws.{every-none, every-fails}
 use Rattle.run.specs.Rules.Below.{every_of}
 use Rattle.run.specs.Grader.Touch.{sound_cell}
@@ -7,8 +7,8 @@ use lib.Seq.{take_all}
 use mathlib.Core.Bool.{true}
 use mathlib.Core.Path.{◌≡◌, sym, ap, ◌∙◌}
 use Prim.Native.Nat.{ℕ}
-use Rattle.run.proofs.touch.Columns.cells_sound.Goals as goal
-use Rattle.run.proofs.touch.Columns.cells_sound.Goals.{else-ne-via-then-ne+else-not-cell_sound, else-ne-via-else-ne}
+use Rattle.run.proofs.touch.Columns.stance_sound.Goals as goal
+use Rattle.run.proofs.touch.Columns.stance_sound.Goals.{else-ne-via-then-ne+else-not-cell_sound, else-ne-via-else-ne}
 
 pub loop-cell-init : goal.loop-cell-init
 loop-cell-init c = (every-none (sound_cell _ _ _), tt)
@@ -17,7 +17,8 @@ pub returns-then-not-cell_sound : goal.returns-then-not-cell_sound
 returns-then-not-cell_sound c =
     let s = c.args in
     let p = sound_cell s.self.offsets.now s.self.list.now s.n in
-    sym (ap (every_of p) (sym c.as_flattened-cell-items.ensures.value) ∙ every-fails p _ c.loop-cell.cell-index c.loop-cell-test.true (sym c.cell_sound.ensures ∙ c.if-not-cell_sound.true))
+    sym (every-fails p _ c.loop-cell.cell-index c.loop-cell-test.true (sym c.cell_sound.ensures ∙ c.if-not-cell_sound.true))
+    ∙ cells-sound-is _ _ _ _ c.as_flattened-cell-items.ensures.value s.stance.now.own_cells
 
 pub loop-cell-preserved : goal.loop-cell-preserved
 loop-cell-preserved c =
@@ -34,4 +35,5 @@ pub returns : goal.returns
 returns c =
     let s = c.args in
     let p = sound_cell s.self.offsets.now s.self.list.now s.n in
-    sym c.loop-cell.invariant.0 ∙ ap (every_of p) (take_all c.loop-cell.cell-index _ c.loop-cell-test.false ∙ c.as_flattened-cell-items.ensures.value)
+    sym c.loop-cell.invariant.0 ∙ ap (every_of p) (take_all c.loop-cell.cell-index _ c.loop-cell-test.false)
+    ∙ cells-sound-is _ _ _ _ c.as_flattened-cell-items.ensures.value s.stance.now.own_cells

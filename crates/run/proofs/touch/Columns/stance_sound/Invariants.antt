@@ -1,11 +1,11 @@
--- `run::touch::Columns::cells_sound` meets its contract. Assumes nothing.
+-- `run::touch::Columns::stance_sound` meets its contract. Assumes nothing.
 use Rattle.run.specs.Rules.Below.{every_of}
 use Rattle.run.specs.Grader.Touch.{sound_cell}
 use Rattle.std.specs.Prelude.{IfSome}
 use lib.ListN.{take}
 use mathlib.Core.Bool.{true}
 use mathlib.Core.Path.{◌≡◌}
-use Rattle.run.proofs.touch.Columns.cells_sound.Given as goal
+use Rattle.run.proofs.touch.Columns.stance_sound.Given as goal
 
 abbrev pub invariant-loop-cell : goal.invariant-loop-cell
 invariant-loop-cell l =
