@@ -59,6 +59,7 @@ impl Opening {
 }
 
 // So many calls, as a host lends them: four words and twenty numbers each, one call after the other. A host's columns may be short.
+// Kept as a count beside two flat columns: the C interface lends words and numbers so, each apart and its length beside it.
 #[derive(Clone, Copy)]
 pub struct CallColumns<'a> {
     pub many: u32,
@@ -67,6 +68,7 @@ pub struct CallColumns<'a> {
 }
 
 // The columns for their answers: four words and twelve numbers each.
+// Kept as two flat columns: the C interface lends them so, as it does those of the calls.
 #[derive(Drop)]
 pub struct AnswerColumns<'a> {
     pub words: &'a mut [u32],
@@ -121,9 +123,8 @@ fn reply(
 }
 
 // All calls in their order, each on the state that the one before it left, and their answers.
-// Kept by index where answers are written: the library promises nothing of what a slice ends as after `as_chunks_mut` or
-// `chunks_exact_mut`, and columns that are cut by `split_at_mut` and gone on with in a loop no proof of today's covers (tried). A call's
-// numbers stand at the same index.
+// Kept by place where answers are written: the library promises nothing of what a slice ends as after `as_chunks_mut` or
+// `chunks_exact_mut`, and columns that are cut by `split_at_mut` and gone on with in a loop no proof of today's covers (tried).
 #[tactic(auto, unfolding(crate::specs::Grader::Replay::room_for))]
 fn replies(run: &mut Run, columns: Columns<'_>, calls: CallColumns<'_>, answers: AnswerColumns<'_>)
     requires { room_for calls.many (length calls.words.now)
@@ -149,8 +150,8 @@ fn replies(run: &mut Run, columns: Columns<'_>, calls: CallColumns<'_>, answers:
     let (asked, _) = calls.words.as_chunks::<CALL_WORDS>();
     let (given, _) = calls.numbers.as_chunks::<CALL_NUMBERS>();
     let many = calls.many as usize;
-    for (i, call) in asked[..many].iter().enumerate() {
-        let said = reply(run, columns, call, &given[i]);
+    for (i, (call, given)) in asked[..many].iter().zip(given).enumerate() {
+        let said = reply(run, columns, call, given);
         let w = ANSWER_WORDS * i;
         let n = ANSWER_NUMBERS * i;
         words[w..w + ANSWER_WORDS].copy_from_slice(&said.words);
