@@ -3,9 +3,10 @@
 ghost use Rattle.std.specs.Prelude.{◌≡◌, true, ◌++◌, ◌*◌, length, drop};
 ghost use Rattle.run.specs.Grader.Widths.{full_words, most_tiles};
 ghost use Rattle.run.specs.Grader.State.{view, lent_columns};
+ghost use Rattle.run.specs.Grader.Start.{start_of};
 ghost use Rattle.certificate.specs.Grader.Calls.{replies_of, state_after};
 ghost use Rattle.certificate.specs.Grader.CallColumns.{answer_words, answer_numbers, all_words, all_numbers};
-ghost use Rattle.certificate.specs.Steps.Replay.{first_lent, call_from, calls_to, Replies};
+ghost use Rattle.certificate.specs.Steps.Replay.{first_lent, call_from, calls_to, Replies, StartsAndReplies};
 ghost use Rattle.certificate.specs.Grader.Replay.{room_for, replay, replay_of};
 ghost use Rattle.certificate.specs.Claim.Certificate.{settings_for};
 ghost use Rattle.course.specs.Grader.Outcome.{lent_to, left_by};
@@ -174,6 +175,32 @@ fn room_for(calls: CallColumns<'_>, answers: &AnswerColumns<'_>) -> bool
         && ANSWER_NUMBERS * n <= answers.numbers.len()
 }
 
+// Starts a run on a laid course, answers so many calls, and tells the sheet after the last.
+// Kept with the answers' columns taken apart and built again, here and in `replay`, since the proof did not close: where their struct is
+// handed on whole, no proof knows at the return what its columns hold.
+fn start_and_reply(
+    columns: Columns<'_>,
+    settings: Settings,
+    calls: CallColumns<'_>,
+    answers: AnswerColumns<'_>,
+) -> (Result<StartValues, Cause>, Result<RunSheet, Cause>)
+    requires { room_for calls.many (length calls.words.now)
+        (length calls.numbers.now) (length answers.words.now)
+        (length answers.numbers.now)
+        ≡ true }
+    ensures { StartsAndReplies (start_of full_words most_tiles (lent_columns columns.entry) settings)
+        (calls_to (lent_columns columns.entry) calls.entry.words.now calls.entry.numbers.now calls.entry.many)
+        calls.entry.many answers.entry.words.now answers.entry.numbers.now
+        result.0 result.1 answers.exit.0.now answers.exit.1.0.now }
+{
+    let AnswerColumns { words, numbers } = answers;
+    let s = start::start(columns, settings);
+    let begun = s.answer;
+    let mut run = s.run;
+    replies(&mut run, columns, calls, AnswerColumns { words, numbers });
+    (begun, sheet::sheet(run.setup, run.progress))
+}
+
 // Lays the seed's course, starts a run on it with its n, and answers so many calls. Refused by 2, before anything is laid, where a
 // column of calls or answers is short. Where lay is refused, so is the start, and after a refused start every call.
 #[tactic(auto, unfolding(crate::specs::Grader::Replay::replay_of))]
@@ -192,6 +219,13 @@ pub fn replay(
         calls.entry.many calls.entry.words.now calls.entry.numbers.now
         answers.entry.words.now answers.entry.numbers.now }
 {
+    if !room_for(calls, &answers) {
+        return Replayed {
+            laid: Err(LayError::Refused(Cause::Length)),
+            start: Err(Cause::Length),
+            sheet: Err(Cause::State),
+        };
+    }
     let LentColumns {
         alpha,
         beta,
@@ -201,13 +235,6 @@ pub fn replay(
         offsets,
         list,
     } = cols;
-    if !room_for(calls, &answers) {
-        return Replayed {
-            laid: Err(LayError::Refused(Cause::Length)),
-            start: Err(Cause::Length),
-            sheet: Err(Cause::State),
-        };
-    }
     let laid = lay::lay(
         seed,
         LentColumns {
@@ -220,20 +247,14 @@ pub fn replay(
             list,
         },
     );
-    let course = laid.unwrap_or_default();
     let columns = Columns {
         tiles,
         offsets,
         list,
     };
-    let s = start::start(columns, opening.on(course, seed));
-    let begun = s.answer;
-    let mut run = s.run;
+    let settings = opening.on(laid.unwrap_or_default(), seed);
     let AnswerColumns { words, numbers } = answers;
-    replies(&mut run, columns, calls, AnswerColumns { words, numbers });
-    Replayed {
-        laid,
-        start: begun,
-        sheet: sheet::sheet(run.setup, run.progress),
-    }
+    let answers = AnswerColumns { words, numbers };
+    let (start, sheet) = start_and_reply(columns, settings, calls, answers);
+    Replayed { laid, start, sheet }
 }

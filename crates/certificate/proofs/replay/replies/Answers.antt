@@ -26,11 +26,10 @@ loop-i-preserved c =
     let p = one_pair s.many (call_parts s.words.now) (given_parts s.numbers.now) c.next.new.self c.loop-i.invariant.0 c.next.ensures.steps c.in-Some.is in
     let many = parts-many _ _ _ _ _ c.requires in
     let of-words : i < length s.words.now / 4 = omega (arith, p.within, many.0) in
-    let of-numbers : i < length s.numbers.now / 20 = omega (arith, p.within, many.1) in
-    (
+    let of-numbers : i < length s.numbers.now / 20 = omega (arith, p.within, many.1) in (
       p.rest,
       rw (p.number, p.next) (one-reply c.loop-i.invariant.1 p.within c.reply-said.ensures (p.here [] ∙ chunk_at 4 _ i s.words.now [] of-words)
-      (p.beside [] ∙ chunk_at 20 _ i s.numbers.now [] of-numbers) c.copy_from_slice.ensures.after c.copy_from_slice-in-loop-i.ensures.after),
+          (p.beside [] ∙ chunk_at 20 _ i s.numbers.now [] of-numbers) c.copy_from_slice.ensures.after c.copy_from_slice-in-loop-i.ensures.after),
     )
 
 pub returns : goal.returns
