@@ -338,12 +338,12 @@ same-figures (Ok x) P none v h = record { count = ap (λ (y : LaidCourse). y.n) 
 same-figures (Err e) P none v h = record { count = (none v h).0; ring = (none v h).1 }
 
 -- what a start and the calls after it leave, from what each leaves
-pub starts-and-replies : {b : Begun} {cs : List Call} {n : ℕ} {words : List ℕ} {numbers : List Float} {sa : Result StartValues Cause} {s last : State} {sh : Result RunSheet Cause} {words' : List ℕ} {numbers' : List Float}
+pub starts_and_replies : {b : Begun} {cs : List Call} {n : ℕ} {words : List ℕ} {numbers : List Float} {sa : Result StartValues Cause} {s last : State} {sh : Result RunSheet Cause} {words' : List ℕ} {numbers' : List Float}
     → begun sa s ≡ b → last ≡ state_after full_words most_tiles s cs
     → words' ≡ all_words (replies_of full_words most_tiles s cs) ++ drop (answer_words * n) words
     → numbers' ≡ all_numbers (replies_of full_words most_tiles s cs) ++ drop (answer_numbers * n) numbers
     → sh ≡ sheet_in last → StartsAndReplies b cs n words numbers sa sh words' numbers'
-starts-and-replies {cs = cs} {n = n} {words = words} {numbers = numbers} e last answered numbered sheet =
+starts_and_replies {cs = cs} {n = n} {words = words} {numbers = numbers} e last answered numbered sheet =
     let es = ap (λ (x : Begun). x.state) e in
     record {
       started = ap (λ (x : Begun). x.answer) e;

@@ -178,6 +178,7 @@ fn room_for(calls: CallColumns<'_>, answers: &AnswerColumns<'_>) -> bool
 // Starts a run on a laid course, answers so many calls, and tells the sheet after the last.
 // Kept with the answers' columns taken apart and built again, here and in `replay`, since the proof did not close: where their struct is
 // handed on whole, no proof knows at the return what its columns hold.
+#[tactic(auto, unfolding(run::specs::Grader::State::view), using(crate::proofs::ReplayLaws::starts_and_replies))]
 fn start_and_reply(
     columns: Columns<'_>,
     settings: Settings,
@@ -203,6 +204,8 @@ fn start_and_reply(
 
 // Lays the seed's course, starts a run on it with its n, and answers so many calls. Refused by 2, before anything is laid, where a
 // column of calls or answers is short. Where lay is refused, so is the start, and after a refused start every call.
+// Kept with the lent columns taken apart and built again, since the proof did not close: `lay` takes their struct, three are read after it,
+// and the borrow checker covers no column that is lent out of the struct where it stands (tried with `cols.alpha` and `&mut *cols.alpha`).
 #[tactic(auto, unfolding(crate::specs::Grader::Replay::replay_of))]
 pub fn replay(
     seed: u64,
