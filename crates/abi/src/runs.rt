@@ -59,14 +59,14 @@ pub extern "C" fn grader_start(
         (start_of full_words most_tiles (columns tiles.now offsets.now list.now)
         (record { n = n; fallback = fallback; seed = seed; share = share; limit = limit; poses = poses.wheels })) }
 {
-    let wheels = poses.wheels;
+    let poses = poses.wheels;
     let settings = Settings {
         n,
         fallback,
         seed,
         share,
         limit,
-        poses: wheels,
+        poses,
     };
     let columns = Columns {
         tiles,
@@ -78,6 +78,7 @@ pub extern "C" fn grader_start(
 
 // Forces for the host: the car is changed where it stands and the forces are written. A refusal changes nothing.
 // Kept as numbers, the car, the motions and the forces: the C interface lends them as arrays of their lengths.
+// Kept as the parts of a run, handed on one by one to `drive_parts`: the C interface lends the parts, and a host keeps its run in place.
 #[unsafe(no_mangle)]
 pub extern "C" fn grader_drive_parts(
     setup: Setup,
@@ -106,6 +107,7 @@ pub extern "C" fn grader_drive_parts(
 
 // The contact after physics: the sets and the last poses are changed where they stand. A refusal changes nothing.
 // Kept as a parameter for each column: the C interface lends them one by one.
+// Kept as the parts of a run, handed on one by one to `settle_parts`: the C interface lends the parts, and a host keeps its run in place.
 #[unsafe(no_mangle)]
 #[tactic(auto, unfolding(crate::specs::Grader::InPlace::settle_in_place), using(crate::proofs::FlatLaws::settled_whole))]
 pub extern "C" fn grader_settle_parts(
@@ -127,8 +129,8 @@ pub extern "C" fn grader_settle_parts(
         poses.wheels }
 {
     let mut next = progress;
-    let given = poses.wheels;
-    let places = Places { x, y, poses: given };
+    let poses = poses.wheels;
+    let places = Places { x, y, poses };
     let columns = Columns {
         tiles,
         offsets,
@@ -172,7 +174,7 @@ pub extern "C" fn grader_replay(
         offsets.old list.old) (record { share = share; limit = limit; poses = poses.wheels })
         many calls.now given.now words.old numbers.old) }
 {
-    let wheels = poses.wheels;
+    let poses = poses.wheels;
     let cols = LentColumns {
         alpha,
         beta,
@@ -185,7 +187,7 @@ pub extern "C" fn grader_replay(
     let opening = Opening {
         share,
         limit,
-        poses: wheels,
+        poses,
     };
     let asked = CallColumns {
         many,

@@ -23,7 +23,7 @@ use Rattle.certificate.specs.declared.answer.Encoded.{Encoded}
 use Rattle.course.proofs.BoolLaws.{and_left, and_right}
 use Rattle.std.specs.Simd.{first_chunks}
 use Rattle.std.specs.List.{flat_map}
-use Rattle.std.proofs.lemmas.List.{flat_map_more, get_or-take}
+use Rattle.std.proofs.lemmas.List.{flat_map_more}
 use Rattle.certificate.specs.Rules.Answers.{Answer}
 use Rattle.certificate.specs.Rules.Answers.Answer.{drove, settled, refused}
 
@@ -73,9 +73,12 @@ chunk_at {A} k (suc n) zero l d h = ap (λ (j : ℕ). take k (drop j l)) (sym (m
 chunk_at {A} k (suc n) (suc i) l d h =
     chunk_at k n i (drop k l) d (omega (arith, h)) ∙ ap (take k) (drop-drop (k * i) k l ∙ ap (λ (j : ℕ). drop j l) (omega (arith, mul-suc k i)))
 
--- part i of the first n of those that a column was cut into
-pub cut_at : {A : Type 0} (k n i : ℕ) (l d : List A) {q : ℕ} {parts : List (List A)} → parts ≡ first_chunks k q l → i < n → i < q → get_or (take n parts) i d ≡ part_at k l i
-cut_at {A} k n i l d {q} {parts} e b h = get_or-take n parts i d b ∙ ap (λ (ps : List (List A)). get_or ps i d) e ∙ chunk_at k q i l d h
+-- the parts that the words of calls are cut into, and their numbers
+abbrev pub call_parts : List ℕ → List (List ℕ)
+call_parts ws = first_chunks call_words (length ws / call_words) ws
+
+abbrev pub given_parts : List Float → List (List Float)
+given_parts ns = first_chunks call_numbers (length ns / call_numbers) ns
 
 -- a part more behind what is written
 part-more : {A : Type 0} (a k b : ℕ) (front p col col₀ : List A) → length front ≡ a → col ≡ front ++ drop a col₀ → a + k ≡ b

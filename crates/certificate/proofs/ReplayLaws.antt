@@ -42,7 +42,7 @@ use Rattle.certificate.specs.Claim.Certificate.{CourseLabel, settings_for, setti
 use Rattle.course.specs.Rules.Tiles.{number_at}
 use Rattle.run.specs.Grader.Numbers.{motions_from, poses_from}
 use Rattle.certificate.specs.Grader.CallColumns.{call_words, call_numbers, answer_words, answer_numbers, all_words, all_numbers, part_at}
-use Rattle.certificate.specs.Steps.Replay.{first_lent, call_from, calls_to}
+use Rattle.certificate.specs.Steps.Replay.{first_lent, call_from, calls_to, StartsAndReplies}
 use Rattle.certificate.specs.Grader.Replay.{told_from, tolds_to, cause_of, answer_by, plain_start, plain_answers, sheet_on, plain_sheet, laid_course, replay_on, room_for, replay_of}
 use Rattle.run.specs.declared.start.StartValues.{StartValues}
 use Rattle.run.specs.declared.sheet.RunSheet.{RunSheet}
@@ -337,36 +337,49 @@ unfolding laid_values_of
 same-figures (Ok x) P none v h = record { count = ap (λ (y : LaidCourse). y.n) h; ring = ap (λ (y : LaidCourse). y.fallback) h }
 same-figures (Err e) P none v h = record { count = (none v h).0; ring = (none v h).1 }
 
+-- what a start and the calls after it leave, from what each leaves
+pub starts_and_replies : {b : Begun} {cs : List Call} {n : ℕ} {words : List ℕ} {numbers : List Float} {sa : Result StartValues Cause} {s last : State} {sh : Result RunSheet Cause} {words' : List ℕ} {numbers' : List Float}
+    → begun sa s ≡ b → last ≡ state_after full_words most_tiles s cs
+    → words' ≡ all_words (replies_of full_words most_tiles s cs) ++ drop (answer_words * n) words
+    → numbers' ≡ all_numbers (replies_of full_words most_tiles s cs) ++ drop (answer_numbers * n) numbers
+    → sh ≡ sheet_in last → StartsAndReplies b cs n words numbers sa sh words' numbers'
+starts_and_replies {cs = cs} {n = n} {words = words} {numbers = numbers} e last answered numbered sheet =
+    let es = ap (λ (x : Begun). x.state) e in
+    record {
+      started = ap (λ (x : Begun). x.answer) e;
+      ended = sheet ∙ ap sheet_in (last ∙ ap (λ (x : State). state_after full_words most_tiles x cs) es);
+      answered = answered ∙ ap (λ (x : State). all_words (replies_of full_words most_tiles x cs) ++ drop (answer_words * n) words) es;
+      numbered = numbered ∙ ap (λ (x : State). all_numbers (replies_of full_words most_tiles x cs) ++ drop (answer_numbers * n) numbers) es;
+    }
+
 -- what each call of a replay leaves, where there is room for the calls told and their answers
 pub record ReplayCalls (seed : ℕ) (l : course.CourseColumns) (b : Opening) (n : ℕ) (calls : List ℕ) (given : List Float) (words : List ℕ) (numbers : List Float)
-    (o : Outcome) (v : LaidCourse) (a : Settings) (sa : Result StartValues Cause) (s last : State) (sh : Result RunSheet Cause) (words' : List ℕ) (numbers' : List Float) : Type 0 where
+    (o : Outcome) (v : LaidCourse) (a : Settings) (sa : Result StartValues Cause) (sh : Result RunSheet Cause) (words' : List ℕ) (numbers' : List Float) : Type 0 where
   pub room : room_for n (length calls) (length given) (length words) (length numbers) ≡ true
   pub laid : o ≡ lay_call max_attempts seed l
   pub tiles : length o.lent.tiles ≡ length l.tiles
   pub offsets : length o.lent.offsets ≡ length l.offsets
   pub values : SameFigures v (laid_values_of o.answer)
   pub settings : a ≡ settings_for v.n (record { fallback = v.fallback; seed = seed }) b
-  pub start : begun sa s ≡ start_of full_words most_tiles (columns_of o) a
-  pub state : last ≡ state_after full_words most_tiles s (calls_to (columns_of o) calls given n)
-  pub answered : words' ≡ all_words (replies_of full_words most_tiles s (calls_to (columns_of o) calls given n)) ++ drop (answer_words * n) words
-  pub numbered : numbers' ≡ all_numbers (replies_of full_words most_tiles s (calls_to (columns_of o) calls given n)) ++ drop (answer_numbers * n) numbers
-  pub sheet : sh ≡ sheet_in last
+  pub run : StartsAndReplies (start_of full_words most_tiles (columns_of o) a) (calls_to (columns_of o) calls given n) n words numbers sa sh words' numbers'
 
 -- all that the replay leaves
 pub replayed : {seed : ℕ} {l : course.CourseColumns} {b : Opening} {n : ℕ} {calls : List ℕ} {given : List Float} {words : List ℕ} {numbers : List Float}
-    {o : Outcome} {v : LaidCourse} {a : Settings} {sa : Result StartValues Cause} {s last : State} {sh : Result RunSheet Cause} {words' : List ℕ} {numbers' : List Float}
-    → ReplayCalls seed l b n calls given words numbers o v a sa s last sh words' numbers'
+    {o : Outcome} {v : LaidCourse} {a : Settings} {sa : Result StartValues Cause} {sh : Result RunSheet Cause} {words' : List ℕ} {numbers' : List Float}
+    → ReplayCalls seed l b n calls given words numbers o v a sa sh words' numbers'
     → record { laid = o.answer; start = sa; sheet = sh; lent = o.lent; words = words'; numbers = numbers' } ≡ replay_of seed l b n calls given words numbers
 unfolding replay_of replay_on
-replayed {seed} {l} {b} {n} {calls} {given} {words} {numbers} {o} {v} {a} {sa} {s} h =
+replayed {seed} {l} {b} {n} {calls} {given} {words} {numbers} {o} {v} {a} {sa} h =
+    let s = (start_of full_words most_tiles (columns_of o) a).state in
+    let started : begun sa s ≡ start_of full_words most_tiles (columns_of o) a = ap (λ (x : Result StartValues Cause). begun x s) h.run.started in
     let p = replay-plain seed l b n calls given (lay_number seed l) refl o h.laid h.tiles h.offsets sa s
-    (h.start ∙ ap (start_of full_words most_tiles (columns_of o)) h.settings ∙ (λ i. start_of full_words most_tiles (columns_of o) (settings_for (h.values.count i) (record { fallback = h.values.ring i; seed = seed }) b))) in
+    (started ∙ ap (start_of full_words most_tiles (columns_of o)) h.settings ∙ (λ i. start_of full_words most_tiles (columns_of o) (settings_for (h.values.count i) (record { fallback = h.values.ring i; seed = seed }) b))) in
     rw h.room (λ i.
     record {
       laid = (h.laid i).answer;
       start = p.start i;
-      sheet = (h.sheet ∙ ap sheet_in h.state ∙ p.sheet) i;
+      sheet = (h.run.ended ∙ p.sheet) i;
       lent = (h.laid i).lent;
-      words = (h.answered ∙ ap (λ (x : List Answer). all_words x ++ drop (answer_words * n) words) p.answers) i;
-      numbers = (h.numbered ∙ ap (λ (x : List Answer). all_numbers x ++ drop (answer_numbers * n) numbers) p.answers) i;
+      words = (h.run.answered ∙ ap (λ (x : List Answer). all_words x ++ drop (answer_words * n) words) p.answers) i;
+      numbers = (h.run.numbered ∙ ap (λ (x : List Answer). all_numbers x ++ drop (answer_numbers * n) numbers) p.answers) i;
     })

@@ -3,9 +3,10 @@
 ghost use Rattle.std.specs.Prelude.{◌≡◌, true, ◌++◌, ◌*◌, length, drop};
 ghost use Rattle.run.specs.Grader.Widths.{full_words, most_tiles};
 ghost use Rattle.run.specs.Grader.State.{view, lent_columns};
+ghost use Rattle.run.specs.Grader.Start.{start_of};
 ghost use Rattle.certificate.specs.Grader.Calls.{replies_of, state_after};
 ghost use Rattle.certificate.specs.Grader.CallColumns.{answer_words, answer_numbers, all_words, all_numbers};
-ghost use Rattle.certificate.specs.Steps.Replay.{first_lent, call_from, calls_to, Replies};
+ghost use Rattle.certificate.specs.Steps.Replay.{first_lent, call_from, calls_to, Replies, StartsAndReplies};
 ghost use Rattle.certificate.specs.Grader.Replay.{room_for, replay, replay_of};
 ghost use Rattle.certificate.specs.Claim.Certificate.{settings_for};
 ghost use Rattle.course.specs.Grader.Outcome.{lent_to, left_by};
@@ -59,6 +60,7 @@ impl Opening {
 }
 
 // So many calls, as a host lends them: four words and twenty numbers each, one call after the other. A host's columns may be short.
+// Kept as a count beside two flat columns: the C interface lends words and numbers so, each apart and its length beside it.
 #[derive(Clone, Copy)]
 pub struct CallColumns<'a> {
     pub many: u32,
@@ -67,6 +69,7 @@ pub struct CallColumns<'a> {
 }
 
 // The columns for their answers: four words and twelve numbers each.
+// Kept as two flat columns: the C interface lends them so, as it does those of the calls.
 #[derive(Drop)]
 pub struct AnswerColumns<'a> {
     pub words: &'a mut [u32],
@@ -121,9 +124,8 @@ fn reply(
 }
 
 // All calls in their order, each on the state that the one before it left, and their answers.
-// Kept by index where answers are written: the library promises nothing of what a slice ends as after `as_chunks_mut` or
-// `chunks_exact_mut`, and columns that are cut by `split_at_mut` and gone on with in a loop no proof of today's covers (tried). A call's
-// numbers stand at the same index.
+// Kept by place where answers are written: the library promises nothing of what a slice ends as after `as_chunks_mut` or
+// `chunks_exact_mut`, and columns that are cut by `split_at_mut` and gone on with in a loop no proof of today's covers (tried).
 #[tactic(auto, unfolding(crate::specs::Grader::Replay::room_for))]
 fn replies(run: &mut Run, columns: Columns<'_>, calls: CallColumns<'_>, answers: AnswerColumns<'_>)
     requires { room_for calls.many (length calls.words.now)
@@ -149,8 +151,8 @@ fn replies(run: &mut Run, columns: Columns<'_>, calls: CallColumns<'_>, answers:
     let (asked, _) = calls.words.as_chunks::<CALL_WORDS>();
     let (given, _) = calls.numbers.as_chunks::<CALL_NUMBERS>();
     let many = calls.many as usize;
-    for (i, call) in asked[..many].iter().enumerate() {
-        let said = reply(run, columns, call, &given[i]);
+    for (i, (call, given)) in asked[..many].iter().zip(given).enumerate() {
+        let said = reply(run, columns, call, given);
         let w = ANSWER_WORDS * i;
         let n = ANSWER_NUMBERS * i;
         words[w..w + ANSWER_WORDS].copy_from_slice(&said.words);
@@ -173,8 +175,37 @@ fn room_for(calls: CallColumns<'_>, answers: &AnswerColumns<'_>) -> bool
         && ANSWER_NUMBERS * n <= answers.numbers.len()
 }
 
+// Starts a run on a laid course, answers so many calls, and tells the sheet after the last.
+// Kept with the answers' columns taken apart and built again, here and in `replay`, since the proof did not close: where their struct is
+// handed on whole, no proof knows at the return what its columns hold.
+#[tactic(auto, unfolding(run::specs::Grader::State::view), using(crate::proofs::ReplayLaws::starts_and_replies))]
+fn start_and_reply(
+    columns: Columns<'_>,
+    settings: Settings,
+    calls: CallColumns<'_>,
+    answers: AnswerColumns<'_>,
+) -> (Result<StartValues, Cause>, Result<RunSheet, Cause>)
+    requires { room_for calls.many (length calls.words.now)
+        (length calls.numbers.now) (length answers.words.now)
+        (length answers.numbers.now)
+        ≡ true }
+    ensures { StartsAndReplies (start_of full_words most_tiles (lent_columns columns.entry) settings)
+        (calls_to (lent_columns columns.entry) calls.entry.words.now calls.entry.numbers.now calls.entry.many)
+        calls.entry.many answers.entry.words.now answers.entry.numbers.now
+        result.0 result.1 answers.exit.0.now answers.exit.1.0.now }
+{
+    let AnswerColumns { words, numbers } = answers;
+    let s = start::start(columns, settings);
+    let begun = s.answer;
+    let mut run = s.run;
+    replies(&mut run, columns, calls, AnswerColumns { words, numbers });
+    (begun, sheet::sheet(run.setup, run.progress))
+}
+
 // Lays the seed's course, starts a run on it with its n, and answers so many calls. Refused by 2, before anything is laid, where a
 // column of calls or answers is short. Where lay is refused, so is the start, and after a refused start every call.
+// Kept with the lent columns taken apart and built again, since the proof did not close: `lay` takes their struct, three are read after it,
+// and the borrow checker covers no column that is lent out of the struct where it stands (tried with `cols.alpha` and `&mut *cols.alpha`).
 #[tactic(auto, unfolding(crate::specs::Grader::Replay::replay_of))]
 pub fn replay(
     seed: u64,
@@ -191,6 +222,13 @@ pub fn replay(
         calls.entry.many calls.entry.words.now calls.entry.numbers.now
         answers.entry.words.now answers.entry.numbers.now }
 {
+    if !room_for(calls, &answers) {
+        return Replayed {
+            laid: Err(LayError::Refused(Cause::Length)),
+            start: Err(Cause::Length),
+            sheet: Err(Cause::State),
+        };
+    }
     let LentColumns {
         alpha,
         beta,
@@ -200,13 +238,6 @@ pub fn replay(
         offsets,
         list,
     } = cols;
-    if !room_for(calls, &answers) {
-        return Replayed {
-            laid: Err(LayError::Refused(Cause::Length)),
-            start: Err(Cause::Length),
-            sheet: Err(Cause::State),
-        };
-    }
     let laid = lay::lay(
         seed,
         LentColumns {
@@ -219,20 +250,14 @@ pub fn replay(
             list,
         },
     );
-    let course = laid.unwrap_or_default();
     let columns = Columns {
         tiles,
         offsets,
         list,
     };
-    let s = start::start(columns, opening.on(course, seed));
-    let begun = s.answer;
-    let mut run = s.run;
+    let settings = opening.on(laid.unwrap_or_default(), seed);
     let AnswerColumns { words, numbers } = answers;
-    replies(&mut run, columns, calls, AnswerColumns { words, numbers });
-    Replayed {
-        laid,
-        start: begun,
-        sheet: sheet::sheet(run.setup, run.progress),
-    }
+    let answers = AnswerColumns { words, numbers };
+    let (start, sheet) = start_and_reply(columns, settings, calls, answers);
+    Replayed { laid, start, sheet }
 }

@@ -1,12 +1,18 @@
 -- Only private functions cite this: calls read from lent columns, as the calls of the grader, and answers as they are written. Assumes nothing.
-use Rattle.std.specs.Prelude.{◌≡◌, cond, List, [], ◌∷◌, ◌++◌, ℕ, zero, suc, eqb, get_or, take, Float}
+use Rattle.std.specs.Prelude.{◌≡◌, cond, List, [], ◌∷◌, ◌++◌, ℕ, zero, suc, ◌*◌, eqb, get_or, take, drop, Float, Result}
+use Rattle.course.specs.declared.cause.Cause.{Cause}
+use Rattle.run.specs.declared.start.StartValues.{StartValues}
+use Rattle.run.specs.declared.sheet.RunSheet.{RunSheet}
+use Rattle.run.specs.Grader.Widths.{full_words, most_tiles}
+use Rattle.run.specs.Grader.Start.{Begun}
+use Rattle.run.specs.Grader.Sheet.{sheet_of}
 use Rattle.run.specs.Grader.State.{State, Columns, columns}
 use Rattle.certificate.specs.Rules.Answers.{Answer}
-use Rattle.certificate.specs.Grader.Calls.{Call, reply_of}
+use Rattle.certificate.specs.Grader.Calls.{Call, reply_of, replies_of, state_after}
 use Rattle.certificate.specs.Grader.Calls.Call.{drive, settle}
 use Rattle.course.specs.Rules.Tiles.{number_at}
 use Rattle.run.specs.Grader.Numbers.{motions_from, poses_from}
-use Rattle.certificate.specs.Grader.CallColumns.{call_words, call_numbers, part_at, words_of, numbers_of}
+use Rattle.certificate.specs.Grader.CallColumns.{call_words, call_numbers, answer_words, answer_numbers, part_at, words_of, numbers_of, all_words, all_numbers}
 use Rattle.certificate.specs.declared.answer.Encoded.{Encoded}
 
 -- the first of the lent tiles and offsets, and the whole list
@@ -32,3 +38,10 @@ encoded a = record { words = words_of a; numbers = numbers_of a }
 pub record Replies (m most : ℕ) (s : State) (c : Call) (after : State) (w : Encoded) : Type 0 where
   pub state : after ≡ (reply_of m most s c).state
   pub answer : w ≡ encoded (reply_of m most s c).answer
+
+-- what a start and the n calls after it leave: the answer of start, the sheet after the last call, and every answer in words and numbers
+pub record StartsAndReplies (b : Begun) (cs : List Call) (n : ℕ) (words : List ℕ) (numbers : List Float) (start : Result StartValues Cause) (sheet : Result RunSheet Cause) (words' : List ℕ) (numbers' : List Float) : Type 0 where
+  pub started : start ≡ b.answer
+  pub ended : sheet ≡ sheet_of most_tiles (state_after full_words most_tiles b.state cs).setup (state_after full_words most_tiles b.state cs).progress
+  pub answered : words' ≡ all_words (replies_of full_words most_tiles b.state cs) ++ drop (answer_words * n) words
+  pub numbered : numbers' ≡ all_numbers (replies_of full_words most_tiles b.state cs) ++ drop (answer_numbers * n) numbers

@@ -1,11 +1,9 @@
 -- `certificate::replay::replay` meets its contract. Assumes nothing.
 use mathlib.Core.Path.{sym, ◌∙◌}
-use Rattle.run.specs.Grader.State.{view}
 use Rattle.certificate.proofs.ReplayLaws.{same-figures, replayed}
 use Rattle.certificate.proofs.replay.replay.Goals as goal
 
 pub returns : goal.returns
-unfolding view
 returns c =
     replayed
     (record {
@@ -13,11 +11,7 @@ returns c =
       laid = c.lay-laid.ensures;
       tiles = c.lay-laid.auto.cols.1.1.1.1.0;
       offsets = c.lay-laid.auto.cols.1.1.1.1.1.0;
-      values = same-figures c.lay-laid.result _ (λ x p. (p.0, p.1.0)) _ c.unwrap_or_default-course.ensures;
-      start = c.start-s.ensures;
-      settings = c.on.ensures;
-      state = c.replies.ensures.run_after;
-      answered = c.replies.ensures.words_after;
-      numbered = c.replies.ensures.numbers_after;
-      sheet = c.sheet.ensures;
+      values = same-figures c.lay-laid.result _ (λ x p. (p.0, p.1.0)) _ c.unwrap_or_default.ensures;
+      settings = c.on-settings.ensures;
+      run = c.start_and_reply-start.ensures;
     })
