@@ -16,7 +16,6 @@ use Rattle.std.specs.Prelude.{Option, Some, None, IfSome}
 use Rattle.std.specs.Option.{option_eq}
 use Rattle.course.specs.Rules.Tiles.{tile_of}
 use Rattle.course.specs.Grader.Index.{lookup}
-use Rattle.course.proofs.BoolLaws.{and_left, and_right}
 use Rattle.run.specs.Rules.Below.{some_of, every_of, every_below}
 use Rattle.run.specs.Grader.Words.{set_of}
 use Rattle.run.specs.Rules.Overlap.{apart_on, apart_along, apart_by_edges, overlap_of}
