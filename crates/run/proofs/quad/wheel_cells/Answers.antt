@@ -1,15 +1,7 @@
 -- `run::quad::wheel_cells` meets its contract. Assumes nothing.
-use Rattle.run.proofs.CellLaws.{no_wheel, one_wheel, four_wheels}
-use mathlib.Core.Path.{refl, ap, ◌∙◌}
-use Rattle.run.specs.Rules.Wheel.{quad_of, box_cells}
+use Rattle.std.proofs.Common.{rules}
+use Rattle.run.proofs.CellLaws.{four_wheels}
 use Rattle.run.proofs.quad.wheel_cells.Goals as goal
 
-pub loop-w-init : goal.loop-w-init
-loop-w-init c = no_wheel refl
-
-pub loop-w-preserved : goal.loop-w-preserved
-unfolding quad_of
-loop-w-preserved c = one_wheel c.loop-w.invariant c.loop-w-test.true (c.box_cells.ensures ∙ ap box_cells c.wheel_quad.ensures)
-
 pub returns : goal.returns
-returns c = four_wheels c.loop-w.invariant c.loop-w-test.false
+returns c = four_wheels _ _ c.args.poses.now c.map.result (λ p k s t call. search rules) c.map.ensures.items
