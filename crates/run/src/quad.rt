@@ -173,15 +173,11 @@ pub fn box_cells(q: [[f64; 2]; 4]) -> [usize; 4]
     [low + r.x0, low + r.x1, high + r.x0, high + r.x1]
 }
 
-// The cells of four wheels' boxes.
-fn wheel_cells(poses: &[Pose; 4]) -> [[usize; 4]; 4]
-    ensures { result ≡ sixteen_cells poses.now }
+// The cells of a wheel's box.
+fn wheel_cells(p: Pose) -> [usize; 4]
+    ensures { result ≡ box_cells (wheel_quad p) }
 {
-    poses.map(
-        |pose: Pose| -> [usize; 4]
-            ensures { result ≡ box_cells (wheel_quad pose) }
-        { box_cells(wheel_quad(pose)) },
-    )
+    box_cells(wheel_quad(p))
 }
 
 // The poses of four wheels, and the cells of each wheel's box. These are made before any of them is looked up: the wheels do not wait for
@@ -198,7 +194,7 @@ impl Stance {
     pub(crate) fn at(poses: [Pose; 4]) -> Stance
         ensures { result.poses ≡ poses }
     {
-        let cells = wheel_cells(&poses);
+        let cells = poses.map(wheel_cells);
         Stance { poses, cells }
     }
 }
