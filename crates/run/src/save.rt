@@ -52,9 +52,8 @@ fn put_first(narrow: u64, share: f64, limit: u32, tick: u32, out: &mut [u8])
     requires { length out.old ≡ first_bytes }
     ensures { out.new ≡ joined (first_fields narrow share limit tick) }
 {
-    let shares = [share];
     number::put_number(narrow, 4, &mut out[SEED_AT..SHARE_AT]).unwrap();
-    eight::put(&shares, &mut out[SHARE_AT..LIMIT_AT]).unwrap();
+    eight::put(&[share], &mut out[SHARE_AT..LIMIT_AT]).unwrap();
     number::put_number(u64::from(limit), 4, &mut out[LIMIT_AT..TICK_AT]).unwrap();
     number::put_number(u64::from(tick), 4, &mut out[TICK_AT..CREDITED_AT]).unwrap();
 }
@@ -76,9 +75,8 @@ fn put_last(
         ≡ take last_from full.old
         ++ joined (last_fields flags fuel controls.now poses.now n wide) }
 {
-    let fuels = [fuel];
     number::put_number(flags, 1, &mut full[FLAGS_AT..FUEL_AT]).unwrap();
-    eight::put(&fuels, &mut full[FUEL_AT..CONTROLS_AT]).unwrap();
+    eight::put(&[fuel], &mut full[FUEL_AT..CONTROLS_AT]).unwrap();
     eight::put(controls, &mut full[CONTROLS_AT..POSES_AT]).unwrap();
     eight::put(poses, &mut full[POSES_AT..COUNT_AT]).unwrap();
     number::put_number(u64::from(n), 2, &mut full[COUNT_AT..WIDE_SEED_AT]).unwrap();

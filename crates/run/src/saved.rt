@@ -41,6 +41,9 @@ pub(crate) const WIDE_SEED_AT: usize = COUNT_AT + 2;
 // How many bytes all of them have.
 pub(crate) const ALL_BYTES: usize = WIDE_SEED_AT + 8;
 
+// The least seed that four bytes do not hold.
+const LEAST_WIDE: u64 = 1 << 32;
+
 // The numbers of the two fields of a seed: four bytes in bit 0, or eight in bit 10.
 #[derive(Clone, Copy)]
 pub(crate) struct SeedParts {
@@ -54,7 +57,7 @@ impl SeedParts {
     pub(crate) fn of(seed: u64) -> SeedParts
         ensures { result ≡ seed_parts seed }
     {
-        if seed < 0x1_0000_0000 {
+        if seed < LEAST_WIDE {
             return SeedParts {
                 narrow: seed,
                 wide: 0,
@@ -66,7 +69,7 @@ impl SeedParts {
         }
     }
 
-    // The seed that the two fields say, unless both of them stand, or a wide seed is below 2^32 (cause 11).
+    // The seed that the two fields say, unless both of them stand, or the wide one is no wide seed (cause 11).
     #[tactic(auto, unfolding(crate::specs::Steps::Load::seed_in, crate::specs::Grader::Saved::seeds_ok, crate::specs::Grader::Saved::seed_from))]
     pub(crate) fn seed(self) -> Option<u64>
         ensures { result ≡ seed_in self }
@@ -74,7 +77,7 @@ impl SeedParts {
         if self.wide == 0 {
             return Some(self.narrow);
         }
-        let alone = (self.narrow == 0) & (0x1_0000_0000 <= self.wide);
+        let alone = (self.narrow == 0) & (LEAST_WIDE <= self.wide);
         alone.then_some(self.wide)
     }
 }
