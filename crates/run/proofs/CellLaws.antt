@@ -5,13 +5,14 @@ use mathlib.Core.List.{List, [], ◌∷◌, ◌++◌}
 use mathlib.Core.Path.{◌≡◌, refl, sym, ap, ap₂, ◌∙◌, subst}
 use Prim.Native.Nat.{ℕ, zero, suc, ◌+◌, ◌≤◌, ◌<◌}
 use native.Mathlib.Omega.{arith}
-use lib.ListN.{length, get_or, take, set, length-set}
-use lib.Seq.{take_all, get_or-set_same, get_or-set_other}
-use lib.Ieee.{Float}
-use borrow.Author.Count.{below_more}
+use lib.ListN.{length, get_or, take}
+use lib.Seq.{take_all}
+use lib.Ieee.{Float, nan}
 use borrow.Author.Tests.{eqb-true}
 use lib.Dec.{eqb}
 use Rattle.std.specs.List.{flat_map}
+use Rattle.std.specs.Array.{IsMapOf}
+use denote.Param.Members.{Mut, Called}
 use Rattle.std.specs.Prelude.{Option, Some, None, IfSome}
 use Rattle.std.specs.Option.{option_eq}
 use Rattle.course.specs.Rules.Tiles.{tile_of}
@@ -19,7 +20,7 @@ use Rattle.course.specs.Grader.Index.{lookup}
 use Rattle.run.specs.Rules.Below.{some_of, every_of, every_below}
 use Rattle.run.specs.Grader.Words.{set_of}
 use Rattle.run.specs.Rules.Overlap.{apart_on, apart_along, apart_by_edges, overlap_of}
-use Rattle.run.specs.Rules.Wheel.{quad_of, box_cells}
+use Rattle.run.specs.Rules.Wheel.{wheel_quad, quad_of, box_cells}
 use Rattle.run.specs.Grader.Touch.{lists, listed_by, touched_by, sound_cell, sound_quad, sound_poses}
 use Rattle.run.specs.Steps.Touch.{first_side, beyond, apart_by_others, sixteen_cells, overlaps_tile, Tested, Tests, Looked}
 use Rattle.run.specs.declared.state.Pose.{Pose}
@@ -89,27 +90,13 @@ module _ (q : List (List Float)) (ts : List Float) (offs l k : List ℕ) (m : �
   all-touched e past = h.hit ∙ ap (λ (x : List ℕ). set_of m (λ t. some_of (λ c. lists (lookup offs l c) t) x && overlap_of q (tile_of ts t))) (take_all i k past ∙ e)
 
 -- ---- the cells of four wheels
--- the first w of four wheels have their cells
-pub record Celled (ps : List Pose) (ks : List (List ℕ)) (w : ℕ) : Type 0 where
-  pub long : length ks ≡ 4
-  pub own : (v : ℕ) → v < w → get_or ks v [] ≡ box_cells (quad_of ps v)
-
-pub no_wheel : {ps : List Pose} {ks : List (List ℕ)} → length ks ≡ 4 → Celled ps ks 0
-no_wheel e = record { long = e; own = λ v h. absurd (omega arith) }
-
-pub one_wheel : {ps : List Pose} {ks : List (List ℕ)} {w : ℕ} {b : List ℕ} → Celled ps ks w → w < 4 → b ≡ box_cells (quad_of ps w) → Celled ps (set ks w b) (w + 1)
-one_wheel {ps} {ks} {w} {b} h less e =
-    record {
-      long = length-set ks w b ∙ h.long;
-      own = below_more (λ v. get_or (set ks w b) v [] ≡ box_cells (quad_of ps v)) w
-          (λ v l. get_or-set_other ks w v b [] (λ q. omega arith) ∙ h.own v l)
-          (get_or-set_same ks w b [] (omega (arith, h.long)) ∙ e);
-    }
-
-pub four_wheels : {ps : List Pose} {ks : List (List ℕ)} {w : ℕ} → Celled ps ks w → 4 ≤ w → ks ≡ sixteen_cells ps
-unfolding sixteen_cells
-four_wheels {ks = ks} h past =
-    four-items ks [] h.long ∙ (λ i. h.own 0 (omega arith) i ∷ h.own 1 (omega arith) i ∷ h.own 2 (omega arith) i ∷ h.own 3 (omega arith) i ∷ [])
+-- where every call gives a pose's cells, a map of four poses gives those of each wheel
+pub four_wheels : {F : Type 0} (g : Mut F (Pose × Unit {0}) (List ℕ)) (f : F) (ps : List Pose) (ks : List (List ℕ)) → ((p : Pose) (k : List ℕ) (s t : F) → Called g s (p, tt) k t → k ≡ box_cells (wheel_quad p))
+    → IsMapOf g f ps ks 4 → ks ≡ sixteen_cells ps
+unfolding sixteen_cells quad_of
+four_wheels g f ps ks gives h =
+    let own : (w : ℕ) → w < 4 → get_or ks w [] ≡ box_cells (quad_of ps w) = λ w b. let call = h.at w (record { x = nan; y = nan; cos = nan; sin = nan }) [] b in gives _ _ _ _ call.2 in
+    four-items ks [] h.long ∙ (λ i. own 0 (omega arith) i ∷ own 1 (omega arith) i ∷ own 2 (omega arith) i ∷ own 3 (omega arith) i ∷ [])
 
 -- a test of all of them is one of each wheel's
 every_append : (p : ℕ → Bool) (xs ys : List ℕ) → every_of p (xs ++ ys) ≡ (every_of p xs && every_of p ys)

@@ -1,5 +1,5 @@
 -- What is read of a save: its fields as they lie end to end, and what its bytes say. Assumes nothing.
-use mathlib.Core.Bool.{Bool, true, false, cond, ◌&&◌, and_assoc}
+use mathlib.Core.Bool.{Bool, true, false, cond, ◌&&◌}
 use mathlib.Core.List.{List, [], ◌∷◌, ◌++◌}
 use mathlib.Core.Path.{◌≡◌, refl, sym, ap, ap₂, ◌∙◌, subst}
 use Prim.Native.Nat.{ℕ, zero, suc, ◌+◌, ◌*◌, ◌/◌, ◌%◌, ◌≤◌}
@@ -26,9 +26,9 @@ use Rattle.form.proofs.MapLaws.{Sized, cut-joined}
 use Rattle.run.specs.Grader.Widths.{full_words}
 use Rattle.run.specs.Grader.Numbers.{control_count, car_numbers}
 use Rattle.run.specs.Grader.Saved.{Fields, field_bytes, second_form, field_at, float_in, fields_with, seed_from, fields_from, seeds_ok, sound_fields, loaded_from, loaded}
-use Rattle.run.specs.Steps.Load.{saved_field, seeds_read, fields_as}
+use Rattle.run.specs.Steps.Load.{saved_field, seeds_read, seed_in, fields_as}
 use Rattle.run.specs.declared.saved.SeedParts.{SeedParts}
-use Rattle.run.specs.declared.load.Fields.{Fields as CodeFields}
+use Rattle.run.specs.declared.load.SavedRun.{SavedRun}
 use Rattle.run.proofs.FieldSizes.{all-bytes}
 
 -- ---- fields that lie end to end
@@ -113,14 +113,14 @@ module _ (full : List ℕ) where
       ap number (lies-5 ∙ ap (take 1) (drop-cons full 340 0 (omega (arith, h, all-bytes)))) ∙ e
 
   -- what is read of each field, put together
-  pub fields_read : (f : CodeFields) (flags : ℕ) → f.share ≡ float_in (take 8 (drop 4 full)) → f.limit ≡ number (take 4 (drop 12 full))
-      → f.tick ≡ number (take 4 (drop 16 full)) → f.credited ≡ each_from (λ (w : ℕ). w) full_words (saved_field full 4) → flags ≡ number (take 1 (drop 340 full))
-      → f.lap ≡ eqb (flags % 2) 1 → f.ended ≡ eqb (flags / 2 % 2) 1 → f.fallback ≡ eqb (flags / 4 % 2) 1
+  pub fields_read : (f : SavedRun) → length full ≡ sum (field_bytes full_words) → f.share ≡ float_in (take 8 (drop 4 full)) → f.limit ≡ number (take 4 (drop 12 full))
+      → f.tick ≡ number (take 4 (drop 16 full)) → f.credited ≡ each_from (λ (w : ℕ). w) full_words (saved_field full 4)
+      → f.lap ≡ eqb (get_or full 340 0 % 2) 1 → f.ended ≡ eqb (get_or full 340 0 / 2 % 2) 1 → f.fallback ≡ eqb (get_or full 340 0 / 4 % 2) 1
       → car_numbers f.car ≡ floats_from control_count (saved_field full 7) ++ (float_in (saved_field full 6) ∷ []) → f.poses ≡ floats_from 16 (saved_field full 8)
       → f.n ≡ number (take 2 (drop 637 full)) → fields_as f ≡ fields_with f.seed full_words (cut (field_bytes full_words) full)
   unfolding fields_with car_numbers
-  fields_read f flags share limit tick credited byte lap ended fallback car poses n =
-      let flag : flags ≡ number (saved_field full 5) = byte ∙ ap number (sym lies-5) in
+  fields_read f whole share limit tick credited lap ended fallback car poses n =
+      let flag : get_or full 340 0 ≡ number (saved_field full 5) = sym (flags-byte whole) in
       let controls = floats_from control_count (saved_field full 7) in
       let fuel = float_in (saved_field full 6) in
       let long : length controls ≡ control_count = from-length (of_bits binary64) control_count (saved_field full 7) in
@@ -212,8 +212,29 @@ module _ (m most : ℕ) (bs : List ℕ) where
       go (fields fs) q = tested fs (passed fs) refl q
       go broken q = absurd (subst IsKept (sym q) tt)
 
+-- whether a seed is said, and which
+abbrev IsSaid : Option ℕ → Type 0
+IsSaid (Some n) = Unit
+IsSaid None = ⊥
+
+abbrev option_or : ℕ → Option ℕ → ℕ
+option_or d (Some n) = n
+option_or d None = d
+
+unsaid : (b : Bool) (w : ℕ) → cond b (Some w) None ≡ None → b ≡ false
+unsaid true w e = absurd (subst IsSaid e tt)
+unsaid false w e = refl
+
+said-once : (b : Bool) (w seed : ℕ) → cond b (Some w) None ≡ Some seed → (b ≡ true) × (w ≡ seed)
+said-once true w seed e = (refl, ap (option_or w) e)
+said-once false w seed e = absurd (subst IsSaid (sym e) tt)
+
+never : (a : Bool) (f : Fields) → None ≡ cond (a && false) (Some f) None
+never true f = refl
+never false f = refl
+
 -- the same of the code's values
-mapped : (b : Bool) (f : CodeFields) → option_map fields_as (then_some b f) ≡ cond b (Some (fields_as f)) None
+mapped : (b : Bool) (f : SavedRun) → option_map fields_as (then_some b f) ≡ cond b (Some (fields_as f)) None
 mapped true f = refl
 mapped false f = refl
 
@@ -228,34 +249,42 @@ module _ (most : ℕ) (bs full to : List ℕ) (rows : List Row) (map : Option �
   pub none-read : map ≡ None → None ≡ loaded full_words most bs
   none-read h = ap (λ (m : Option ℕ). Tested full_words most bs (is_some m) cuts) (sym h) ∙ all-tested
 
-  module _ (long : length full ≡ sum (field_bytes full_words)) (k : ℕ) (p : SeedParts) (one : Bool) (some : map ≡ Some k) (parts : p ≡ seeds_read (saved_field full 0) (saved_field full 10)) (o : one ≡ seeds_ok p.narrow p.wide) where
+  module _ (k : ℕ) (p : SeedParts) (some : map ≡ Some k) (parts : p ≡ seeds_read (saved_field full 0) (saved_field full 10)) where
     abbrev kept : Fields
     kept = fields_from full_words cuts
 
-    first-tested : (b : Bool) → (ltb (get_or full 340 0) 8 && one) ≡ b → cond (b && sound_fields most kept) (Some kept) None ≡ loaded full_words most bs
-    first-tested b h =
-        let flags = sym (flags-byte full long) in
-        let single = o ∙ ap (λ (x : SeedParts). seeds_ok x.narrow x.wide) parts in
-        let both = ap (λ (x : Bool). x && sound_fields most kept) (sym h) ∙ and_assoc (ltb (get_or full 340 0) 8) one (sound_fields most kept) in
-        ap (λ (x : Bool). cond x (Some kept) None) both
-        ∙ (λ i. cond (ltb (flags i) 8 && (single i && sound_fields most kept)) (Some kept) None)
-        ∙ ap (λ (m : Option ℕ). Tested full_words most bs (is_some m) cuts) (sym some)
-        ∙ all-tested
+    -- what the seeds' test is of the fields
+    single : (b : Bool) → seeds_ok p.narrow p.wide ≡ b → b ≡ seeds_ok (number (saved_field full 0)) (number (saved_field full 10))
+    single b h = sym h ∙ ap (λ (x : SeedParts). seeds_ok x.narrow x.wide) parts
 
-    pub not-taken : (ltb (get_or full 340 0) 8 && one) ≡ false → None ≡ loaded full_words most bs
-    not-taken h = first-tested false h
+    read-tested : cond (passed full_words most bs cuts) (Some kept) None ≡ loaded full_words most bs
+    read-tested = ap (λ (m : Option ℕ). Tested full_words most bs (is_some m) cuts) (sym some) ∙ all-tested
 
-    pub load_is : (sound : Bool) (seed : ℕ) (f : CodeFields) → (ltb (get_or full 340 0) 8 && one) ≡ true → seed ≡ seed_from p.narrow p.wide
-        → fields_as f ≡ fields_with seed full_words cuts → sound ≡ sound_fields most (fields_as f) → option_map fields_as (then_some sound f) ≡ loaded full_words most bs
-    unfolding fields_from
-    load_is sound seed f h s fs q =
-        let all : fields_as f ≡ kept = fs ∙ ap (λ (k : ℕ). fields_with k full_words cuts) (s ∙ ap (λ (x : SeedParts). seed_from x.narrow x.wide) parts) in
+    pub no-seed : seed_in p ≡ None → None ≡ loaded full_words most bs
+    unfolding seed_in
+    no-seed h =
+        let one = single false (unsaid (seeds_ok p.narrow p.wide) (seed_from p.narrow p.wide) h) in
+        never (ltb (number (saved_field full 5)) 8) kept
+        ∙ (λ i. cond (ltb (number (saved_field full 5)) 8 && (one i && sound_fields most kept)) (Some kept) None)
+        ∙ read-tested
+
+    pub load_is : (sound : Bool) (seed : ℕ) (f : SavedRun) → length full ≡ sum (field_bytes full_words) → seed_in p ≡ Some seed
+        → fields_as f ≡ fields_with seed full_words cuts → sound ≡ sound_fields most (fields_as f)
+        → option_map fields_as (then_some (ltb (get_or full 340 0) 8 && sound) f) ≡ loaded full_words most bs
+    unfolding fields_from seed_in
+    load_is sound seed f long h fs q =
+        let said = said-once (seeds_ok p.narrow p.wide) (seed_from p.narrow p.wide) seed h in
+        let one = single true said.0 in
+        let all : fields_as f ≡ kept = fs ∙ ap (λ (k : ℕ). fields_with k full_words cuts) (sym said.1 ∙ ap (λ (x : SeedParts). seed_from x.narrow x.wide) parts) in
         let tested = q ∙ ap (sound_fields most) all in
-        mapped sound f ∙ (λ i. cond (tested i) (Some (all i)) None) ∙ first-tested true h
+        let flags = sym (flags-byte full long) in
+        mapped (ltb (get_or full 340 0) 8 && sound) f
+        ∙ (λ i. cond (ltb (flags i) 8 && (one i && tested i)) (Some (all i)) None)
+        ∙ read-tested
 
 -- what was not read is not loaded, and what was read is
-pub not-loaded : {o : Option CodeFields} {r : Option Fields} → o ≡ None → option_map fields_as o ≡ r → None ≡ r
+pub not-loaded : {o : Option SavedRun} {r : Option Fields} → o ≡ None → option_map fields_as o ≡ r → None ≡ r
 not-loaded h e = ap (option_map fields_as) (sym h) ∙ e
 
-pub is-loaded : {o : Option CodeFields} {f : CodeFields} {r : Option Fields} → o ≡ Some f → option_map fields_as o ≡ r → Some (fields_as f) ≡ r
+pub is-loaded : {o : Option SavedRun} {f : SavedRun} {r : Option Fields} → o ≡ Some f → option_map fields_as o ≡ r → Some (fields_as f) ≡ r
 is-loaded h e = ap (option_map fields_as) (sym h) ∙ e

@@ -18,9 +18,9 @@ use crate::{numbers, saved, start, state, words};
 use form::{eight, number, unpack};
 
 // What a save keeps of a run.
-// Kept: the poses are numbers, as a run keeps them, since the C interface lends them so.
+// Kept: the poses are sixteen numbers, as in `Run`, whose form the C interface has (host/grader.h).
 #[derive(Clone, Copy)]
-pub(crate) struct Fields {
+pub(crate) struct SavedRun {
     pub seed: u64,
     pub share: f64,
     pub limit: u32,
@@ -91,18 +91,18 @@ fn seeds_in(full: &[u8]) -> SeedParts
 }
 
 // The fields as they lie end to end, of a run with this seed.
-fn fields_in(seed: u64, full: &[u8; ALL_BYTES]) -> Fields
+fn fields_in(seed: u64, full: &[u8; ALL_BYTES]) -> SavedRun
     ensures { fields_as result ≡ fields_with seed full_words (cut (field_bytes full_words) full.now) }
 {
     let share = float_at(full, SHARE_AT);
     let limit = four_at(full, LIMIT_AT);
     let tick = four_at(full, TICK_AT);
     let credited = credited_in(full);
-    let flags = number::number_at(full, FLAGS_AT, 1);
+    let flags = full[FLAGS_AT];
     let car = car_in(full);
     let poses = poses_in(full);
     let n = number::number_at(full, COUNT_AT, 2) as u32;
-    Fields {
+    SavedRun {
         seed,
         share,
         limit,
@@ -118,7 +118,7 @@ fn fields_in(seed: u64, full: &[u8; ALL_BYTES]) -> Fields
 }
 
 // Settings, poses and tile count are in range, no credited tile is at or past the tile count, and the tick is not past the limit.
-fn is_sound(f: Fields) -> bool
+fn is_sound(f: SavedRun) -> bool
     ensures { result ≡ sound_fields most_tiles (fields_as f) }
 {
     let poses = numbers::poses_from(&f.poses);
@@ -129,17 +129,14 @@ fn is_sound(f: Fields) -> bool
 }
 
 // What the bytes say, if they are not refused; no field of theirs may stand with zeros, flags above 7 are unknown, and one seed stands at most.
-pub(crate) fn load(bytes: &[u8]) -> Option<Fields>
+pub(crate) fn load(bytes: &[u8]) -> Option<SavedRun>
     ensures { option_map fields_as result ≡ loaded full_words most_tiles bytes.now }
 {
     let rows = saved::rows();
     let mut full = [0u8; ALL_BYTES];
     unpack::unpack(&rows, bytes, &mut full)?;
-    let seeds = seeds_in(&full);
+    let seed = seeds_in(&full).seed()?;
+    let fields = fields_in(seed, &full);
     let known = full[FLAGS_AT] < 8;
-    if !(known & saved::seeds_ok(seeds)) {
-        return None;
-    }
-    let fields = fields_in(saved::seed_from(seeds), &full);
-    is_sound(fields).then_some(fields)
+    (known & is_sound(fields)).then_some(fields)
 }

@@ -1,8 +1,9 @@
-// Quads of four corners: a wheel's, a tile's, and whether two of them overlap (document 01, "Touch").
+// Quads of four corners: whether two of them overlap, a wheel's quad, and the cells of four wheels' boxes (document 01, "Touch").
 ghost use Rattle.std.specs.Prelude.{◌≡◌, not, ◌||◌};
+ghost use Rattle.course.specs.Rules.Tiles.{number_at};
 ghost use Rattle.run.specs.Rules.Overlap.{apart_on, apart_by_edges, overlap_of};
 ghost use Rattle.run.specs.Rules.Wheel.{placed, wheel_quad, box_cells};
-ghost use Rattle.run.specs.Steps.Touch.{span_on, spans_apart, first_side, beyond, apart_by_others, sixteen_cells};
+ghost use Rattle.run.specs.Steps.Touch.{edge_normal, projected, span_on, spans_apart, first_side, beyond, apart_by_others, sixteen_cells};
 
 use crate::dynamics::{SIZE, WHEEL_R};
 use crate::state::Pose;
@@ -12,6 +13,20 @@ use course::rect::Rect;
 
 const WHEEL_W: f64 = 14.0;
 
+// A normal of the edge from a to b, as long as the edge.
+fn normal(a: [f64; 2], b: [f64; 2]) -> [f64; 2]
+    ensures { result ≡ edge_normal a b }
+{
+    [b[1] - a[1], a[0] - b[0]]
+}
+
+// The projection of a corner on an axis, times the axis's length.
+fn projection(axis: [f64; 2], corner: [f64; 2]) -> f64
+    ensures { result ≡ projected axis corner }
+{
+    axis[0] * corner[0] + axis[1] * corner[1]
+}
+
 // The least and the greatest projection of a quad on an axis.
 #[derive(Clone, Copy)]
 pub(crate) struct Span {
@@ -20,15 +35,15 @@ pub(crate) struct Span {
 }
 
 impl Span {
-    // The projections of a quad's corners on the axis (nx, ny).
+    // The projections of a quad's corners on an axis.
     #[tactic(auto, unfolding(crate::specs::Rules::Overlap::least_on, crate::specs::Rules::Overlap::greatest_on))]
-    fn on(nx: f64, ny: f64, q: [[f64; 2]; 4]) -> Span
-        ensures { result ≡ span_on nx ny q }
+    fn on(axis: [f64; 2], q: [[f64; 2]; 4]) -> Span
+        ensures { result ≡ span_on axis q }
     {
-        let a = nx * q[0][0] + ny * q[0][1];
-        let b = nx * q[1][0] + ny * q[1][1];
-        let c = nx * q[2][0] + ny * q[2][1];
-        let d = nx * q[3][0] + ny * q[3][1];
+        let a = projection(axis, q[0]);
+        let b = projection(axis, q[1]);
+        let c = projection(axis, q[2]);
+        let d = projection(axis, q[3]);
         Span {
             low: least(a, b, c, d),
             high: greatest(a, b, c, d),
@@ -43,12 +58,12 @@ impl Span {
     }
 }
 
-// The quads lie apart on the axis (nx, ny).
+// The quads lie apart on the axis.
 #[tactic(auto, unfolding(crate::specs::Rules::Overlap::apart_on))]
-fn apart_on(nx: f64, ny: f64, a: [[f64; 2]; 4], b: [[f64; 2]; 4]) -> bool
-    ensures { result ≡ apart_on nx ny a b }
+fn apart_on(axis: [f64; 2], a: [[f64; 2]; 4], b: [[f64; 2]; 4]) -> bool
+    ensures { result ≡ apart_on (number_at axis 0) (number_at axis 1) a b }
 {
-    Span::on(nx, ny, a).is_apart(Span::on(nx, ny, b))
+    Span::on(axis, a).is_apart(Span::on(axis, b))
 }
 
 // The quads lie apart on a normal of one of the edges of q after the first.
@@ -56,9 +71,9 @@ fn apart_on(nx: f64, ny: f64, a: [[f64; 2]; 4], b: [[f64; 2]; 4]) -> bool
 fn apart_by_others(q: [[f64; 2]; 4], a: [[f64; 2]; 4], b: [[f64; 2]; 4]) -> bool
     ensures { result ≡ apart_by_others q a b }
 {
-    apart_on(q[2][1] - q[1][1], q[1][0] - q[2][0], a, b)
-        || apart_on(q[3][1] - q[2][1], q[2][0] - q[3][0], a, b)
-        || apart_on(q[0][1] - q[3][1], q[3][0] - q[0][0], a, b)
+    apart_on(normal(q[1], q[2]), a, b)
+        || apart_on(normal(q[2], q[3]), a, b)
+        || apart_on(normal(q[3], q[0]), a, b)
 }
 
 // The quads lie apart on a normal of one of the four edges of q.
@@ -66,7 +81,7 @@ fn apart_by_others(q: [[f64; 2]; 4], a: [[f64; 2]; 4], b: [[f64; 2]; 4]) -> bool
 fn apart_by_edges(q: [[f64; 2]; 4], a: [[f64; 2]; 4], b: [[f64; 2]; 4]) -> bool
     ensures { result ≡ apart_by_edges q a b }
 {
-    apart_on(q[1][1] - q[0][1], q[0][0] - q[1][0], a, b) || apart_by_others(q, a, b)
+    apart_on(normal(q[0], q[1]), a, b) || apart_by_others(q, a, b)
 }
 
 // Neither the other edges of `a` nor those of `b` part the quads. Apart from the test of the first side, which is compiled into its caller:
@@ -77,11 +92,10 @@ fn overlap_past_first(a: [[f64; 2]; 4], b: [[f64; 2]; 4]) -> bool
     !(apart_by_others(a, a, b) || apart_by_edges(b, a, b))
 }
 
-// The normal (nx, ny) of a quad's first edge, and the quad's own span on it.
+// The normal of a quad's first edge, and the quad's own span on it.
 #[derive(Clone, Copy)]
 pub(crate) struct Side {
-    pub nx: f64,
-    pub ny: f64,
+    pub normal: [f64; 2],
     pub span: Span,
 }
 
@@ -99,10 +113,9 @@ impl Sided {
     pub(crate) fn new(quad: [[f64; 2]; 4]) -> Sided
         ensures { result.quad ≡ quad }
     {
-        let nx = quad[1][1] - quad[0][1];
-        let ny = quad[0][0] - quad[1][0];
-        let span = Span::on(nx, ny, quad);
-        let side = Side { nx, ny, span };
+        let normal = normal(quad[0], quad[1]);
+        let span = Span::on(normal, quad);
+        let side = Side { normal, span };
         Sided { quad, side }
     }
 
@@ -112,7 +125,7 @@ impl Sided {
         ensures { result ≡ beyond self.now.side other }
     {
         let side = self.side;
-        side.span.is_apart(Span::on(side.nx, side.ny, other))
+        side.span.is_apart(Span::on(side.normal, other))
     }
 
     // Whether two quads overlap, by the eight normals of their edges.
@@ -160,15 +173,11 @@ pub fn box_cells(q: [[f64; 2]; 4]) -> [usize; 4]
     [low + r.x0, low + r.x1, high + r.x0, high + r.x1]
 }
 
-// The cells of four wheels' boxes.
-fn wheel_cells(poses: &[Pose; 4]) -> [[usize; 4]; 4]
-    ensures { result ≡ sixteen_cells poses.now }
+// The cells of a wheel's box.
+fn wheel_cells(p: Pose) -> [usize; 4]
+    ensures { result ≡ box_cells (wheel_quad p) }
 {
-    let mut cells = [[0; 4]; 4];
-    for (w, pose) in poses.iter().enumerate() {
-        cells[w] = box_cells(wheel_quad(*pose));
-    }
-    cells
+    box_cells(wheel_quad(p))
 }
 
 // The poses of four wheels, and the cells of each wheel's box. These are made before any of them is looked up: the wheels do not wait for
@@ -185,7 +194,7 @@ impl Stance {
     pub(crate) fn at(poses: [Pose; 4]) -> Stance
         ensures { result.poses ≡ poses }
     {
-        let cells = wheel_cells(&poses);
+        let cells = poses.map(wheel_cells);
         Stance { poses, cells }
     }
 }

@@ -7,7 +7,7 @@ ghost use Rattle.run.specs.Grader.Restore.{run_from, after_restore, restore_of, 
 ghost use Rattle.run.specs.Steps.Load.{fields_as, restored_as};
 ghost use Rattle.run.specs.Steps.Stand.{StanceOr};
 
-use crate::load::Fields;
+use crate::load::SavedRun;
 use crate::quad::Stance;
 use crate::state::{Answered, Progress, Run, Setup};
 use crate::touch::Columns;
@@ -24,7 +24,7 @@ pub struct SavedFor {
 
 // Where the wheels stand at the last poses, or the first of the causes 12, 2 and 10 that holds of what was saved and of the lent course.
 #[tactic(auto, unfolding(crate::specs::Grader::Restore::restore_check, crate::specs::Grader::State::short_of))]
-fn restore_check(f: Fields, columns: Columns<'_>, n: u32) -> Result<Stance, Cause>
+fn restore_check(f: SavedRun, columns: Columns<'_>, n: u32) -> Result<Stance, Cause>
     ensures { StanceOr (restore_check (lent_columns columns.entry) n (Some (fields_as f)))
         (poses_at f.poses 0) result }
 {
@@ -42,7 +42,7 @@ fn restore_check(f: Fields, columns: Columns<'_>, n: u32) -> Result<Stance, Caus
 }
 
 // The saved run with these sets; so many tiles are credited as the first set has.
-fn run_of(f: Fields, credited: [u64; FULL_WORDS], wheels: [u64; WHEEL_WORDS]) -> Run
+fn run_of(f: SavedRun, credited: [u64; FULL_WORDS], wheels: [u64; WHEEL_WORDS]) -> Run
     ensures { view result ≡ run_from (fields_as f) credited wheels }
 {
     let count = words::count(&credited);

@@ -11,7 +11,7 @@ ghost use Rattle.run.specs.Steps.Save.{first_fields, last_fields, first_bytes, l
 use crate::numbers::CAR_NUMBERS;
 use crate::saved::{
     ALL_BYTES, CONTROL_NUMBERS, CONTROLS_AT, COUNT_AT, CREDITED_AT, FLAGS_AT, FUEL_AT, LIMIT_AT,
-    POSES_AT, SEED_AT, SHARE_AT, TICK_AT, WIDE_SEED_AT,
+    POSES_AT, SEED_AT, SHARE_AT, SeedParts, TICK_AT, WIDE_SEED_AT,
 };
 use crate::state::{Progress, Run, Setup};
 use crate::{numbers, saved, state};
@@ -52,11 +52,10 @@ fn put_first(narrow: u64, share: f64, limit: u32, tick: u32, out: &mut [u8])
     requires { length out.old ≡ first_bytes }
     ensures { out.new ≡ joined (first_fields narrow share limit tick) }
 {
-    let shares = [share];
     number::put_number(narrow, 4, &mut out[SEED_AT..SHARE_AT]).unwrap();
-    eight::put(&shares, &mut out[SHARE_AT..LIMIT_AT]).unwrap();
-    number::put_number(limit as u64, 4, &mut out[LIMIT_AT..TICK_AT]).unwrap();
-    number::put_number(tick as u64, 4, &mut out[TICK_AT..CREDITED_AT]).unwrap();
+    eight::put(&[share], &mut out[SHARE_AT..LIMIT_AT]).unwrap();
+    number::put_number(u64::from(limit), 4, &mut out[LIMIT_AT..TICK_AT]).unwrap();
+    number::put_number(u64::from(tick), 4, &mut out[TICK_AT..CREDITED_AT]).unwrap();
 }
 
 // Flags, fuel, controls, poses, tile count and wide seed, in the bytes of all fields.
@@ -76,12 +75,11 @@ fn put_last(
         ≡ take last_from full.old
         ++ joined (last_fields flags fuel controls.now poses.now n wide) }
 {
-    let fuels = [fuel];
     number::put_number(flags, 1, &mut full[FLAGS_AT..FUEL_AT]).unwrap();
-    eight::put(&fuels, &mut full[FUEL_AT..CONTROLS_AT]).unwrap();
+    eight::put(&[fuel], &mut full[FUEL_AT..CONTROLS_AT]).unwrap();
     eight::put(controls, &mut full[CONTROLS_AT..POSES_AT]).unwrap();
     eight::put(poses, &mut full[POSES_AT..COUNT_AT]).unwrap();
-    number::put_number(n as u64, 2, &mut full[COUNT_AT..WIDE_SEED_AT]).unwrap();
+    number::put_number(u64::from(n), 2, &mut full[COUNT_AT..WIDE_SEED_AT]).unwrap();
     number::put_number(wide, 8, &mut full[WIDE_SEED_AT..ALL_BYTES]).unwrap();
 }
 
@@ -98,7 +96,7 @@ fn put_fields(run: Run, full: &mut [u8])
     let mut numbers = [0.0; CAR_NUMBERS];
     numbers::put_car(car, &mut numbers);
     let flags = flags_of(progress.lap, progress.ended, setup.fallback);
-    let seed = saved::seed_parts(run.seed);
+    let seed = SeedParts::of(run.seed);
     put_first(
         seed.narrow,
         setup.lap_share,

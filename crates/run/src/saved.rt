@@ -1,8 +1,9 @@
 // The table of a save's fields (document 02, order 1), and the two of them that a seed may stand in (order 3).
 ghost use Rattle.std.specs.Prelude.{◌≡◌, false};
 ghost use Rattle.run.specs.Grader.Widths.{full_words};
-ghost use Rattle.run.specs.Grader.Saved.{second_form, seed_from, seeds_ok};
+ghost use Rattle.run.specs.Grader.Saved.{second_form};
 ghost use Rattle.run.specs.Steps.Save.{seed_parts};
+ghost use Rattle.run.specs.Steps.Load.{seed_in};
 
 use crate::numbers::{CAR_NUMBERS, POSE_NUMBERS};
 use crate::widths::FULL_WORDS;
@@ -40,11 +41,45 @@ pub(crate) const WIDE_SEED_AT: usize = COUNT_AT + 2;
 // How many bytes all of them have.
 pub(crate) const ALL_BYTES: usize = WIDE_SEED_AT + 8;
 
+// The least seed that four bytes do not hold.
+const LEAST_WIDE: u64 = 1 << 32;
+
 // The numbers of the two fields of a seed: four bytes in bit 0, or eight in bit 10.
 #[derive(Clone, Copy)]
 pub(crate) struct SeedParts {
     pub narrow: u64,
     pub wide: u64,
+}
+
+impl SeedParts {
+    // A seed in its field, and 0 in the other.
+    #[tactic(auto, unfolding(crate::specs::Steps::Save::seed_parts, crate::specs::Grader::Saved::narrow_part, crate::specs::Grader::Saved::wide_part))]
+    pub(crate) fn of(seed: u64) -> SeedParts
+        ensures { result ≡ seed_parts seed }
+    {
+        if seed < LEAST_WIDE {
+            return SeedParts {
+                narrow: seed,
+                wide: 0,
+            };
+        }
+        SeedParts {
+            narrow: 0,
+            wide: seed,
+        }
+    }
+
+    // The seed that the two fields say, unless both of them stand, or the wide one is no wide seed (cause 11).
+    #[tactic(auto, unfolding(crate::specs::Steps::Load::seed_in, crate::specs::Grader::Saved::seeds_ok, crate::specs::Grader::Saved::seed_from))]
+    pub(crate) fn seed(self) -> Option<u64>
+        ensures { result ≡ seed_in self }
+    {
+        if self.wide == 0 {
+            return Some(self.narrow);
+        }
+        let alone = (self.narrow == 0) & (LEAST_WIDE <= self.wide);
+        alone.then_some(self.wide)
+    }
 }
 
 // A row whose field may not stand with zeros.
@@ -74,38 +109,4 @@ pub(crate) fn rows() -> [Row; FIELDS]
         row(WIDE_SEED_AT - COUNT_AT),
         row(ALL_BYTES - WIDE_SEED_AT),
     ]
-}
-
-// A seed in its field, and 0 in the other.
-#[tactic(auto, unfolding(crate::specs::Steps::Save::seed_parts, crate::specs::Grader::Saved::narrow_part, crate::specs::Grader::Saved::wide_part))]
-pub(crate) fn seed_parts(seed: u64) -> SeedParts
-    ensures { result ≡ seed_parts seed }
-{
-    if seed < 0x1_0000_0000 {
-        return SeedParts {
-            narrow: seed,
-            wide: 0,
-        };
-    }
-    SeedParts {
-        narrow: 0,
-        wide: seed,
-    }
-}
-
-// The seed that the two fields say.
-pub(crate) fn seed_from(p: SeedParts) -> u64
-    ensures { result ≡ seed_from p.narrow p.wide }
-{
-    if p.wide == 0 {
-        return p.narrow;
-    }
-    p.wide
-}
-
-// Not both of them stand, and a wide seed is 2^32 or more (cause 11).
-pub(crate) fn seeds_ok(p: SeedParts) -> bool
-    ensures { result ≡ seeds_ok p.narrow p.wide }
-{
-    (p.wide == 0) | ((p.narrow == 0) & (0x1_0000_0000 <= p.wide))
 }

@@ -3,8 +3,8 @@
 -- touch. Assumes nothing.
 use Rattle.std.specs.Prelude.{◌≡◌, Bool, true, false, not, ◌&&◌, ◌||◌, List, [], ◌∷◌, ℕ, ◌*◌, ◌^◌, ◌≤◌, ◌<◌, Float, length}
 use Rattle.std.specs.Float.Ieee.{lt}
-use Rattle.course.specs.Rules.Arithmetic.{◌⊖◌}
-use Rattle.course.specs.Rules.Tiles.{corner, tile_of}
+use Rattle.course.specs.Rules.Arithmetic.{◌⊕◌, ◌⊖◌, ◌⊗◌}
+use Rattle.course.specs.Rules.Tiles.{number_at, pair, corner, tile_of}
 use Rattle.run.specs.Rules.Overlap.{least_on, greatest_on, apart_along, overlap_of}
 use Rattle.run.specs.Rules.Wheel.{quad_of, box_cells}
 use Rattle.run.specs.Rules.Below.{how_many}
@@ -15,25 +15,33 @@ use Rattle.run.specs.declared.state.Pose.{Pose}
 use Rattle.run.specs.declared.quad.Span.{Span}
 use Rattle.run.specs.declared.quad.Side.{Side}
 
--- a quad's least and greatest projection on the axis (nx, ny)
-abbrev pub span_on : Float → Float → List (List Float) → Span
-span_on nx ny q = record { low = least_on nx ny q; high = greatest_on nx ny q }
+-- the normal of the edge from a to b, as `apart_along` takes it
+abbrev pub edge_normal : List Float → List Float → List Float
+edge_normal a b = pair (number_at b 1 ⊖ number_at a 1) (number_at a 0 ⊖ number_at b 0)
+
+-- the projection of a corner on an axis
+abbrev pub projected : List Float → List Float → Float
+projected n p = number_at n 0 ⊗ number_at p 0 ⊕ number_at n 1 ⊗ number_at p 1
+
+-- a quad's least and greatest projection on an axis
+abbrev pub span_on : List Float → List (List Float) → Span
+span_on n q = record { low = least_on (number_at n 0) (number_at n 1) q; high = greatest_on (number_at n 0) (number_at n 1) q }
 
 -- one of the two ends before the other begins
 abbrev pub spans_apart : Span → Span → Bool
 spans_apart p r = lt p.high r.low || lt r.high p.low
 
--- the normal (nx, ny) with the quad's own span on it
-abbrev pub side_along : Float → Float → List (List Float) → Side
-side_along nx ny q = record { nx = nx; ny = ny; span = span_on nx ny q }
+-- a normal with the quad's own span on it
+abbrev pub side_along : List Float → List (List Float) → Side
+side_along n q = record { normal = n; span = span_on n q }
 
 -- the side of a quad's edge from corner 0 to corner 1
 unfoldable pub first_side : List (List Float) → Side
-first_side q = side_along (corner q 1 1 ⊖ corner q 0 1) (corner q 0 0 ⊖ corner q 1 0) q
+first_side q = side_along (pair (corner q 1 1 ⊖ corner q 0 1) (corner q 0 0 ⊖ corner q 1 0)) q
 
 -- the quad lies apart on the side's normal from the quad that the side is of
 unfoldable pub beyond : Side → List (List Float) → Bool
-beyond s q = spans_apart s.span (span_on s.nx s.ny q)
+beyond s q = spans_apart s.span (span_on s.normal q)
 
 -- the quads lie apart on a normal of one of the edges of q after the first
 unfoldable pub apart_by_others : List (List Float) → List (List Float) → List (List Float) → Bool

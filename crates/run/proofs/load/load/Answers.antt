@@ -8,7 +8,7 @@ use Rattle.run.specs.Steps.Save.{all_bytes}
 use Rattle.run.proofs.FieldSizes.{all-bytes}
 use Rattle.std.specs.Prelude.{option_map}
 use Rattle.run.specs.Steps.Load.{fields_as}
-use Rattle.run.proofs.LoadLaws.{none-read, not-taken, load_is}
+use Rattle.run.proofs.LoadLaws.{none-read, no-seed, load_is}
 use borrow.Author.Rules.{rules}
 use native.Mathlib.Omega.{arith}
 use Rattle.run.proofs.load.load.Goals as goal
@@ -18,13 +18,11 @@ returns-in_err-unpack c =
     ap (option_map fields_as) c.from_residual.ensures
     ∙ none-read most_tiles c.args.bytes.now c.unpack.new.full _ _ c.unpack.result (omega (arith, all-bytes)) c.rows-rows.ensures c.unpack.ensures c.in_err-unpack.was
 
-pub returns-then-not-known-seeds_ok : goal.returns-then-not-known-seeds_ok
-returns-then-not-known-seeds_ok c =
-    let full-long : length c.unpack.new.full ≡ sum (field_bytes full_words) =
-    let e : length c.unpack.new.full ≡ all_bytes = search rules in e ∙ sym all-bytes
-    in
-    not-taken most_tiles c.args.bytes.now c.unpack.new.full _ _ c.unpack.result (omega (arith, all-bytes)) c.rows-rows.ensures c.unpack.ensures full-long
-    _ c.seeds_in-seeds.result c.seeds_ok.result c.in_ok-unpack.was c.seeds_in-seeds.ensures c.seeds_ok.ensures c.if-not-known-seeds_ok.true
+pub returns-in_err-seed : goal.returns-in_err-seed
+returns-in_err-seed c =
+    ap (option_map fields_as) c.from_residual-in_err-seed.ensures
+    ∙ no-seed most_tiles c.args.bytes.now c.unpack.new.full _ _ c.unpack.result (omega (arith, all-bytes)) c.rows-rows.ensures c.unpack.ensures
+    _ c.seeds_in.result c.in_ok-unpack.was c.seeds_in.ensures (sym c.seed.ensures ∙ c.in_err-seed.was)
 
 pub returns : goal.returns
 returns c =
@@ -32,6 +30,6 @@ returns c =
     let e : length c.unpack.new.full ≡ all_bytes = search rules in e ∙ sym all-bytes
     in
     ap (option_map fields_as) c.then_some.ensures
-    ∙ load_is most_tiles c.args.bytes.now c.unpack.new.full _ _ c.unpack.result (omega (arith, all-bytes)) c.rows-rows.ensures c.unpack.ensures full-long
-    _ c.seeds_in-seeds.result c.seeds_ok.result c.in_ok-unpack.was c.seeds_in-seeds.ensures c.seeds_ok.ensures
-    c.is_sound.result c.seed_from.result c.fields_in-fields.result c.if-not-known-seeds_ok.false c.seed_from.ensures c.fields_in-fields.ensures c.is_sound.ensures
+    ∙ load_is most_tiles c.args.bytes.now c.unpack.new.full _ _ c.unpack.result (omega (arith, all-bytes)) c.rows-rows.ensures c.unpack.ensures
+    _ c.seeds_in.result c.in_ok-unpack.was c.seeds_in.ensures
+    c.is_sound.result _ c.fields_in-fields.result full-long (sym c.seed.ensures ∙ c.in_ok-seed.was) c.fields_in-fields.ensures c.is_sound.ensures

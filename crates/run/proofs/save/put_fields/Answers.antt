@@ -20,5 +20,5 @@ returns c =
     search rules
     in
     let s = view c.args.run in
-    fields-put (fields_of s) c.args.full.now _ _ _ c.put.result c.seed_parts-seed.result c.from.result _ (state-whole full_words s credited-length poses-length) c.requires
-    c.seed_parts-seed.ensures c.put_first.ensures c.put.ensures.value (c.from.ensures ∙ c.flags_of-flags.ensures) (ap (take control_count) c.put_car.ensures) c.put_last.ensures
+    fields-put (fields_of s) c.args.full.now _ _ _ c.put.result c.of-seed.result c.from.result _ (state-whole full_words s credited-length poses-length) c.requires
+    c.of-seed.ensures c.put_first.ensures c.put.ensures.value (c.from.ensures ∙ c.flags_of-flags.ensures) (ap (take control_count) c.put_car.ensures) c.put_last.ensures

@@ -1,6 +1,7 @@
 -- `run::save::put_first` meets its contract. Assumes nothing.
 use mathlib.Core.List.{[], ◌∷◌}
-use mathlib.Core.Path.{refl}
+use mathlib.Core.Path.{refl, ap₂, ◌∙◌}
+use Prim.Native.Nat.{ℕ}
 use native.Mathlib.Omega.{arith}
 use Rattle.form.specs.Rules.Bytes.{low, float_bytes}
 use Rattle.form.specs.Rules.Form.{joined}
@@ -15,12 +16,12 @@ pub returns : goal.returns
 unfolding first_fields
 returns c =
     let s = c.args in
-    let g3 = low 4 s.tick ∷ [] in
-    let g2 = low 4 s.limit ∷ g3 in
+    let g3 = low 4 c.from-2.result ∷ [] in
+    let g2 = low 4 c.from.result ∷ g3 in
     let g1 = float_bytes (s.share ∷ []) ∷ g2 in
     let k0 = begins s.out.now (joined (low 4 s.narrow ∷ g1)) _ refl in
     let k1 = field-on (low 4 s.narrow) g1 _ 4 _ k0 c.put_number.ensures.value (low-length 4 s.narrow) (omega arith) (omega (arith, c.requires)) in
     let k2 = field-on (float_bytes (s.share ∷ [])) g2 _ 12 _ k1 c.put.ensures.value (floats-long (s.share ∷ []) 1 refl) (omega arith) (omega (arith, c.requires)) in
-    let k3 = field-on (low 4 s.limit) g3 _ 16 _ k2 c.put_number-2.ensures.value (low-length 4 s.limit) (omega arith) (omega (arith, c.requires)) in
-    let k4 = field-on (low 4 s.tick) [] _ 20 _ k3 c.put_number-3.ensures.value (low-length 4 s.tick) (omega arith) (omega (arith, c.requires)) in
-    fields-end k4 c.requires
+    let k3 = field-on (low 4 c.from.result) g3 _ 16 _ k2 c.put_number-2.ensures.value (low-length 4 c.from.result) (omega arith) (omega (arith, c.requires)) in
+    let k4 = field-on (low 4 c.from-2.result) [] _ 20 _ k3 c.put_number-3.ensures.value (low-length 4 c.from-2.result) (omega arith) (omega (arith, c.requires)) in
+    fields-end k4 c.requires ∙ ap₂ (λ (limit tick : ℕ). joined (first_fields s.narrow s.share limit tick)) c.from.ensures c.from-2.ensures

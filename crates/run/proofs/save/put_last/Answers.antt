@@ -1,6 +1,8 @@
 -- `run::save::put_last` meets its contract. Assumes nothing.
-use mathlib.Core.List.{[], ◌∷◌}
-use mathlib.Core.Path.{refl}
+use mathlib.Core.List.{[], ◌∷◌, ◌++◌}
+use mathlib.Core.Path.{refl, ap, ◌∙◌}
+use Prim.Native.Nat.{ℕ}
+use lib.ListN.{take}
 use native.Mathlib.Omega.{arith}
 use Rattle.form.specs.Rules.Bytes.{low, float_bytes}
 use Rattle.form.specs.Rules.Form.{joined}
@@ -18,7 +20,7 @@ returns c =
     let s = c.args in
     let h = c.requires.full_len in
     let g5 = low 8 s.wide ∷ [] in
-    let g4 = low 2 s.n ∷ g5 in
+    let g4 = low 2 c.from.result ∷ g5 in
     let g3 = float_bytes s.poses.now ∷ g4 in
     let g2 = float_bytes s.controls.now ∷ g3 in
     let g1 = float_bytes (s.fuel ∷ []) ∷ g2 in
@@ -27,6 +29,6 @@ returns c =
     let k2 = field-on (float_bytes (s.fuel ∷ [])) g2 _ 349 _ k1 c.put.ensures.value (floats-long (s.fuel ∷ []) 1 refl) (omega arith) (omega (arith, h)) in
     let k3 = field-on (float_bytes s.controls.now) g3 _ 509 _ k2 c.put-2.ensures.value (floats-long s.controls.now control_count c.requires.controls_len) (omega arith) (omega (arith, h)) in
     let k4 = field-on (float_bytes s.poses.now) g4 _ 637 _ k3 c.put-3.ensures.value (floats-long s.poses.now pose_count c.requires.poses_len) (omega arith) (omega (arith, h)) in
-    let k5 = field-on (low 2 s.n) g5 _ 639 _ k4 c.put_number-2.ensures.value (low-length 2 s.n) (omega arith) (omega (arith, h)) in
+    let k5 = field-on (low 2 c.from.result) g5 _ 639 _ k4 c.put_number-2.ensures.value (low-length 2 c.from.result) (omega arith) (omega (arith, h)) in
     let k6 = field-on (low 8 s.wide) [] _ 647 _ k5 c.put_number-3.ensures.value (low-length 8 s.wide) (omega arith) (omega (arith, h)) in
-    fields-end k6 h
+    fields-end k6 h ∙ ap (λ (n : ℕ). take last_from s.full.now ++ joined (last_fields s.flags s.fuel s.controls.now s.poses.now n s.wide)) c.from.ensures
