@@ -23,7 +23,7 @@ pub(crate) fn put(set: &mut [u64], id: usize)
     requires { id < 64 * length set.old }
     ensures { set.new ≡ set_of (length set.old) (λ t. member set.old t || eqb t id) }
 {
-    set[id / 64] = set[id / 64] | (1u64 << (id % 64));
+    set[id / 64] |= 1u64 << (id % 64);
 }
 
 // The empty set.
