@@ -227,7 +227,8 @@ fn drive_check(
     Ok(action)
 }
 
-// The call on the parts that it reads and changes, the wheels' sets lent. A refusal leaves them.
+// The call on the parts that it reads and changes, the wheels' sets lent. A refusal leaves them. The action is the number that a host hands:
+// that it is none is a cause of this call, 7, which stands behind causes 4 to 6 of the state.
 pub fn drive_parts(
     setup: Setup,
     progress: &mut Progress,

@@ -1,7 +1,6 @@
-// Sets of tiles kept as words of 64 bits: tile t is bit t % 64 of word t / 64. A set is lent as a slice: the credited tiles' is an array,
-// and a wheel's is a part of the four wheels' words.
-// Kept as functions: to `[u64]` Rust adds methods by a trait alone, which for this one type would say each contract over a word of its own
-// for `Self`, so that `touched.put(id)` stands for `words::put(touched, id)`.
+// Sets of tiles kept as words of 64 bits: tile t is bit t % 64 of word t / 64. A set is lent as a slice.
+// Kept as functions of a slice: document 01 names one [u64; 160] array for the four wheels' sets, so that a wheel's set is a part of an
+// array, no value of a type of its own, which could have methods.
 ghost use Rattle.std.specs.Prelude.{◌≡◌, false, not, ◌&&◌, ◌||◌, ◌*◌, ◌^◌, ◌<◌, eqb, length};
 ghost use Rattle.run.specs.Rules.Below.{how_many};
 ghost use Rattle.std.specs.List.{list_all};
