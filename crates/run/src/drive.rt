@@ -172,6 +172,7 @@ fn any_stands(words: &[u64]) -> bool
 
 // Whether a wheel touched a tile at the last contact, by its set. The first words are looked at alone: they hold the tiles of most courses,
 // so that they answer for a wheel on the road.
+#[inline(always)]
 fn on_road(set: &[u64]) -> bool
     ensures { result ≡ any_below (64 * length set.now) (member set.now) }
 {

@@ -35,6 +35,8 @@ pub(crate) fn clear(set: &mut [u64])
 
 // What is in `wheel` and not in `before` is credited; how many of these tiles were not credited before. A
 // course has few tiles for the words at hand: those after the word of tile n - 1 are not gone through.
+// Kept by index where it credits: tried with `credited.iter_mut()` zipped to the two, and while it is lent the loop's invariant has no word for
+// what it holds, so that nothing is known of the set after the loop.
 pub(crate) fn credit(credited: &mut [u64], before: &[u64], wheel: &[u64], n: usize) -> u32
     requires { Creditable (length credited.old) n before.now wheel.now }
     ensures credited_after { credited.new
