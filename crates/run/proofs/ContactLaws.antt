@@ -75,7 +75,7 @@ part_of m P (suc k) w h =
     ]
 
 -- a wheel's part has the words of one set
-part-long : (m w : ℕ) (W : List ℕ) → length W ≡ 4 * m → w < 4 → length (wheel_part m W w) ≡ m
+pub part-long : (m w : ℕ) (W : List ℕ) → length W ≡ 4 * m → w < 4 → length (wheel_part m W w) ≡ m
 unfolding wheel_part
 part-long m w W l h =
     length-take-le m (drop (w * m) W) (subst (λ (x : ℕ). m ≤ x) (sym (length-drop (w * m) W)) (drop-long (w * m) (length W) m (part-ends w m l h)))

@@ -1,7 +1,5 @@
 -- The bits of constants: what the compiled code has in the place of the Rust's expressions. Assumes nothing.
 use mathlib.Core.Path.{◌≡◌, refl}
-use Rattle.run.specs.Rules.Pass.{no_force}
-use Rattle.run.specs.declared.dynamics.Force.{Force}
 use lib.Ieee.{binary64, of_bits, of_int, round, mul, div}
 use Rattle.course.specs.Rules.Arithmetic.{natural, decimal}
 use Rattle.course.specs.Rules.Constants.{fps}
@@ -79,7 +77,3 @@ six_tenths = refl
 pub nine_tenths : decimal 9 10 ≡ of_bits binary64 0x3feccccccccccccd
 unfolding decimal round of_bits
 nine_tenths = refl
-
--- a force of zeros, as the default is
-pub zero-force : (f : Force) → (f.motor ≡ of_bits binary64 0) × ((f.fx ≡ of_bits binary64 0) × (f.fy ≡ of_bits binary64 0)) → f ≡ no_force
-zero-force f h = λ i. record { motor = (h.0) i; fx = (h.1.0) i; fy = (h.1.1) i }

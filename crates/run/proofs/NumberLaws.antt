@@ -19,7 +19,7 @@ use Rattle.run.specs.declared.state.Pose.{Pose}
 use Rattle.run.specs.declared.dynamics.Force.{Force}
 use Rattle.run.specs.Rules.Arguments.{pose_at}
 use Rattle.run.specs.Rules.Pass.{ctl_at}
-use Rattle.run.specs.Grader.Numbers.{control_count, wheel_from, wheel_list, car_from, car_numbers, pose_from, pose_list, poses_at, pose_numbers, force_list, force_at, force_numbers, four_from}
+use Rattle.run.specs.Grader.Numbers.{control_count, wheel_from, wheel_list, car_from, car_numbers, pose_list, pose_numbers, force_list, force_at, force_numbers, four_from}
 
 -- ---- four records of k numbers each, one after the other
 module _ {T : Type 0} (f : T → List Float) (k : ℕ) (rs : List T) where
@@ -111,12 +111,3 @@ poses_written ps h = ap (flat_map pose_list) (four-items ps (pose_at [] 0) h)
 pub forces_written : (fs : List Force) → length fs ≡ 4 → flat_map force_list fs ≡ force_numbers fs
 unfolding force_numbers
 forces_written fs h = ap (flat_map force_list) (four-items fs (force_at [] 0) h)
-
--- each wheel's pose is read back from the numbers
-pub poses-back : (ps : List Pose) (w : ℕ) → w < 4 → pose_at (poses_at (pose_numbers ps) 0) w ≡ pose_at ps w
-unfolding poses_at pose_from pose_numbers
-poses-back ps zero b = refl
-poses-back ps (suc zero) b = refl
-poses-back ps (suc (suc zero)) b = refl
-poses-back ps (suc (suc (suc zero))) b = refl
-poses-back ps (suc (suc (suc (suc w)))) b = absurd (omega (arith, b))

@@ -3,11 +3,14 @@ ghost use Rattle.std.specs.Prelude.{◌≡◌, ℕ, ◌+◌, ◌*◌, ◌^◌, �
 ghost use Rattle.course.specs.declared.cause.Cause.{Cause};
 ghost use Rattle.run.specs.Grader.Widths.{full_words, most_tiles};
 ghost use Rattle.run.specs.Grader.State.{view};
-ghost use Rattle.run.specs.Grader.Grip.{on_road, roads_of};
+ghost use Rattle.std.specs.List.{list_any};
+ghost use Rattle.run.specs.Rules.Below.{any_below};
+ghost use Rattle.run.specs.Grader.Words.{member};
+ghost use Rattle.run.specs.Grader.Grip.{roads_of};
 ghost use Rattle.run.specs.Rules.Arguments.{motion_ok, motions_ok};
 ghost use Rattle.run.specs.Rules.Pass.{steer_of, gas_of, brake_of, front_of, rear_of, tyres_passed, pass_of};
 ghost use Rattle.run.specs.Grader.Drive.{drive_check, drove_parts, drive_parts_of, driven, drive_of};
-ghost use Rattle.run.specs.Steps.Drive.{wheel_as, any_stands, action_number, numbered, told};
+ghost use Rattle.run.specs.Steps.Drive.{wheel_as, stands, action_number, numbered, told};
 
 use crate::dynamics::{Force, Motion, Turned};
 use crate::state::{Car, Progress, Run, Setup, WheelCtl};
@@ -25,7 +28,7 @@ pub(crate) struct Passed {
 
 // What a driver does in a tick, in the order of the numbers from 0.
 #[derive(Clone, Copy, Debug, PartialEq, Eq)]
-pub enum Action {
+pub(crate) enum Action {
     Nothing,
     Right,
     Left,
@@ -159,51 +162,35 @@ fn motion_ok(m: Motion) -> bool
         & state::in_range(m.vy)
 }
 
-// Whether one of `count` words from `from` on is not 0.
-// Kept as a loop that reads them all, several words at a time: tried with `any`, which reads word by word, and a drive with no wheel on the
-// road took 10 % more instructions.
-#[tactic(auto, using(crate::proofs::RoadLaws::stands_none, crate::proofs::RoadLaws::stands_next, crate::proofs::RoadLaws::stands_end))]
-fn any_stands(wheels: &[u64], from: usize, count: usize) -> bool
-    requires { from + count ≤ length wheels.now }
-    ensures { result ≡ any_stands count wheels.now from }
+// Whether a word is not 0. All are read, several at a time: `any`, which reads word by word and stops, takes 10 % more instructions in a drive
+// with no wheel on the road.
+fn any_stands(words: &[u64]) -> bool
+    ensures { result ≡ list_any stands words.now }
 {
-    let mut any = false;
-    for word in &wheels[from..from + count] {
-        any |= *word != 0;
-    }
-    any
+    words.iter().fold(false, |any, word| any | (*word != 0))
 }
 
-// How many words of a set are looked at first: those that hold the tiles of most courses.
-fn first_words(words: usize) -> usize
-    ensures { result ≤ words }
+// Whether a wheel touched a tile at the last contact, by its set. The first words are looked at alone: they hold the tiles of most courses,
+// so that they answer for a wheel on the road.
+#[inline(always)]
+fn on_road(set: &[u64]) -> bool
+    ensures { result ≡ any_below (64 * length set.now) (member set.now) }
 {
-    words.min(8)
-}
-
-// Whether wheel w touched a tile at the last contact, by sets of `words` words to a wheel. The first words are looked at
-// alone: on most courses they answer for a wheel on the road.
-#[tactic(auto, using(crate::proofs::RoadLaws::first_stands))]
-fn on_road(wheels: &[u64], words: usize, w: usize) -> bool
-    requires { w * words + words ≤ length wheels.now }
-    ensures { result ≡ on_road words wheels.now w }
-{
-    let from = w * words;
-    let first = first_words(words);
-    any_stands(wheels, from, first) || any_stands(wheels, from + first, words - first)
+    let (first, others) = set.split_at(set.len().min(8));
+    any_stands(first) || any_stands(others)
 }
 
 // Which wheels touched a tile at the last contact.
-#[tactic(auto, unfolding(crate::specs::Steps::Drive::roads_to), using(crate::proofs::RoadLaws::roads_more, crate::proofs::RoadLaws::roads_all))]
-fn roads_of(wheels: &[u64], words: usize) -> [bool; 4]
-    requires { 4 * words ≤ length wheels.now }
-    ensures { result ≡ roads_of words wheels.now }
+fn roads_of(wheels: &[u64; WHEEL_WORDS]) -> [bool; 4]
+    ensures { result ≡ roads_of full_words wheels.now }
 {
-    let mut roads = [false; 4];
-    for (w, road) in roads.iter_mut().enumerate() {
-        *road = on_road(wheels, words, w);
-    }
-    roads
+    let (sets, _) = wheels.as_chunks::<FULL_WORDS>();
+    [
+        on_road(&sets[0]),
+        on_road(&sets[1]),
+        on_road(&sets[2]),
+        on_road(&sets[3]),
+    ]
 }
 
 // The four wheels' numbers are in range.
@@ -241,7 +228,8 @@ fn drive_check(
     Ok(action)
 }
 
-// The call on the parts that it reads and changes, the wheels' sets lent. A refusal leaves them.
+// The call on the parts that it reads and changes, the wheels' sets lent. A refusal leaves them. The action is the number that a host hands:
+// that it is none is a cause of this call, 7, which stands behind causes 4 to 6 of the state.
 pub fn drive_parts(
     setup: Setup,
     progress: &mut Progress,
@@ -254,7 +242,7 @@ pub fn drive_parts(
         ≡ drive_parts_of full_words most_tiles setup progress.old car.old wheels.now action motion }
 {
     let action = drive_check(setup, *progress, action, motion)?;
-    let roads = roads_of(wheels, FULL_WORDS);
+    let roads = roads_of(wheels);
     let p = pass(*car, action, motion, roads);
     *car = p.car;
     // A settle is awaited.

@@ -1,4 +1,5 @@
-// A car and four poses as numbers, one wheel after the other: as a host lends a car, and as a run keeps its last poses.
+// Controls, poses, motions and forces as numbers, by one trait, and those of four wheels, one wheel after the other: as a host lends them, and
+// as a run keeps its last poses.
 ghost use Rattle.std.specs.Prelude.{◌≡◌, List, ℕ, ◌+◌, ◌*◌, ◌≤◌, Float, length};
 ghost use Rattle.std.specs.List.{flat_map};
 ghost use Rattle.run.specs.Grader.Numbers.{wheel_from, wheel_list, car_from, car_numbers, pose_from, pose_list, poses_at, pose_numbers, motion_from, motion_list, force_from, force_list, force_numbers, four_from, motions_from, poses_from};
@@ -6,14 +7,20 @@ ghost use Rattle.run.specs.Grader.Numbers.{wheel_from, wheel_list, car_from, car
 use crate::dynamics::{Force, Motion};
 use crate::state::{Car, Pose, WheelCtl};
 
-// Five numbers to a wheel, then the fuel spent.
-pub const CAR_NUMBERS: usize = 21;
+// The controls' numbers, five to a wheel.
+const CONTROL_NUMBERS: usize = 20;
+
+// The controls, then the fuel spent.
+pub const CAR_NUMBERS: usize = CONTROL_NUMBERS + 1;
 
 // Four to a wheel: x, y, cos, sin.
 pub const POSE_NUMBERS: usize = 16;
 
 // Five to a wheel: joint angle, sin, cos, vx, vy.
 pub const MOTION_NUMBERS: usize = 20;
+
+// A settle's in a list of calls, which has as many for it as for a drive: the hull's x and y, the four poses, and two that are not read.
+pub const SETTLE_NUMBERS: usize = MOTION_NUMBERS;
 
 // Three to a wheel: motor, fx, fy.
 pub const FORCE_NUMBERS: usize = 12;
@@ -31,6 +38,8 @@ pub(crate) trait Numbers: Copy {
     ghost list: { Self → List Float };
 
     // The record from number i on.
+    // Kept with a place: a `read` of exactly its numbers, by an array pattern, gives the record of a part of the list, which is that of the
+    // whole list only by a law more of each of the four records.
     fn read(numbers: &[f64], i: usize) -> Self
         requires { i + COUNT ≤ length numbers.now }
         ensures { result ≡ held numbers.now i };
@@ -173,7 +182,7 @@ pub fn car_from(numbers: &[f64; CAR_NUMBERS]) -> Car
 {
     Car {
         ctl: read_four(numbers, 0),
-        fuel_spent: numbers[20],
+        fuel_spent: numbers[CONTROL_NUMBERS],
     }
 }
 
@@ -182,8 +191,8 @@ pub fn car_from(numbers: &[f64; CAR_NUMBERS]) -> Car
 pub fn put_car(car: Car, numbers: &mut [f64; CAR_NUMBERS])
     ensures { numbers.new ≡ car_numbers car }
 {
-    write_four(car.ctl, &mut numbers[..20]);
-    numbers[20] = car.fuel_spent;
+    write_four(car.ctl, &mut numbers[..CONTROL_NUMBERS]);
+    numbers[CONTROL_NUMBERS] = car.fuel_spent;
 }
 
 // The four poses that their numbers hold.
@@ -210,9 +219,9 @@ pub fn motions_from(numbers: &[f64; MOTION_NUMBERS]) -> [Motion; 4]
     read_four(numbers, 0)
 }
 
-// The four wheels' poses of a settle, behind the hull's place.
+// The four wheels' poses of a settle's numbers, behind the hull's place.
 #[tactic(auto, unfolding(crate::specs::Grader::Numbers::poses_at))]
-pub fn settle_poses(numbers: &[f64; MOTION_NUMBERS]) -> [Pose; 4]
+pub fn settle_poses(numbers: &[f64; SETTLE_NUMBERS]) -> [Pose; 4]
     ensures { result ≡ poses_from numbers.now }
 {
     read_four(numbers, 2)

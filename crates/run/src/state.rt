@@ -74,9 +74,10 @@ pub struct Run {
     pub progress: Progress,
     pub car: Car,
     pub credited: [u64; FULL_WORDS],
+    // Kept flat, a set behind the other: document 01, "Which shape goes where", names one array of 160 words, 40 to a wheel.
     pub wheels: [u64; WHEEL_WORDS],
     // The wheels' poses at the last contact, each x, y, cos, sin.
-    // Kept as numbers: the C interface lends a settle these sixteen, and so records would be made of them and written back at every settle.
+    // Kept as numbers: `grader_run` of host/grader.h has `double poses[16]`, and a host lends sixteen numbers to `grader_settle_parts`.
     pub poses: [f64; POSE_NUMBERS],
     // The course's seed, as start was told it.
     pub seed: u64,

@@ -1,4 +1,5 @@
-// The widths of the full state's bit sets, each named once.
+// The widths of a state's bit sets, each named once. The full state is the one whose sets have a bit for each tile of any course, 2,500 at
+// most; definitions and most laws are for any number of words, so that a state with narrower sets, for short courses, can stand beside it.
 use course::constants::MOST_POINTS;
 
 // Words to a set: credited tiles have one set, the wheels one each.

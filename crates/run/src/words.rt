@@ -1,7 +1,6 @@
-// Sets of tiles kept as words of 64 bits: tile t is bit t % 64 of word t / 64. A set is lent as a slice: the credited tiles' is an array,
-// and a wheel's is a part of the four wheels' words.
-// Kept as functions: to `[u64]` Rust adds methods by a trait alone, which for this one type would say each contract over a word of its own
-// for `Self`, so that `touched.put(id)` stands for `words::put(touched, id)`.
+// Sets of tiles kept as words of 64 bits: tile t is bit t % 64 of word t / 64. A set is lent as a slice.
+// Kept as functions of a slice: document 01 names one [u64; 160] array for the four wheels' sets, so that a wheel's set is a part of an
+// array, no value of a type of its own, which could have methods.
 ghost use Rattle.std.specs.Prelude.{◌≡◌, false, not, ◌&&◌, ◌||◌, ◌*◌, ◌^◌, ◌<◌, eqb, length};
 ghost use Rattle.run.specs.Rules.Below.{how_many};
 ghost use Rattle.std.specs.List.{list_all};
@@ -23,7 +22,7 @@ pub(crate) fn put(set: &mut [u64], id: usize)
     requires { id < 64 * length set.old }
     ensures { set.new ≡ set_of (length set.old) (λ t. member set.old t || eqb t id) }
 {
-    set[id / 64] = set[id / 64] | (1u64 << (id % 64));
+    set[id / 64] |= 1u64 << (id % 64);
 }
 
 // The empty set.
@@ -36,6 +35,8 @@ pub(crate) fn clear(set: &mut [u64])
 
 // What is in `wheel` and not in `before` is credited; how many of these tiles were not credited before. A
 // course has few tiles for the words at hand: those after the word of tile n - 1 are not gone through.
+// Kept by index where it credits: tried with `credited.iter_mut()` zipped to the two, and while it is lent the loop's invariant has no word for
+// what it holds, so that nothing is known of the set after the loop.
 pub(crate) fn credit(credited: &mut [u64], before: &[u64], wheel: &[u64], n: usize) -> u32
     requires { Creditable (length credited.old) n before.now wheel.now }
     ensures credited_after { credited.new

@@ -1,11 +1,9 @@
 -- Document 01, "Drive": a wheel's set by its words, and the code's structs of the tyre pass, as private functions of `drive` and
 -- `dynamics` say it. Assumes nothing.
-use Rattle.std.specs.Prelude.{Bool, false, not, List, ℕ, zero, suc, ◌+◌, eqb, get_or, set, replicate, Result}
+use Rattle.std.specs.Prelude.{Bool, not, ℕ, eqb, Result}
 use Rattle.std.specs.Result.{result_map_both}
 use Rattle.course.specs.declared.cause.Cause.{Cause}
-use Rattle.run.specs.Rules.Below.{any_below}
 use Rattle.run.specs.Rules.Dynamics.{TyreForce, PassedWheel}
-use Rattle.run.specs.Grader.Grip.{on_road}
 use Rattle.run.specs.declared.drive.Action.{Action}
 use Rattle.run.specs.declared.drive.Action.TheVariants.{Nothing, Right, Left, Gas, Brake}
 use Rattle.run.specs.declared.dynamics.TyreForce.{TyreForce as CodeTyreForce}
@@ -34,17 +32,8 @@ numbered r = result_map_both action_number (λ c. c) r
 abbrev pub told : ℕ → Result Unit Cause → Result ℕ Cause
 told action r = result_map_both (λ none. action) (λ c. c) r
 
--- ---- a wheel's set
+-- ---- a word of a set
 
--- word j from `from` on is not 0
-unfoldable pub stands : List ℕ → ℕ → ℕ → Bool
-stands ws from j = not (eqb (get_or ws (from + j) 0) 0)
-
--- one of `count` words from `from` on is not 0
-unfoldable pub any_stands : ℕ → List ℕ → ℕ → Bool
-any_stands count ws from = any_below count (stands ws from)
-
--- the roads of four wheels after the first k of them are told
-unfoldable pub roads_to : ℕ → List ℕ → ℕ → List Bool
-roads_to m wheels zero = replicate 4 false
-roads_to m wheels (suc k) = set (roads_to m wheels k) k (on_road m wheels k)
+-- it is not 0
+unfoldable pub stands : ℕ → Bool
+stands w = not (eqb w 0)
