@@ -180,16 +180,15 @@ pub(crate) fn finish(
     columns::clear_from(y, n, m);
     columns::clear_from(tiles, used, 8 * m);
     let built = index::build_index(&tiles[..used], n, alpha, offsets, list);
+    // the scratch is 0 after a refusal too
     columns::clear_from(alpha, 0, m);
-    match built {
-        Ok(entries) => Ok(LaidCourse {
-            n: n as u32,
-            fallback,
-            entries: entries as u32,
-            first,
-        }),
-        Err(need) => Err(LayError::Short(need as u32)),
-    }
+    let entries = built?;
+    Ok(LaidCourse {
+        n: n as u32,
+        fallback,
+        entries,
+        first,
+    })
 }
 
 // The given points go to the front of the lent columns.
