@@ -23,7 +23,9 @@ struct PackedRects<'a> {
 }
 
 // The rectangles, packed, and their cells summed.
-fn total(tiles: &[f64], rects: &mut [f64]) -> usize
+// Kept with a tile's number beside its rectangle: zipped with the tiles in eights, by `as_chunks`, the proof did not close, since after the
+// loop it tells what was written to the pairs, and not what the column of rectangles holds.
+fn pack_and_sum(tiles: &[f64], rects: &mut [f64]) -> usize
     requires { (length rects.old ≤ most_points) × (length rects.old * 8 ≤ length tiles.now) }
     ensures value { result ≡ needed tiles.now (length rects.old) }
     ensures rects_packed { RectsPacked tiles.now (length rects.old) rects.new }
@@ -147,7 +149,7 @@ pub(crate) fn build_index(
     ensures rects_unchanged { drop n rects.new ≡ drop n rects.old }
 {
     let numbers = &mut rects[..n];
-    let need = total(tiles, numbers);
+    let need = pack_and_sum(tiles, numbers);
     if list.len() < need {
         return Err(LayError::Short(need as u32));
     }

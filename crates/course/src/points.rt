@@ -60,6 +60,7 @@ impl Numbered for LayError {
 
 impl LayError {
     // The list length needed at cause 3, else 0.
+    // Kept as a number, 0 for none: the C interface has one field for the length, with 0 where none is told.
     #[tactic(auto, unfolding(crate::specs::Grader::Outcome::error_entries))]
     pub fn entries(self) -> u32
         ensures { result ≡ error_entries self }

@@ -82,6 +82,8 @@ pub(crate) fn before(i: usize, n: usize) -> usize
 }
 
 // The quad of a tile's eight numbers.
+// Kept apart from the cut of the eight out of a column, which stands in rect.rt and in run's touch.rt: a public function of the project has no
+// `requires`, so one that is told a column and a tile would answer an Option, for callers that know that the tile is there.
 #[tactic(auto, unfolding(crate::specs::Rules::Tiles::tile_of))]
 pub fn read_quad(numbers: &[f64; 8]) -> [[f64; 2]; 4]
     ensures { result ≡ tile_of numbers.now 0 }
