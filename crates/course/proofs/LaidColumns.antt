@@ -10,7 +10,7 @@ use Rattle.course.specs.Steps.Index.{Built, index_answer}
 use Rattle.course.proofs.BoolLaws.{and_left, and_right}
 use Rattle.course.specs.Grader.Index.{index_of}
 use Rattle.course.proofs.IndexLaws.{index-length}
-use Rattle.course.proofs.CourseRects.{needed-start, needed-small}
+use Rattle.course.proofs.CourseRects.{needed-start}
 use Rattle.course.proofs.PackedRects.{scratch-cleared}
 use Rattle.course.specs.Rules.Arithmetic.{nought}
 use Rattle.course.specs.Grader.Course.{from_points, cells_of}
@@ -30,7 +30,7 @@ use Rattle.course.proofs.ColumnLaws.{drop_past}
 use Rattle.course.proofs.CourseTiles.{points-long, point-read, tiles-long, betas-taken, xs-taken, ys-taken, points-front}
 
 -- equal columns and equal answers
-pub same_outcome : {r r' : Result LaidCourse LayError} {a a' b b' e e' n n' t t' : List Float} {o o' l l' : List ℕ} → r ≡ r' → a ≡ a' → b ≡ b' → e ≡ e' → n ≡ n' → t ≡ t' → o ≡ o' → l ≡ l'
+same_outcome : {r r' : Result LaidCourse LayError} {a a' b b' e e' n n' t t' : List Float} {o o' l l' : List ℕ} → r ≡ r' → a ≡ a' → b ≡ b' → e ≡ e' → n ≡ n' → t ≡ t' → o ≡ o' → l ≡ l'
     → outcome r (lent a b e n t o l) ≡ outcome r' (lent a' b' e' n' t' o' l')
 same_outcome pr pa pb pe pn pt po pl = λ i. outcome (pr i) (lent (pa i) (pb i) (pe i) (pn i) (pt i) (po i) (pl i))
 

@@ -15,6 +15,8 @@ pub struct TrackPoint {
 }
 
 // The points that three columns begin with.
+// Kept with a count beside the slices: a host lends columns that may be longer than the count, and lay's own are. Cut to the count, the three
+// would still carry three equal lengths as ghost facts.
 #[derive(Clone, Copy)]
 pub(crate) struct PointColumns<'a> {
     pub beta: &'a [f64],
@@ -113,6 +115,7 @@ pub(crate) fn write_tiles(points: &PointColumns, tiles: &mut [f64])
     if n == 0 {
         return;
     }
+    // Kept as a count of places: three columns zipped would be taken apart and put together again as a point.
     let mut last = edges_at(points.point_at(n - 1));
     for i in 0..n {
         let e = edges_at(points.point_at(i));
