@@ -70,7 +70,7 @@ or-ge a b t = go (ltb b a) (eqb a b) (ltb→lt b a) (eqb→eq a b) t
 under : (x p y q n : ℕ) → 0 < q → x * q ≤ y * p → y * 1 ≡ n * q → x ≤ n * p
 under x p y q n Q h e = le_of_mul-le-mul_right (le_trans h (le_of_eq (ap (λ (z : ℕ). z * p) (sym (mul-one y) ∙ e) ∙ mul_right_comm n q p))) Q
 
-pub bounded-of-le : (x y : Float) (n : ℕ) → T (plain x) → HasValue y false n 1 → T (le x y) → Bounded x n
+bounded-of-le : (x y : Float) (n : ℕ) → T (plain x) → HasValue y false n 1 → T (le x y) → Bounded x n
 unfolding le
 bounded-of-le nan y n p h t = absurd p
 bounded-of-le (inf true) y n p h t = absurd p

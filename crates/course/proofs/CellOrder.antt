@@ -19,7 +19,7 @@ capped a b h = omega arith
 cap : (a : ℕ) → min a (2 ^ 64 - 1) ≤ 2 ^ 64 - 1
 cap a = omega arith
 
-pub cast-mono : (x y : Float) → T (plain x) → T (plain y) → T (le x y) → to_unsigned 64 x ≤ to_unsigned 64 y
+cast-mono : (x y : Float) → T (plain x) → T (plain y) → T (le x y) → to_unsigned 64 x ≤ to_unsigned 64 y
 unfolding to_unsigned le
 cast-mono nan y p q h = absurd p
 cast-mono (inf true) y p q h = absurd p

@@ -15,7 +15,7 @@ same? a b = go (ℕ_discrete a b)
     go (no q) = inr q
 
 -- what stands at j after a store at i
-pub stored_at : (l : List ℕ) (i j v x : ℕ) → i < length l → (j ≡ i → v ≡ x) → ((j ≡ i → ⊥) → get_or l j 0 ≡ x) → get_or (set l i v) j 0 ≡ x
+stored_at : (l : List ℕ) (i j v x : ℕ) → i < length l → (j ≡ i → v ≡ x) → ((j ≡ i → ⊥) → get_or l j 0 ≡ x) → get_or (set l i v) j 0 ≡ x
 stored_at l i j v x b f g =
     ⊎_elim
     (λ e. subst (λ (k : ℕ). get_or (set l i v) k 0 ≡ x) (sym e) (get_or-set_same l i v 0 b ∙ f e))

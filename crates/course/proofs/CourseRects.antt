@@ -58,12 +58,10 @@ module _ (tiles : List Float) where
       (omega (arith, needed-start i, start-tile (holds_of tiles) i cell_count, held-area (rect_of tiles i) (rect-small tiles i)))
 
   module _ {n : ℕ} {o l : List ℕ} {need : ℕ} (is : need ≡ needed tiles n) where
-    pub built-laid : needed tiles n ≤ length l → {o' l' : List ℕ} → o' ≡ offsets_of (holds_of tiles) n cell_count → l' ≡ index_of (holds_of tiles) n cell_count → Built tiles n o l (o' ++ drop offset_count o) (l' ++ drop need l) false need
+    pub built-laid : needed tiles n ≤ length l → {o' l' : List ℕ} → o' ≡ offsets_of (holds_of tiles) n cell_count → l' ≡ index_of (holds_of tiles) n cell_count → Built tiles n o l (o' ++ drop offset_count o) (l' ++ drop need l)
     built-laid a p q =
         let t : ltb (length l) (needed tiles n) ≡ false = le-ltb (length l) (needed tiles n) a in
         record {
-          length-needed = is;
-          too_short = sym t;
           offsets = ap (λ (z : List ℕ). z ++ drop offset_count o) p ∙ sym (ap (λ (b : Bool). cond b o (offsets_of (holds_of tiles) n cell_count ++ drop offset_count o)) t);
           entries =
               ap (λ (z : List ℕ). z ++ drop need l) q

@@ -1,20 +1,20 @@
 -- What `finish` leaves is what lay and points write. Assumes nothing.
 use Rattle.std.proofs.Common.{◌≡◌, ℕ, zero, suc, ◌-◌, ◌*◌, ◌<◌, ◌≤◌, Bool, true, false, cond, not, eqb, ltb, leb, List, [], ◌++◌, length, take, drop, replicate, sym, refl, ap, ◌∙◌, subst, ap₂, arith, length-take-le, take_at, lt-ltb, leb-true}
 use native.Mathlib.Decide.{dec_lt}
-use Rattle.std.specs.Prelude.{Result, Ok, Err}
-use Rattle.std.specs.Result.{is_ok}
+use Rattle.std.specs.Prelude.{slice_index_or, Result, Ok, Err}
+use Rattle.std.specs.Result.{is_ok, result_map_both}
 use lib.Ieee.{Float}
 use Rattle.course.specs.Rules.Lengths.{most_points, column_length, quad_numbers, cell_count, offset_count}
 use Rattle.course.specs.Rules.Rect.{holds_of, needed}
-use Rattle.course.specs.Steps.Index.{Built}
+use Rattle.course.specs.Steps.Index.{Built, index_answer}
 use Rattle.course.proofs.BoolLaws.{and_left, and_right}
-use Rattle.course.specs.Grader.Index.{offsets_of, index_of}
+use Rattle.course.specs.Grader.Index.{index_of}
 use Rattle.course.proofs.IndexLaws.{index-length}
-use Rattle.course.proofs.CourseRects.{needed-start, needed-small}
+use Rattle.course.proofs.CourseRects.{needed-start}
 use Rattle.course.proofs.PackedRects.{scratch-cleared}
 use Rattle.course.specs.Rules.Arithmetic.{nought}
 use Rattle.course.specs.Grader.Course.{from_points, cells_of}
-use Rattle.course.specs.Rules.Tiles.{betas, xs, ys, point_at, points_of, tiles_to, tiles_of}
+use Rattle.course.specs.Rules.Tiles.{betas, xs, ys, no_point, point_at, points_of, tiles_to, tiles_of}
 use Rattle.course.specs.Grader.Outcome.{CourseColumns, lent, Outcome, outcome, filled, written, laid_figures, answered, lay_into, roomy_of}
 use Rattle.course.specs.Steps.Tiles.{Roomy}
 use Rattle.course.specs.Grader.Cause.{check}
@@ -24,21 +24,27 @@ use Rattle.course.specs.declared.cause.Cause.TheVariants.{Length}
 use Rattle.course.specs.declared.tiles.TrackPoint.{TrackPoint}
 use Rattle.course.specs.declared.points.LaidCourse.{LaidCourse}
 use Rattle.course.specs.declared.points.LayError.{LayError}
-use Rattle.course.specs.declared.points.LayError.TheVariants.{Short, Refused}
+use Rattle.course.specs.declared.points.LayError.TheVariants.{Refused}
 use Rattle.course.proofs.LengthLaws.{column_fits, column-small}
 use Rattle.course.proofs.ColumnLaws.{drop_past}
 use Rattle.course.proofs.CourseTiles.{points-long, point-read, tiles-long, betas-taken, xs-taken, ys-taken, points-front}
 
 -- equal columns and equal answers
-pub same_outcome : {r r' : Result LaidCourse LayError} {a a' b b' e e' n n' t t' : List Float} {o o' l l' : List ℕ} → r ≡ r' → a ≡ a' → b ≡ b' → e ≡ e' → n ≡ n' → t ≡ t' → o ≡ o' → l ≡ l'
+same_outcome : {r r' : Result LaidCourse LayError} {a a' b b' e e' n n' t t' : List Float} {o o' l l' : List ℕ} → r ≡ r' → a ≡ a' → b ≡ b' → e ≡ e' → n ≡ n' → t ≡ t' → o ≡ o' → l ≡ l'
     → outcome r (lent a b e n t o l) ≡ outcome r' (lent a' b' e' n' t' o' l')
 same_outcome pr pa pb pe pn pt po pl = λ i. outcome (pr i) (lent (pa i) (pb i) (pe i) (pn i) (pt i) (po i) (pl i))
 
 abbrev figures : ℕ → Bool → ℕ → TrackPoint → LaidCourse
 figures k f m p = record { n = k; fallback = f; entries = m; first = p }
 
-same-made : {k k' m m' : ℕ} {p p' : TrackPoint} {f : Bool} → k ≡ k' → m ≡ m' → p ≡ p' → ◌≡◌ {A = Result LaidCourse LayError} (Ok (figures k f m p)) (Ok (figures k' f m' p'))
-same-made {f = f} pk pm pp = λ i. Ok (figures (pk i) f (pm i) (pp i))
+-- the course's values, where the builder answers how many entries its index has
+abbrev laid_by : ℕ → Bool → TrackPoint → Result ℕ LayError → Result LaidCourse LayError
+laid_by k f p r = result_map_both (λ m. figures k f m p) (λ e. e) r
+
+laid-answered : (s f : Bool) (ps : List TrackPoint) → laid_by (length ps) f (slice_index_or ps 0 no_point) (index_answer s (cells_of ps)) ≡ answered s f ps
+unfolding index_answer answered laid_figures
+laid-answered true f ps = refl
+laid-answered false f ps = refl
 
 fill-column : (own c c' : List Float) (k m : ℕ) → own ≡ take k c → k ≤ length c → c' ≡ take k c ++ (replicate (m - k) nought ++ drop m c) → c' ≡ filled m own c
 unfolding filled
@@ -61,7 +67,7 @@ points-in l k = points_of l.beta l.x l.y k
 
 -- after the code: the columns of m points that `finish` was lent, and what its calls made of them; the index is built with `alpha` for scratch,
 -- and the tiles stand in their column before its rest is cleared
-pub record Finished (m : ℕ) (l : CourseColumns) (k : ℕ) (l' : CourseColumns) (scratch written-tiles : List Float) (short : Bool) (need : ℕ) : Type 0 where
+pub record Finished (m : ℕ) (l : CourseColumns) (k : ℕ) (l' : CourseColumns) (scratch written-tiles : List Float) : Type 0 where
   pub size : (0 < k) × (k ≤ m) × (m ≤ most_points)
   pub room : Roomy m l.alpha l.beta l.x l.y l.tiles l.offsets
   pub kept : drop k scratch ≡ drop k l.alpha
@@ -71,9 +77,9 @@ pub record Finished (m : ℕ) (l : CourseColumns) (k : ℕ) (l' : CourseColumns)
   pub y : l'.y ≡ take k l.y ++ (replicate (m - k) nought ++ drop m l.y)
   pub made : written-tiles ≡ tiles_to (points-in l k) k ++ drop (k * 8) l.tiles
   pub tiles : l'.tiles ≡ take (k * 8) written-tiles ++ (replicate (quad_numbers m - k * 8) nought ++ drop (quad_numbers m) written-tiles)
-  pub index : Built (take (k * 8) l'.tiles) k l.offsets l.list l'.offsets l'.list short need
+  pub index : Built (take (k * 8) l'.tiles) k l.offsets l.list l'.offsets l'.list
 
-module _ {m : ℕ} {l : CourseColumns} {k : ℕ} {l' : CourseColumns} {scratch written-tiles : List Float} {short : Bool} {need : ℕ} (d : Finished m l k l' scratch written-tiles short need) where
+module _ {m : ℕ} {l : CourseColumns} {k : ℕ} {l' : CourseColumns} {scratch written-tiles : List Float} (d : Finished m l k l' scratch written-tiles) where
   few : k ≤ m
   few = d.size.1
 
@@ -85,18 +91,14 @@ module _ {m : ℕ} {l : CourseColumns} {k : ℕ} {l' : CourseColumns} {scratch w
       front-tiles _ l.tiles written-tiles l'.tiles (k * 8) (quad_numbers m) (tiles-long (points-in l k) k) tile-numbers d.made d.tiles
       ∙ ap (tiles_to (points-in l k)) (sym (points-long l.beta l.x l.y k))
 
-  built : Built (tiles_of (points-in l k)) (length (points-in l k)) l.offsets l.list l'.offsets l'.list short need
+  built : Built (tiles_of (points-in l k)) (length (points-in l k)) l.offsets l.list l'.offsets l'.list
   built =
-      subst (λ (z : List Float). Built z (length (points-in l k)) l.offsets l.list l'.offsets l'.list short need) own-tiles
-      (subst (λ (j : ℕ). Built (take (k * 8) l'.tiles) j l.offsets l.list l'.offsets l'.list short need) (sym (points-long l.beta l.x l.y k)) d.index)
+      subst (λ (z : List Float). Built z (length (points-in l k)) l.offsets l.list l'.offsets l'.list) own-tiles
+      (subst (λ (j : ℕ). Built (take (k * 8) l'.tiles) j l.offsets l.list l'.offsets l'.list) (sym (points-long l.beta l.x l.y k)) d.index)
 
-  need-is : need ≡ cells_of (points-in l k)
-  unfolding cells_of
-  need-is = built.length-needed
-
-  short-is : short ≡ ltb (length l.list) (cells_of (points-in l k))
-  unfolding cells_of
-  short-is = built.too_short
+  -- whether the list is too short
+  short : Bool
+  short = ltb (length l.list) (cells_of (points-in l k))
 
   list-long : length (index_of (holds_of (tiles_of (points-in l k))) (length (points-in l k)) cell_count) ≡ needed (tiles_of (points-in l k)) (length (points-in l k))
   list-long = index-length _ _ cell_count ∙ sym (needed-start _ (length (points-in l k)))
@@ -126,40 +128,32 @@ module _ {m : ℕ} {l : CourseColumns} {k : ℕ} {l' : CourseColumns} {scratch w
       fill-tiles _ l.tiles written-tiles l'.tiles (k * 8) (quad_numbers m) (tiles-long (points-in l k) k) tile-numbers d.made d.tiles
       ∙ ap (λ (j : ℕ). filled (quad_numbers m) (tiles_to (points-in l k) j) l.tiles) (sym (points-long l.beta l.x l.y k))
 
-  offsets-is : (s : Bool) → short ≡ s → l'.offsets ≡ cond s l.offsets ((from_points (points-in l k)).offsets ++ drop offset_count l.offsets)
-  unfolding from_points
-  offsets-is true h = built.offsets ∙ ap (λ (z : Bool). cond z l.offsets (offsets_of (holds_of (tiles_of (points-in l k))) (length (points-in l k)) cell_count ++ drop offset_count l.offsets)) (sym built.too_short ∙ h)
-  offsets-is false h = built.offsets ∙ ap (λ (z : Bool). cond z l.offsets (offsets_of (holds_of (tiles_of (points-in l k))) (length (points-in l k)) cell_count ++ drop offset_count l.offsets)) (sym built.too_short ∙ h)
+  offsets-is : l'.offsets ≡ cond short l.offsets ((from_points (points-in l k)).offsets ++ drop offset_count l.offsets)
+  unfolding from_points cells_of short
+  offsets-is = built.offsets
 
-  list-is : (s : Bool) → short ≡ s → l'.list ≡ cond s l.list ((from_points (points-in l k)).list ++ drop (length (from_points (points-in l k)).list) l.list)
-  unfolding from_points
-  list-is true h = built.entries ∙ ap (λ (z : Bool). cond z l.list (index_of (holds_of (tiles_of (points-in l k))) (length (points-in l k)) cell_count ++ drop (needed (tiles_of (points-in l k)) (length (points-in l k))) l.list)) (sym built.too_short ∙ h)
-  list-is false h =
-      built.entries ∙ ap (λ (z : Bool). cond z l.list (index_of (holds_of (tiles_of (points-in l k))) (length (points-in l k)) cell_count ++ drop (needed (tiles_of (points-in l k)) (length (points-in l k))) l.list)) (sym built.too_short ∙ h)
-      ∙ ap (λ (j : ℕ). index_of (holds_of (tiles_of (points-in l k))) (length (points-in l k)) cell_count ++ drop j l.list) (sym list-long)
+  list-is : l'.list ≡ cond short l.list ((from_points (points-in l k)).list ++ drop (length (from_points (points-in l k)).list) l.list)
+  unfolding from_points cells_of short
+  list-is =
+      built.entries
+      ∙ ap (λ (j : ℕ). cond (ltb (length l.list) (needed (tiles_of (points-in l k)) (length (points-in l k)))) l.list (index_of (holds_of (tiles_of (points-in l k))) (length (points-in l k)) cell_count ++ drop j l.list)) (sym list-long)
 
-  done : (fallback : Bool) (r : Result LaidCourse LayError) → r ≡ answered short fallback (points-in l k) → outcome r l' ≡ lay_into m fallback (points-in l k) l
-  unfolding lay_into written from_points
-  done fallback r is =
-      same_outcome (is ∙ ap (λ (s : Bool). answered s fallback (points-in l k)) short-is) alpha-is beta-is x-is y-is tiles-is (offsets-is _ short-is) (list-is _ short-is)
+  -- what the builder answers, of the points' own tiles
+  answer-is : {r : Result ℕ LayError} → r ≡ index_answer (ltb (length l.list) (needed (take (k * 8) l'.tiles) k)) (needed (take (k * 8) l'.tiles) k) → r ≡ index_answer short (cells_of (points-in l k))
+  unfolding cells_of short needed
+  answer-is h = h ∙ ap₂ (λ (z : List Float) (j : ℕ). index_answer (ltb (length l.list) (needed z j)) (needed z j)) own-tiles (sym (points-long l.beta l.x l.y k))
 
   -- what `finish` ends with: cause 3 where the list is too short, else the course
-  pub done-short : (fallback : Bool) → short ≡ true → outcome (Err (Short need)) l' ≡ lay_into m fallback (points-in l k) l
-  unfolding answered
-  done-short fallback h = done fallback (Err (Short need)) (ap (λ (j : ℕ). Err (Short j)) need-is ∙ sym (ap (λ (s : Bool). answered s fallback (points-in l k)) h))
-
-  pub done-laid : (fallback : Bool) {first : TrackPoint} → first ≡ point_at l.beta l.x l.y 0 → short ≡ false → outcome (Ok (figures k fallback need first)) l' ≡ lay_into m fallback (points-in l k) l
-  unfolding answered laid_figures
-  done-laid fallback {first} f h =
-      done fallback (Ok (figures k fallback need first))
-      (same-made (sym (points-long l.beta l.x l.y k)) need-is (f ∙ sym (point-read l.beta l.x l.y k 0 d.size.0))
-      ∙ sym (ap (λ (s : Bool). answered s fallback (points-in l k)) h))
-
-  pub need-small : need ≤ cell_count * most_points
-  need-small = omega (arith, need-is-needed, needed-small (tiles_of (points-in l k)) (length (points-in l k)), points-long l.beta l.x l.y k, d.size.1, d.size.2)
-    where
-      need-is-needed : need ≡ needed (tiles_of (points-in l k)) (length (points-in l k))
-      need-is-needed = built.length-needed
+  pub done : (fallback : Bool) {first : TrackPoint} {r : Result ℕ LayError} {a : Result LaidCourse LayError} → first ≡ point_at l.beta l.x l.y 0
+      → r ≡ index_answer (ltb (length l.list) (needed (take (k * 8) l'.tiles) k)) (needed (take (k * 8) l'.tiles) k) → a ≡ laid_by k fallback first r → outcome a l' ≡ lay_into m fallback (points-in l k) l
+  unfolding lay_into written from_points short
+  done fallback {first} f h is =
+      same_outcome
+      (is
+      ∙ ap (laid_by k fallback first) (answer-is h)
+      ∙ (λ i. laid_by (sym (points-long l.beta l.x l.y k) i) fallback ((f ∙ sym (point-read l.beta l.x l.y k 0 d.size.0)) i) (index_answer short (cells_of (points-in l k))))
+      ∙ laid-answered short fallback (points-in l k))
+      alpha-is beta-is x-is y-is tiles-is offsets-is list-is
 
 -- ---- what stood in the first m entries does not matter
 pub lay-past : (m : ℕ) (fallback : Bool) (ps : List TrackPoint) (a b e n a' b' e' n' t : List Float) (o l : List ℕ) → drop m a' ≡ drop m a → drop m b' ≡ drop m b → drop m e' ≡ drop m e → drop m n' ≡ drop m n

@@ -47,8 +47,8 @@ module _ (h : ℕ → ℕ → Bool) (c : ℕ) where
       go false ih m = ih m
 
 -- the columns that the builder wrote are an index of the tiles: the lookup of each cell is what it lists
-pub built-lookup : (tiles : List Float) (n : ℕ) (o l o' l' : List ℕ) (short : Bool) (need : ℕ) → Built tiles n o l o' l' short need → needed tiles n ≤ length l → (c : ℕ) → c < cell_count → lookup o' l' c ≡ listed (holds_of tiles) n c
-built-lookup tiles n o l o' l' short need b a c m =
+pub built-lookup : (tiles : List Float) (n : ℕ) (o l o' l' : List ℕ) → Built tiles n o l o' l' → needed tiles n ≤ length l → (c : ℕ) → c < cell_count → lookup o' l' c ≡ listed (holds_of tiles) n c
+built-lookup tiles n o l o' l' b a c m =
     let t : ltb (length l) (needed tiles n) ≡ false = le-ltb (length l) (needed tiles n) a in
     let p : o' ≡ offsets_of (holds_of tiles) n cell_count ++ drop offset_count o = b.offsets ∙ ap (λ (z : Bool). cond z o (offsets_of (holds_of tiles) n cell_count ++ drop offset_count o)) t in
     let q : l' ≡ index_of (holds_of tiles) n cell_count ++ drop (needed tiles n) l = b.entries ∙ ap (λ (z : Bool). cond z l (index_of (holds_of tiles) n cell_count ++ drop (needed tiles n) l)) t in

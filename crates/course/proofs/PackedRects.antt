@@ -1,5 +1,5 @@
 -- Rectangles packed in a column: what is read is what was packed, and the index of the rectangles is that of their tiles. Assumes nothing.
-use Rattle.std.proofs.Common.{◌≡◌, ℕ, zero, suc, ◌+◌, ◌-◌, ◌*◌, ◌/◌, ◌%◌, ◌<◌, ◌≤◌, Bool, false, not, T, List, [], ◌∷◌, ◌++◌, length, get_or, take, drop, set, replicate, sym, refl, ap, ◌∙◌, subst, ap₂, ⊎_elim, le_of_suc-le-suc, eq-or-lt_of_le, add-one, arith, get_or-set_other, get_or-set_same, drop-drop}
+use Rattle.std.proofs.Common.{◌≡◌, ℕ, zero, suc, ◌+◌, ◌-◌, ◌*◌, ◌/◌, ◌%◌, ◌<◌, ◌≤◌, Bool, not, ltb, T, List, [], ◌∷◌, ◌++◌, length, get_or, take, drop, set, replicate, sym, refl, ap, ◌∙◌, subst, ap₂, ⊎_elim, le_of_suc-le-suc, eq-or-lt_of_le, add-one, arith, get_or-set_other, get_or-set_same, drop-drop, lt-ltb, le-ltb}
 use lib.Ieee.{Float, nan, is_nan, nan_bits, binary64, of_bits, to_bits}
 use lib.Ieee.Bits.{to_bits-of_bits, nan_bits_is}
 use Rattle.course.specs.Rules.Constants.{grid_dim}
@@ -7,7 +7,9 @@ use Rattle.course.specs.Rules.Lengths.{most_points, cell_count, offset_count}
 use Rattle.course.specs.Rules.Arithmetic.{nought}
 use Rattle.course.specs.Grader.Index.{add_if, listed, start, index_of, table, offsets_of}
 use Rattle.course.specs.Rules.Rect.{Rect, rect_of, holds, holds_of, needed}
-use Rattle.course.specs.Steps.Index.{Built, Small, Packs, rect_in, held_in, RectsIn, RectsPacked}
+use Rattle.std.specs.Prelude.{Ok, Err}
+use Rattle.course.specs.declared.points.LayError.TheVariants.{Short}
+use Rattle.course.specs.Steps.Index.{Built, index_answer, Small, Packs, rect_in, held_in, RectsIn, RectsPacked}
 use Rattle.course.proofs.RootFields.{below_inf}
 use Rattle.course.proofs.CourseRects.{rect-same, rect-small, needed-start, built-laid}
 
@@ -129,10 +131,19 @@ needed-packed {tiles} {n} t = needed-start tiles n ∙ sym (start-same n (held_s
 
 -- the index laid by the rectangles is that of the tiles
 pub packed-laid : {tiles : List Float} {n : ℕ} {rects : List Float} {o l : List ℕ} {need : ℕ} {o' l' : List ℕ} → RectsPacked tiles n rects → need ≡ needed tiles n → need ≤ length l
-    → o' ≡ offsets_of (held_in rects) n cell_count → l' ≡ index_of (held_in rects) n cell_count → Built tiles n o l (o' ++ drop offset_count o) (l' ++ drop need l) false need
+    → o' ≡ offsets_of (held_in rects) n cell_count → l' ≡ index_of (held_in rects) n cell_count → Built tiles n o l (o' ++ drop offset_count o) (l' ++ drop need l)
 packed-laid {tiles} {n} {l = l} t is room eo el =
     let e = held_same tiles t in
     built-laid tiles is (subst (λ (z : ℕ). z ≤ length l) is room) (eo ∙ offsets-same n e cell_count) (el ∙ index_same n e cell_count)
+
+-- ---- the builder's answer, from its test
+pub told-short : {l need n : ℕ} → need ≡ n → l < need → Err (Short need) ≡ index_answer (ltb l n) n
+unfolding index_answer
+told-short {l} {need} {n} e h = ap (λ (k : ℕ). Err (Short k)) e ∙ sym (ap (λ (b : Bool). index_answer b n) (lt-ltb l n (subst (λ (k : ℕ). l < k) e h)))
+
+pub told-laid : {l need n : ℕ} → need ≡ n → need ≤ l → Ok need ≡ index_answer (ltb l n) n
+unfolding index_answer
+told-laid {l} {need} {n} e h = ap (λ (k : ℕ). Ok k) e ∙ sym (ap (λ (b : Bool). index_answer b n) (le-ltb l n (subst (λ (k : ℕ). k ≤ l) e h)))
 
 -- ---- the scratch is cleared
 pub scratch-cleared : (a a1 a2 : List Float) (n m : ℕ) → n ≤ m → drop n a1 ≡ drop n a → a2 ≡ take 0 a1 ++ (replicate (m - 0) nought ++ drop m a1) → a2 ≡ take 0 a ++ (replicate (m - 0) nought ++ drop m a)

@@ -9,13 +9,7 @@ pub fn cell_of(v: f64) -> usize
     ensures { result ≡ cell_of v }
 {
     let w = (v + PLAYFIELD) / GRID_CELL;
-    if w >= 66.0 {
-        return 66;
-    }
-    if w >= 1.0 {
-        return std::num::truncating_f64_to_u64(w) as usize;
-    }
-    0
+    std::num::saturating_f64_to_usize(w).min(GRID_DIM - 1)
 }
 
 // The number of a point's cell: row times 67 plus column.

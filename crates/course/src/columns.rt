@@ -1,4 +1,6 @@
 // Copies, moves and zeros in one lent column.
+// Kept around one call of the library each: their contracts say what the whole column holds afterwards, and not its parts, and the laws of
+// what lay and points leave (course/proofs/LaidColumns) take it so.
 ghost use Rattle.std.specs.Prelude.{◌≡◌, ◌+◌, ◌-◌, ◌≤◌, ◌++◌, length, take, drop, replicate};
 ghost use Rattle.course.specs.Rules.Arithmetic.{nought};
 

@@ -45,7 +45,9 @@ pub const LAID_LENGTH: usize = 2500;
 
 pub const OFFSET_COUNT: usize = CELL_COUNT + 1;
 
-// The length of the columns that are lent with a course of n points, and of white marks: one for every n.
+// The length of the columns that are lent with a course of n points, and of white marks.
+// Kept with n, though it gives one length for every n: document 01 states the lengths of lent columns once, and document 02's order 8 lets longer
+// courses have longer columns. What is then changed is this function, and none of its callers.
 pub fn column_length(n: usize) -> usize
     ensures value { result ≡ column_length n }
     ensures upper_bound { result ≤ most_points }

@@ -2,16 +2,17 @@
 // Built in two passes over the rectangles, count and then fill by ascending id, in the lent columns alone.
 // While it is filled, place c + 1 of the offsets is the cursor of cell c: it starts where the part of cell c starts, and ends where the
 // part of cell c + 1 does. So cell c is counted at place c + 2, and the last cell, which no part follows, is not counted.
-ghost use Rattle.std.specs.Prelude.{◌≡◌, ℕ, ◌+◌, ◌*◌, ◌<◌, ◌≤◌, true, false, length, drop, slice_index, MatchOption};
+ghost use Rattle.std.specs.Prelude.{◌≡◌, ℕ, ◌+◌, ◌*◌, ◌<◌, ◌≤◌, true, false, nat_lt, length, drop, slice_index, MatchOption};
 ghost use Rattle.course.specs.Rules.Lengths.{cell_count, most_points, offset_count};
 ghost use Rattle.course.specs.Rules.Cell.{cell_at};
 ghost use Rattle.course.specs.Rules.Rect.{holds, needed};
 ghost use Rattle.course.specs.Grader.Index.{start, index_of, offsets_of, part_ok, lookup};
 ghost use Rattle.course.specs.Grader.Rect.{rect_as};
-ghost use Rattle.course.specs.Steps.Index.{Built, is_short, length_needed, RunCounted, RectCounted, Counts, Summed, RunPlaced, RectPlaced, Placed, held_in, RectsPacked, RectsIn};
+ghost use Rattle.course.specs.Steps.Index.{Built, index_answer, RunCounted, RectCounted, Counts, Summed, RunPlaced, RectPlaced, Placed, held_in, RectsPacked, RectsIn};
 
 use crate::cell::cell_at;
 use crate::constants::{GRID_DIM, OFFSET_COUNT};
+use crate::points::LayError;
 use crate::rect::Rect;
 
 // Rectangles within the grid, packed one to a number.
@@ -22,7 +23,9 @@ struct PackedRects<'a> {
 }
 
 // The rectangles, packed, and their cells summed.
-fn total(tiles: &[f64], rects: &mut [f64]) -> usize
+// Kept with a tile's number beside its rectangle: zipped with the tiles in eights, by `as_chunks`, the proof did not close, since after the
+// loop it tells what was written to the pairs, and not what the column of rectangles holds.
+fn pack_and_sum(tiles: &[f64], rects: &mut [f64]) -> usize
     requires { (length rects.old ≤ most_points) × (length rects.old * 8 ≤ length tiles.now) }
     ensures value { result ≡ needed tiles.now (length rects.old) }
     ensures rects_packed { RectsPacked tiles.now (length rects.old) rects.new }
@@ -130,7 +133,7 @@ fn lay_index(rects: &PackedRects, o: &mut [u32; OFFSET_COUNT], l: &mut [u32])
 }
 
 // The index of the tiles below n, in the lent columns, and its length. Where the list is shorter than the cells summed
-// (cause 3), that length is the error, and offsets and list stay as they are.
+// (cause 3), offsets and list stay as they are.
 // `rects` is scratch: its first n entries change.
 pub(crate) fn build_index(
     tiles: &[f64],
@@ -138,21 +141,21 @@ pub(crate) fn build_index(
     rects: &mut [f64],
     offsets: &mut [u32],
     list: &mut [u32],
-) -> Result<usize, usize>
+) -> Result<u32, LayError>
     requires n_le_most_points { (n ≤ most_points) × (n * 8 ≤ length tiles.now) }
     requires n_in_bounds { (n ≤ length rects.old) × (offset_count ≤ length offsets.old) }
-    ensures built { Built tiles.now n offsets.old list.old offsets.new
-        list.new (is_short result) (length_needed result) }
+    ensures value { result ≡ index_answer (nat_lt (length list.old) (needed tiles.now n)) (needed tiles.now n) }
+    ensures built { Built tiles.now n offsets.old list.old offsets.new list.new }
     ensures rects_unchanged { drop n rects.new ≡ drop n rects.old }
 {
     let numbers = &mut rects[..n];
-    let need = total(tiles, numbers);
+    let need = pack_and_sum(tiles, numbers);
     if list.len() < need {
-        return Err(need);
+        return Err(LayError::Short(need as u32));
     }
     let o = offsets.first_chunk_mut::<OFFSET_COUNT>().unwrap();
     lay_index(&PackedRects { numbers }, o, &mut list[..need]);
-    Ok(need)
+    Ok(need as u32)
 }
 
 // The part of the lent list for a cell; none where the offsets do not have the cell, fall there or pass the list.

@@ -1,4 +1,5 @@
 // The columns that a course is laid in, lent together (document 01, "Lay": Lent).
+// Kept as seven columns, and not points: the C interface lends them one by one, for a host to read as columns.
 
 // The caller's columns of angles, headings, places, tiles, offsets and index entries.
 #[derive(Drop)]

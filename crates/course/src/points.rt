@@ -1,4 +1,6 @@
 // A course from the caller's own points (document 01, "Beside the run": Points), and what lay shares with it.
+// Kept: the given points come as three columns and their count, which the C interface lends one by one; `given_check` makes the struct of them once
+// their lengths are known.
 ghost use Rattle.std.specs.Prelude.{◌≡◌, ◌+◌, ◌-◌, ◌*◌, ◌<◌, ◌≤◌, ◌++◌, length, take, drop, Err, MatchResult};
 ghost use Rattle.course.specs.Rules.Lengths.{most_points};
 ghost use Rattle.course.specs.Rules.Tiles.{points_of};
@@ -60,6 +62,7 @@ impl Numbered for LayError {
 
 impl LayError {
     // The list length needed at cause 3, else 0.
+    // Kept as a number, 0 for none: the C interface has one field for the length, with 0 where none is told.
     #[tactic(auto, unfolding(crate::specs::Grader::Outcome::error_entries))]
     pub fn entries(self) -> u32
         ensures { result ≡ error_entries self }
@@ -76,10 +79,12 @@ impl LayError {
 fn good_point(p: TrackPoint) -> bool
     ensures { result ≡ good_point p }
 {
+    // `&`, here and in curbs.rt, where both sides are cheap and no branch is wanted
     numeric::inside(p.beta, 16.0) & (numeric::inside(p.x, 1000.0) & numeric::inside(p.y, 1000.0))
 }
 
 // Whether the points pass.
+// Kept as places told to `point_at`: the points stand in three columns, and no one slice has them.
 pub(crate) fn all_good(points: &PointColumns) -> bool
     ensures { result ≡ all_good (points_of points.now.beta.now points.now.x.now points.now.y.now points.now.count) }
 {
@@ -87,6 +92,8 @@ pub(crate) fn all_good(points: &PointColumns) -> bool
 }
 
 // Cause 2 of lent columns: each has its length, those of points m entries.
+// Kept with m told, here and in `finish`: lay tells `LAID_LENGTH`, and points what `column_length` gives for its n. Both are 2,500 now, and document 02's
+// order 8 parts them.
 // Kept as columns one by one, since the proof did not close: after the struct is lent whole, by `&`, what its columns hold did not
 // prove to be the same.
 #[tactic(auto, unfolding(crate::specs::Grader::Cause::check, crate::specs::Grader::Outcome::roomy_of))]
@@ -180,16 +187,15 @@ pub(crate) fn finish(
     columns::clear_from(y, n, m);
     columns::clear_from(tiles, used, 8 * m);
     let built = index::build_index(&tiles[..used], n, alpha, offsets, list);
+    // the scratch is 0 after a refusal too
     columns::clear_from(alpha, 0, m);
-    match built {
-        Ok(entries) => Ok(LaidCourse {
-            n: n as u32,
-            fallback,
-            entries: entries as u32,
-            first,
-        }),
-        Err(need) => Err(LayError::Short(need as u32)),
-    }
+    let entries = built?;
+    Ok(LaidCourse {
+        n: n as u32,
+        fallback,
+        entries,
+        first,
+    })
 }
 
 // The given points go to the front of the lent columns.

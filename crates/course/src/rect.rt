@@ -67,7 +67,7 @@ impl Rect {
         ensures { Packs result (rect_as self) }
     {
         let sides = [self.x0 as u8, self.x1 as u8, self.y0 as u8, self.y1 as u8];
-        f64::from_bits(u32::from_le_bytes(sides) as u64)
+        f64::from_bits(u64::from(u32::from_le_bytes(sides)))
     }
 
     // The rectangle that a number packs.
@@ -78,10 +78,10 @@ impl Rect {
     {
         let [x0, x1, y0, y1, ..] = f64::to_bits(v).to_le_bytes();
         Rect {
-            x0: x0 as usize,
-            x1: x1 as usize,
-            y0: y0 as usize,
-            y1: y1 as usize,
+            x0: usize::from(x0),
+            x1: usize::from(x1),
+            y0: usize::from(y0),
+            y1: usize::from(y1),
         }
     }
 }

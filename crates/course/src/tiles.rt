@@ -15,6 +15,8 @@ pub struct TrackPoint {
 }
 
 // The points that three columns begin with.
+// Kept with a count beside the slices: a host lends columns that may be longer than the count, and lay's own are. Cut to the count, the three
+// would still carry three equal lengths as ghost facts.
 #[derive(Clone, Copy)]
 pub(crate) struct PointColumns<'a> {
     pub beta: &'a [f64],
@@ -82,6 +84,8 @@ pub(crate) fn before(i: usize, n: usize) -> usize
 }
 
 // The quad of a tile's eight numbers.
+// Kept apart from the cut of the eight out of a column, which stands in rect.rt and in run's touch.rt: a public function of the project has no
+// `requires`, so one that is told a column and a tile would answer an Option, for callers that know that the tile is there.
 #[tactic(auto, unfolding(crate::specs::Rules::Tiles::tile_of))]
 pub fn read_quad(numbers: &[f64; 8]) -> [[f64; 2]; 4]
     ensures { result ≡ tile_of numbers.now 0 }
@@ -111,6 +115,7 @@ pub(crate) fn write_tiles(points: &PointColumns, tiles: &mut [f64])
     if n == 0 {
         return;
     }
+    // Kept as a count of places: three columns zipped would be taken apart and put together again as a point.
     let mut last = edges_at(points.point_at(n - 1));
     for i in 0..n {
         let e = edges_at(points.point_at(i));

@@ -1,4 +1,5 @@
 // The four columns that a walk writes, lent together (document 01, "Lay": Lent).
+// Kept as `&mut` columns of the caller's, each with its room as a ghost field: the grader has no memory of its own.
 ghost use Rattle.std.specs.Prelude.{◌≤◌, length};
 ghost use Rattle.course.specs.Rules.Lengths.{laid_length};
 

@@ -6,6 +6,8 @@ use Rattle.course.specs.Rules.Lengths.{cell_count, most_points, offset_count}
 use Rattle.course.specs.Rules.Counting.{digit}
 use Rattle.course.specs.Grader.Index.{listed, start, offsets_of, index_of}
 use Rattle.course.specs.Rules.Rect.{Rect, rect_of, holds, holds_of, needed}
+use Rattle.course.specs.declared.points.LayError.{LayError}
+use Rattle.course.specs.declared.points.LayError.TheVariants.{Short}
 
 -- a test on places: whether k is from a up to below b
 pub record Inside (a b k : ℕ) : Type 0 where
@@ -70,19 +72,13 @@ pub record Small (r : Rect) : Type 0 where
   pub right : r.x1 ≤ 66
   pub top : r.y1 ≤ 66
 
--- whether the builder answers that the list is too short, and the length needed, which it answers either way
-abbrev pub is_short : Result ℕ ℕ → Bool
-is_short (Ok n) = false
-is_short (Err n) = true
-
-abbrev pub length_needed : Result ℕ ℕ → ℕ
-length_needed (Ok n) = n
-length_needed (Err n) = n
+-- the builder's answer: the length that the list needs, as an error where the list is shorter
+unfoldable pub index_answer : Bool → ℕ → Result ℕ LayError
+index_answer true need = Err (Short need)
+index_answer false need = Ok need
 
 -- the columns after the builder: where the list is too short (cause 3), as before; else the index, and what stood past it
-pub record Built (tiles : List Float) (n : ℕ) (o l o' l' : List ℕ) (short : Bool) (need : ℕ) : Type 0 where
-  pub length-needed : need ≡ needed tiles n
-  pub too_short : short ≡ nat_lt (length l) (needed tiles n)
+pub record Built (tiles : List Float) (n : ℕ) (o l o' l' : List ℕ) : Type 0 where
   pub offsets : o' ≡ cond (nat_lt (length l) (needed tiles n)) o (offsets_of (holds_of tiles) n cell_count ++ drop offset_count o)
   pub entries : l' ≡ cond (nat_lt (length l) (needed tiles n)) l (index_of (holds_of tiles) n cell_count ++ drop (needed tiles n) l)
 

@@ -1,10 +1,10 @@
--- `course::index::total` meets its contract. Assumes nothing.
+-- `course::index::pack_and_sum` meets its contract. Assumes nothing.
 use Rattle.course.specs.Steps.Index.{Packs}
 use Rattle.std.proofs.Common.{◌+◌, sym, ap, subst, arith}
 use Rattle.course.specs.Rules.Rect.{Rect, area_of}
 use Rattle.course.proofs.CourseRects.{needed-none, needed-more, needed-small}
 use Rattle.course.proofs.PackedRects.{packed_none, packed_more}
-use Rattle.course.proofs.index.total.Goals as goal
+use Rattle.course.proofs.index.pack_and_sum.Goals as goal
 
 pub loop-i-init : goal.loop-i-init
 loop-i-init c = (sym (needed-none _), packed_none _ _)

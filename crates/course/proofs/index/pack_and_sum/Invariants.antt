@@ -1,8 +1,8 @@
--- `course::index::total` meets its contract. Assumes nothing.
+-- `course::index::pack_and_sum` meets its contract. Assumes nothing.
 use Rattle.course.specs.Steps.Index.{RectsPacked}
 use Rattle.std.proofs.Common.{◌≡◌}
 use Rattle.course.specs.Rules.Rect.{needed}
-use Rattle.course.proofs.index.total.Given as goal
+use Rattle.course.proofs.index.pack_and_sum.Given as goal
 
 abbrev pub invariant-loop-i : goal.invariant-loop-i
 invariant-loop-i l = (l.sum ≡ needed l.tiles l.i) × RectsPacked l.tiles l.i l.rects
