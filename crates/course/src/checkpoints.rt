@@ -39,7 +39,7 @@ fn one_checkpoint(c: u32, noise: f64, rad: f64) -> Checkpoint
     if c == 0 {
         return spot(0.0, FAR_RAD);
     }
-    let base = TAU * (c as f64) / 12.0;
+    let base = TAU * f64::from(c) / 12.0;
     if c == 11 {
         return spot(base, FAR_RAD);
     }

@@ -174,10 +174,8 @@ pub(crate) fn quarter_turns_from(a: f64, t: Turns) -> Turns
 {
     let v = a / HALF_PI + 0.5;
     let k = t.k;
-    if k <= v {
-        if v < k + 1.0 {
-            return t;
-        }
+    if k <= v && v < k + 1.0 {
+        return t;
     }
     whole_below(v)
 }
@@ -305,11 +303,8 @@ fn direction(y: f64, x: f64) -> f64
 pub(crate) fn angle_of(y: f64, x: f64) -> f64
     ensures { result ≡ atan2_of y x }
 {
-    if y == 0.0 {
-        if x == 0.0 {
-            return 0.0;
-        }
-        return direction(y, x);
+    if y == 0.0 && x == 0.0 {
+        return 0.0;
     }
     direction(y, x)
 }

@@ -33,9 +33,9 @@ pub(crate) fn walk_round(cs: &[Checkpoint; 12], cols: &mut WalkColumns) -> Optio
     for k in 0..STEP_LIMIT {
         let (p, next) = step::step(cs, w, t)?;
         cols.alpha[k] = p.alpha;
-        cols.beta[k] = p.beta;
-        cols.x[k] = p.x;
-        cols.y[k] = p.y;
+        cols.beta[k] = p.point.beta;
+        cols.x[k] = p.point.x;
+        cols.y[k] = p.point.y;
         if 4 < next.laps {
             return Some(k + 1);
         }
