@@ -80,7 +80,7 @@ fn turn_down(beta: f64, alpha: f64, left: u32) -> Option<(f64, u32)>
     None
 }
 
-// Beta more tau while it is below alpha by more than 1.5 pi.
+// Beta more tau while it is below alpha by more than 1.5 pi, none where more than the `left` turns are wanted.
 // Kept beside `turn_down`, since one loop for both is no plainer: it would be passed the test and the turn, and its contract would have
 // to tell both as functions of beta. With the signs turned over instead, a beta of -tau would give -0 in place of 0.
 fn turn_up(beta: f64, alpha: f64, left: u32) -> Option<f64>
