@@ -92,10 +92,6 @@ pub twelve : natural 12 ≡ of_bits binary64 0x4028000000000000
 unfolding natural of_int of_bits
 twelve = refl
 
-pub hundred : natural 100 ≡ of_bits binary64 0x4059000000000000
-unfolding natural of_int of_bits
-hundred = refl
-
 pub half-bits : decimal 1 2 ≡ of_bits binary64 0x3fe0000000000000
 unfolding decimal round of_bits
 half-bits = refl

@@ -2,10 +2,9 @@
 use Rattle.std.proofs.Common.{◌≡◌, ℕ, zero, suc, ◌+◌, ◌-◌, ◌*◌, ◌/◌, ◌%◌, ◌^◌, ◌<◌, ◌≤◌, Bool, true, false, cond, not, T, eqb, ltb, leb, sym, refl, ap, ◌∙◌, subst, inl, inr, true≢false, lt_irrefl, mod-eq_of_lt, mul_assoc, eq-or-lt_of_le, mul-pos, zero-mul, mul-one, not-le_of_lt, mul-div_cancel, arith, le→leb, eqb→eq, ltb→lt, leb→le, nltb→le, pow_pos, pow-add}
 use mathlib.Core.Bool.{false≢true}
 use lib.Dec.{not_T}
-use lib.Ieee.{Float, nan, inf, fin, binary64, up, down, odd, of_fields, of_bits, nan_bits, to_bits, fits, is_nan, ne, div}
+use lib.Ieee.{Float, nan, inf, fin, binary64, up, down, odd, of_fields, of_bits, nan_bits, to_bits, fits, is_nan}
 use lib.Ieee.Fits.{down_pos}
 use lib.Ieee.Bits.{of_bits-to_bits, to_bits-lt, nan_bits_above, is_true, is_false, cond_no}
-use lib.Ieee.Compare.{nan_differs}
 use lib.Ieee.Exact.{HasValue, odd_sign}
 use Rattle.course.specs.Rules.Root.{nearest_root, sqrt_of}
 use Rattle.course.specs.Steps.Root.{units_of, Scaled}
@@ -194,23 +193,11 @@ module _ (x : Float) (F : T (fits binary64 x)) (b : ℕ) (e : b ≡ to_bits bina
   way-root h g p = ap sqrt_of (plain h) ∙ sqrt-fields (b / 4503599627370496) (b % 4503599627370496) g p
 
 -- ---- a NaN
-nan-root : nan ≡ sqrt_of nan
-unfolding sqrt_of
-nan-root = refl
-
-pub way-nan : (x : Float) → x ≡ nan → x ≡ sqrt_of x
-way-nan x e = e ∙ nan-root ∙ ap sqrt_of (sym e)
-
-pub no_nan : (x : Float) → ne x x ≡ false → T (not (is_nan x))
-unfolding is_nan
-no_nan nan h = absurd (true≢false (sym nan_differs ∙ h))
-no_nan (inf s) h = tt
-no_nan (fin s m e) h = tt
-
--- 0.0 / 0.0, with the literals by their bits
-pub makes-nan : div binary64 (of_bits binary64 0) (of_bits binary64 0) ≡ nan
-unfolding div of_bits
-makes-nan = refl
+pub way-nan : (x : Float) → is_nan x ≡ true → x ≡ sqrt_of x
+unfolding sqrt_of is_nan
+way-nan nan h = refl
+way-nan (inf s) h = absurd (false≢true h)
+way-nan (fin s m e) h = absurd (false≢true h)
 
 -- bits that are, but for the sign, not above those of the infinity are no NaN's
 pub no-nan-bits : (r : ℕ) → r % 9223372036854775808 ≤ 9218868437227405312 → T (not (nan_bits binary64 r))

@@ -4,6 +4,8 @@ ghost use Rattle.std.specs.Prelude.{◌≡◌, ℕ};
 ghost use Rattle.course.specs.Grader.Cause.{number_of, number_by};
 
 // What a call is refused by: an error that has the number of its cause, for a host to read.
+// Kept as a trait of its own beside `Into<u32>`, which is no plainer: `From` tells what it gives by a relation, `from_gives`, and names no
+// number, where `cause_number` over any error, and each call above it, promise an equation with one: the ghost `number`.
 pub trait Numbered: Copy {
     ghost number: { Self → ℕ };
 
@@ -47,6 +49,7 @@ impl Numbered for Cause {
 }
 
 // The number of an answer's cause, 0 where it was not refused.
+// Kept as a number with 0 for none: the C interface needs it, where a host is told a cause as a number, and 0 of a call that passed.
 pub fn cause_number<T, E: Numbered>(answer: &Result<T, E>) -> u32
     ensures { result ≡ number_by E.number answer.now }
 {

@@ -39,7 +39,7 @@ fn one_checkpoint(c: u32, noise: f64, rad: f64) -> Checkpoint
     if c == 0 {
         return spot(0.0, FAR_RAD);
     }
-    let base = TAU * (c as f64) / 12.0;
+    let base = TAU * f64::from(c) / 12.0;
     if c == 11 {
         return spot(base, FAR_RAD);
     }
@@ -47,6 +47,8 @@ fn one_checkpoint(c: u32, noise: f64, rad: f64) -> Checkpoint
 }
 
 // The checkpoints of an attempt: two draws for each, the noise first.
+// Kept as an array that is filled: `array::from_fn` would draw in a closure that captures the generator, and is no plainer, since its contract
+// would tell of each call what the loop's invariant tells once.
 pub(crate) fn checkpoints(g: &mut SplitMix64) -> [Checkpoint; 12]
     ensures value { result ≡ checkpoints_of 12 g.old }
     ensures state { g.new ≡ after 24 g.old }

@@ -18,8 +18,10 @@ pub(crate) struct Dest {
 }
 
 // The first checkpoint from place `from` on whose angle alpha is not above. Past the last the search goes on from the
-// first, with alpha one tau less; a third pass refuses. Document 01 names the form of the search: it "leaves both search
-// loops the moment a checkpoint is found".
+// first, with alpha one tau less; a third pass refuses.
+// Kept as two loops, the inner one left by the label of the outer: document 01 names that form of the search, which "leaves both search
+// loops the moment a checkpoint is found". And kept by index, since the proof did not close: of the first step of a
+// `cs.iter().enumerate().skip(first)` a proof knows a run that is passed over, and not the place where it stands (tried).
 pub(crate) fn find(cs: &[Checkpoint], from: usize, alpha: f64) -> Option<Dest>
     ensures { found_as result ≡ dest_of cs.now from alpha }
 {

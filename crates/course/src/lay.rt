@@ -18,6 +18,9 @@ use crate::{checkpoints, columns, points, track, trig, walk};
 use rng::SplitMix64;
 
 // An attempt with given checkpoints: the size of its track, which then stands in front, none where it is refused.
+// Kept beside each call that is lent the columns of a walk: `SameColumns` tells those before it and after it, which no ghost field of the one
+// struct can say. And kept as a number that is above 0: an `Option<NonZeroUsize>` would be made by a test that never fails, and be taken apart
+// by `get` where the points are counted.
 fn attempt(cs: &[Checkpoint; 12], cols: &mut WalkColumns) -> Option<usize>
     ensures same { SameColumns cols.old cols.new }
     ensures in_front { InFront (attempt_on cs.now) (columns_of cols.old) (columns_of cols.new) (unwrap_or result 0) }
@@ -44,6 +47,8 @@ fn try_generate(g: &mut SplitMix64, cols: &mut WalkColumns) -> Option<usize>
 }
 
 // The first of a seed's attempts that is not refused, of so many.
+// Kept as a loop: the closure of a `find_map` would draw and write through what it captures, and is no plainer, since the loop's invariant
+// would then be told of the captured generator and columns.
 fn first_attempt(attempts: u32, seed: u64, cols: &mut WalkColumns) -> Option<usize>
     ensures same { SameColumns cols.old cols.new }
     ensures in_front { InFront (tried_within attempts seed) (columns_of cols.old) (columns_of cols.new)
@@ -81,11 +86,14 @@ impl Origin {
     }
 }
 
+// How many points the ring has.
+const RING_COUNT: u32 = 100;
+
 // Point i of the ring.
 fn ring_point(i: u32) -> TrackPoint
     ensures { result ≡ ring_point i }
 {
-    let a = TAU * f64::from(i) / 100.0;
+    let a = TAU * f64::from(i) / f64::from(RING_COUNT);
     let t = trig::sin_cos(a);
     TrackPoint {
         beta: a,
@@ -94,12 +102,13 @@ fn ring_point(i: u32) -> TrackPoint
     }
 }
 
-// The ring's 100 points stand in front.
+// The ring's points stand in front.
+// Kept by index, since the proof did not close: what four zipped `iter_mut` leave in the lent columns is known to no proof after the loop.
 fn ring_points(cols: &mut WalkColumns)
     ensures same { SameColumns cols.old cols.new }
     ensures ringed { Ringed (columns_of cols.old) (columns_of cols.new) }
 {
-    for i in 0..100 {
+    for i in 0..RING_COUNT {
         let p = ring_point(i);
         let k = i as usize;
         cols.beta[k] = p.beta;
@@ -117,12 +126,12 @@ fn or_ring(made: Option<usize>, cols: &mut WalkColumns) -> usize
         return n;
     }
     ring_points(cols);
-    100
+    RING_COUNT as usize
 }
 
 // The course of a seed or of given checkpoints in columns.
-// Kept as columns one by one, since the proof did not close: where `lay` hands its struct on, by value or by `&mut` with its fields'
-// names kept, a proof knows the names and lengths of the columns at `lay`'s return, and not what they hold.
+// Kept as columns one by one, since the proof did not close: a struct of them that is handed on, by value or by `&mut` with its fields'
+// names kept, is known at the return by the names and lengths of its columns alone, as at `lay` below.
 fn lay_from(
     origin: &Origin,
     alpha: &mut [f64],
@@ -173,6 +182,8 @@ pub fn lay_attempts(attempts: u32, seed: u64, cols: LentColumns<'_>) -> Result<L
 }
 
 // The course of a seed in the lent columns.
+// Kept beside `lay_attempts`, since the proof did not close: where `lay` hands its columns on to it, a proof knows the names and lengths of
+// the columns at `lay`'s return, and not what they hold. So each of the three public calls takes its struct apart itself.
 #[tactic(auto, unfolding(crate::specs::Grader::LayCall::lay_call, crate::specs::Rules::Constants::max_attempts))]
 pub fn lay(seed: u64, cols: LentColumns<'_>) -> Result<LaidCourse, LayError>
     ensures { outcome result (left_by cols.exit) ≡ lay_call max_attempts seed (lent_to cols.entry) }
@@ -186,10 +197,8 @@ pub fn lay(seed: u64, cols: LentColumns<'_>) -> Result<LaidCourse, LayError>
         offsets,
         list,
     } = cols;
-    let origin = Origin::Seed {
-        attempts: MAX_ATTEMPTS,
-        seed,
-    };
+    let attempts = MAX_ATTEMPTS;
+    let origin = Origin::Seed { attempts, seed };
     lay_from(&origin, alpha, beta, x, y, tiles, offsets, list)
 }
 
@@ -208,14 +217,6 @@ pub fn lay_checkpoints(cs: [Checkpoint; 12], cols: LentColumns<'_>) -> Result<La
         offsets,
         list,
     } = cols;
-    lay_from(
-        &Origin::Checkpoints(cs),
-        alpha,
-        beta,
-        x,
-        y,
-        tiles,
-        offsets,
-        list,
-    )
+    let origin = Origin::Checkpoints(cs);
+    lay_from(&origin, alpha, beta, x, y, tiles, offsets, list)
 }

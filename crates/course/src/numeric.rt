@@ -3,6 +3,8 @@ ghost use Rattle.std.specs.Prelude.{◌≡◌, false, is_nan};
 ghost use Rattle.course.specs.Rules.Numeric.{abs_of, min_of, max_of, least_of, greatest_of, clamp_of, signum_of, within};
 
 // x with its sign cleared.
+// Kept beside `f64::abs`, as `signum` is beside `f64::signum`: document 01 names own helpers, "Rust's meaning at NaN and -0", which both of
+// the library's have.
 pub fn abs(x: f64) -> f64
     ensures { result ≡ abs_of x }
 {
@@ -20,7 +22,8 @@ pub fn min(a: f64, b: f64) -> f64
 }
 
 // The greater of two; the other where one is NaN.
-// Kept beside `f64::max` as `min` is: document 01 names own helpers, and the library leaves the same open.
+// Kept beside `f64::max`, which is no plainer: it is the other of the pair with `min`, whose rule at NaN and -0 the Rust has for both, and
+// the library leaves it open which of 0 and -0 it gives.
 #[tactic(auto, unfolding(crate::specs::Rules::Numeric::max_of))]
 pub fn max(a: f64, b: f64) -> f64
     ensures { result ≡ max_of a b }
@@ -52,7 +55,8 @@ fn greater(greatest: f64, x: f64) -> f64
 
 // The least of four numbers, a NaN passed over.
 // Kept as a pair with `greatest`: document 01 folds both as the Rust does, each from its own end, and one function for both would be
-// passed the end and the fold, which are all that it says.
+// passed the end and the fold, which are all that it says. And kept as calls in one another, since the proof did not close:
+// `[a, b, c, d].into_iter().fold(f64::MAX, lesser)` asks for a proof that each of its calls may be made (tried).
 pub fn least(a: f64, b: f64, c: f64, d: f64) -> f64
     ensures { result ≡ least_of a b c d }
 {
@@ -77,6 +81,7 @@ pub fn clamp(x: f64, lo: f64, hi: f64) -> f64
 }
 
 // 1 with the sign of x, also of 0 and -0; NaN gives NaN.
+// Kept beside `f64::signum`: document 01 names an own helper.
 pub fn signum(x: f64) -> f64
     ensures { result ≡ signum_of x }
 {

@@ -1,5 +1,6 @@
 // The square root of every f64, correctly rounded (document 01, "Stand-ins"), in whole numbers alone: from the bits to a whole
-// significand and a power of two, from those to the significand's whole root with a digit to spare, and that digit rounds it.
+// significand and a power of two, from those to the significand's whole root with a digit to spare, and that digit rounds it. A digit is
+// a binary one here, a bit.
 // Kept beside the library's `f64::sqrt`: document 01 names this form, a root from the bits by an integer root.
 ghost use Rattle.std.specs.Prelude.{◌≡◌, ◌+◌, ◌*◌, ◌/◌, ◌%◌, ◌^◌, ◌<◌, ◌≤◌, IfSome, from_bits};
 ghost use Rattle.course.specs.Rules.Root.{nearest_root, sqrt_of};
@@ -36,7 +37,7 @@ fn product(a: u32, b: u32) -> u64
     u64::from(a) * u64::from(b)
 }
 
-// 32 digits of a product, from digit CUT on.
+// 32 digits of a product, from digit CUT on. It promises nothing, as `guess` that it stands under: both are free to miss the root.
 fn from_digit<const CUT: u32>(a: u32, b: u32) -> u32
     requires { CUT < 64 }
 {
@@ -137,7 +138,7 @@ fn scaled(b: u64) -> Normal
     }
     let up = b.leading_zeros() - 11;
     Normal {
-        bits: (54 - up as u64) * LEAD + (b << up),
+        bits: (54 - u64::from(up)) * LEAD + (b << up),
         fours: 27,
     }
 }
@@ -160,7 +161,7 @@ fn root_bits(b: u64, k: u64) -> u64
 pub fn sqrt(x: f64) -> f64
     ensures { result ≡ sqrt_of x }
 {
-    if x != x {
+    if x.is_nan() {
         return x;
     }
     let b = x.to_bits();
@@ -168,7 +169,7 @@ pub fn sqrt(x: f64) -> f64
         if b <= SIGN {
             return x;
         }
-        return 0.0 / 0.0;
+        return f64::NAN;
     }
     if b == 0 {
         return x;

@@ -1,13 +1,14 @@
 // One step of the walk round the checkpoints (document 01, "Lay": `try_generate`).
-ghost use Rattle.std.specs.Prelude.{◌≡◌, ◌<◌, ◌≤◌};
+ghost use Rattle.std.specs.Prelude.{◌≡◌, ◌≤◌};
 ghost use Rattle.course.specs.Rules.Trig.{turns_of, sin_cos_of};
 ghost use Rattle.course.specs.Steps.Numbers.{turns_at, sin_cos_as};
 ghost use Rattle.course.specs.Rules.Step.{sight_of, turn_down, turn_up, turn_of, steered, proj_of, landed_of, step_of};
-ghost use Rattle.course.specs.Steps.Lay.{dest_as, walk_as, stepped_as, sight_as};
+ghost use Rattle.course.specs.Steps.Lay.{dest_as, walk_as, stepped_as, sight_as, turned_beta};
 
 use crate::checkpoints::Checkpoint;
 use crate::constants::{PI, SCALE, TAU, TRACK_DETAIL_STEP, TRACK_TURN_RATE};
 use crate::finder::Dest;
+use crate::tiles::TrackPoint;
 use crate::trig::{SinCos, Turns};
 use crate::{finder, numeric, trig};
 
@@ -27,13 +28,11 @@ pub(crate) struct Walk {
     pub visited: bool,
 }
 
-// What a step stores.
+// What a step stores: its angle, and its point.
 #[derive(Clone, Copy)]
 pub(crate) struct TrackStep {
     pub alpha: f64,
-    pub beta: f64,
-    pub x: f64,
-    pub y: f64,
+    pub point: TrackPoint,
 }
 
 // The walk's angle, from 0 to tau, with laps and side brought up to date.
@@ -81,16 +80,16 @@ fn turn_down(beta: f64, alpha: f64, left: u32) -> Option<(f64, u32)>
     None
 }
 
-// Beta more tau while it is below alpha by more than 1.5 pi.
+// Beta more tau while it is below alpha by more than 1.5 pi, none where more than the `left` turns are wanted.
 // Kept beside `turn_down`, since one loop for both is no plainer: it would be passed the test and the turn, and its contract would have
 // to tell both as functions of beta. With the signs turned over instead, a beta of -tau would give -0 in place of 0.
-fn turn_up(beta: f64, alpha: f64, left: u32) -> Option<(f64, u32)>
-    ensures { result ≡ turn_up left beta alpha }
+fn turn_up(beta: f64, alpha: f64, left: u32) -> Option<f64>
+    ensures { result ≡ turned_beta (turn_up left beta alpha) }
 {
     let mut b = beta;
-    for n in (0..=left).rev() {
+    for _n in (0..=left).rev() {
         if !(b - alpha < UP) {
-            return Some((b, n));
+            return Some(b);
         }
         b += TAU;
     }
@@ -99,8 +98,8 @@ fn turn_up(beta: f64, alpha: f64, left: u32) -> Option<(f64, u32)>
 
 // Both, with four turns in all: the fifth refuses.
 #[tactic(auto, unfolding(crate::specs::Rules::Step::then_up, crate::specs::Rules::Step::turn_of))]
-fn turn(beta: f64, alpha: f64) -> Option<(f64, u32)>
-    ensures { result ≡ turn_of beta alpha }
+fn turn(beta: f64, alpha: f64) -> Option<f64>
+    ensures { result ≡ turned_beta (turn_of beta alpha) }
 {
     let (b, left) = turn_down(beta, alpha, 4)?;
     turn_up(b, alpha, left)
@@ -137,11 +136,14 @@ fn landed(w: Walk, s: Sight, h: SinCos, d: Dest, prev: f64, beta: f64) -> Option
     }
     let x = w.x + -h.sin * TRACK_DETAIL_STEP;
     let y = w.y + h.cos * TRACK_DETAIL_STEP;
-    let p = TrackStep {
-        alpha: d.alpha,
+    let point = TrackPoint {
         beta: prev * 0.5 + beta * 0.5,
         x,
         y,
+    };
+    let p = TrackStep {
+        alpha: d.alpha,
+        point,
     };
     let next = Walk {
         x,
@@ -164,6 +166,6 @@ pub(crate) fn step(cs: &[Checkpoint; 12], w: Walk, t: Turns) -> Option<(TrackSte
     let h = trig::turned(w.beta, t);
     let s = look(w);
     let d = finder::find(cs, w.dest, s.alpha)?;
-    let (b, _) = turn(w.beta, d.alpha)?;
+    let b = turn(w.beta, d.alpha)?;
     landed(w, s, h, d, b, steer(b, proj(w, h, d.checkpoint)))
 }

@@ -57,6 +57,7 @@ struct Whole {
     f: f64,
 }
 
+// The cosine and the sine of one angle.
 #[derive(Clone, Copy)]
 pub(crate) struct SinCos {
     pub cos: f64,
@@ -72,6 +73,7 @@ fn sine_poly(r: f64) -> f64
     r * p
 }
 
+// The cosine of r by its series, |r| about pi/4 at most.
 fn cosine_poly(r: f64) -> f64
     ensures { result ≡ cosine_poly r }
 {
@@ -79,6 +81,7 @@ fn cosine_poly(r: f64) -> f64
     (((((((C16 * z + C14) * z + C12) * z + C10) * z + C8) * z + C6) * z + C4) * z + C2) * z + 1.0
 }
 
+// The arc tangent of w by its series, over w. It is told in four parts, each short enough to be read.
 fn atan_poly(w: f64) -> f64
     ensures { result ≡ atan_poly w }
 {
@@ -96,6 +99,8 @@ fn atan_poly(w: f64) -> f64
 
 // v cut to a whole number, v above -1 and below 2^64. The small ones are told by comparing: a processor foresees a comparison
 // and need not wait for v.
+// Kept as five tests of one shape, since most angles end at the first of them that holds: joining the tests, here for `near_whole`, and in
+// `quarter_turns_from` and `angle_of`, was tried, and lay was 3 to 4 % slower.
 fn whole_part(v: f64) -> Whole
     requires { T (lt (fin true 1 (pos 0)) v) × T (lt v (fin false 1 (pos 64))) }
     ensures { result ≡ whole_at (to_unsigned 64 v) }
@@ -184,6 +189,8 @@ pub(crate) fn quarter_turns_from(a: f64, t: Turns) -> Turns
 
 // Cosine and sine of a, from the quarter turns in it. It is short enough to be compiled in place, where both results stay in
 // registers.
+// Kept as an angle and its turns, here, in `quarter_turns_from` and in `step`: a struct of both with a ghost field of what is true of them is
+// no plainer, since `quarter_turns_from` is given the turns of one angle beside another, and `step` has its angle in the walk already.
 pub(crate) fn turned(a: f64, t: Turns) -> SinCos
     requires { t ≡ turns_at (turns_of a) }
     ensures { sin_cos_as result ≡ sin_cos_of a }
@@ -220,6 +227,7 @@ fn checked_sin_cos(a: f64) -> Result<SinCos, Cause>
 }
 
 // The sine of a, |a| at most 16.
+// Kept beside `cosine`: one function that is told the part would be as long, and document 01 gives each its call.
 pub fn sine(a: f64) -> Result<f64, Cause>
     ensures { result ≡ sine_call a }
 {
@@ -272,6 +280,7 @@ fn steepened(ay: f64, ax: f64, a: f64) -> f64
     a
 }
 
+// The angle A in the half where x < 0.
 fn reflected(x: f64, a: f64) -> f64
     ensures { result ≡ leftward x a }
 {
@@ -281,6 +290,7 @@ fn reflected(x: f64, a: f64) -> f64
     a
 }
 
+// The angle A in the half where y < 0.
 fn signed(y: f64, a: f64) -> f64
     ensures { result ≡ downward y a }
 {
@@ -302,6 +312,8 @@ fn direction(y: f64, x: f64) -> f64
 }
 
 // The angle of (x, y), 0 if both are zero.
+// Kept as two tests, one in the other, here and in `quarter_turns_from`: with both pairs joined by `&&`, and `direction` called once, lay was
+// 5 % slower (tried).
 pub(crate) fn angle_of(y: f64, x: f64) -> f64
     ensures { result ≡ atan2_of y x }
 {

@@ -24,6 +24,7 @@ fn start() -> Walk
 }
 
 // At most STEP_LIMIT steps, until the fifth lap is done: how many were stored, none where one was refused.
+// Kept by index, since the proof did not close: what four zipped `iter_mut` leave in the lent columns is known to no proof after the loop.
 pub(crate) fn walk_round(cs: &[Checkpoint; 12], cols: &mut WalkColumns) -> Option<usize>
     ensures same { SameColumns cols.old cols.new }
     ensures trod { Trod cs.now (columns_of cols.old) (columns_of cols.new) result }
@@ -33,9 +34,9 @@ pub(crate) fn walk_round(cs: &[Checkpoint; 12], cols: &mut WalkColumns) -> Optio
     for k in 0..STEP_LIMIT {
         let (p, next) = step::step(cs, w, t)?;
         cols.alpha[k] = p.alpha;
-        cols.beta[k] = p.beta;
-        cols.x[k] = p.x;
-        cols.y[k] = p.y;
+        cols.beta[k] = p.point.beta;
+        cols.x[k] = p.point.x;
+        cols.y[k] = p.point.y;
         if 4 < next.laps {
             return Some(k + 1);
         }

@@ -11,7 +11,6 @@ use native.Mathlib.Omega.{arith}
 use mir.Val.{bool_byte}
 use lib.ListN.{length, get_or, take, drop, length-append, take-append-drop, drop_of_length-le}
 use lib.Seq.{drop-cons, sets}
-use lib.Dec.{leb}
 use borrow.Author.Tests.{le-leb, lt-leb}
 use Rattle.std.specs.Int.{w16, to_le_bytes}
 use Rattle.form.proofs.ByteLaws.{low-length, low-said}
@@ -48,14 +47,6 @@ sum-at rows k h = ap (λ (l : List Row). sum (widths l)) (row_at rows k h)
 pub sum-none : (rows : List Row) (k : ℕ) → length rows ≤ k → sum (widths (drop k rows)) ≡ 0
 unfolding sum
 sum-none rows k h = ap (λ (l : List Row). sum (widths l)) (drop_of_length-le rows h)
-
-pub some-room : (n left room : ℕ) → left + n ≡ room → Some left ≡ cond (leb n room) (Some (room - n)) None
-some-room n left room e =
-    let d : left ≡ room - n = omega (arith, e) in
-    ap (λ (k : ℕ). Some k) d ∙ sym (ap (λ (b : Bool). cond b (Some (room - n)) None) (le-leb n room (omega (arith, e))))
-
-pub no_room : (n room : ℕ) → room < n → None ≡ cond (leb n room) (Some (room - n)) None
-no_room n room h = sym (ap (λ (b : Bool). cond b (Some (room - n)) None) (lt-leb n room h))
 
 -- the widths of a table of widths and marks
 pub widths-of : (ws : List ℕ) (zs : List Bool) → widths (rows_of ws zs) ≡ ws

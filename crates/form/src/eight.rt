@@ -50,7 +50,7 @@ impl Eight for f64 {
 }
 
 // Values go to the front of the output, eight bytes each, if they have room.
-// Kept by places, here and in `read`: after a loop over `chunks_exact_mut(8).zip(values)`, or over `iter_mut().zip(eights)`, no proof
+// Kept by index, here and in `read`: after a loop over `chunks_exact_mut(8).zip(values)`, or over `iter_mut().zip(eights)`, no proof
 // knows what the lent list holds (tried).
 pub fn put<E: Eight>(values: &[E], out: &mut [u8]) -> Result<(), TooShort>
     ensures value { leaves result out.new ≡ store (each_bytes E.number_of values.now) out.old }

@@ -31,6 +31,8 @@ fn standing_length(fields: Fields<'_>, map: u64) -> usize
 }
 
 // The fields that stand, over an output of their length.
+// Kept by index, here and in `spread`, since the proof did not close: where `split_at_mut` parts off each field's place and the loop goes
+// on with the rest, no proof knows what the lent list holds after the loop (tried).
 fn put_standing(fields: Fields<'_>, map: u64, out: &mut [u8])
     requires { length (standing map (table_fields fields)) ≡ length out.old }
     ensures { out.new ≡ standing map (table_fields fields.entry) }

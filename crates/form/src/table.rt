@@ -1,6 +1,6 @@
 // The table of a saved form: its rows, in bit order, and the fields as they lie end to end in one lent
 // list of bytes.
-ghost use Rattle.std.specs.Prelude.{◌≡◌, cond, ◌-◌, leb, take, Some, None};
+ghost use Rattle.std.specs.Prelude.{◌≡◌, leb, take};
 ghost use Rattle.std.specs.Iterator.{YieldsFirstRef, item_count};
 ghost use Rattle.form.specs.Rules.Form.{widths, sum, cut, table_fields, map_of, most_rows};
 
@@ -39,15 +39,18 @@ impl<'a> Iterator for Fields<'a> {
     }
 }
 
-// What is left of that many bytes behind all fields, where these have room.
-pub(crate) fn room_left(rows: &[Row], room: usize) -> Option<usize>
-    ensures { result ≡ cond (leb (sum (widths rows.now)) room) (Some (room - sum (widths rows.now))) None }
+// Whether all fields have room in that many bytes.
+pub(crate) fn has_room(rows: &[Row], room: usize) -> bool
+    ensures { result ≡ leb (sum (widths rows.now)) room }
 {
     let mut left = room;
     for row in rows {
-        left = left.checked_sub(row.bytes)?;
+        match left.checked_sub(row.bytes) {
+            Some(after) => left = after,
+            None => return false,
+        }
     }
-    Some(left)
+    true
 }
 
 // The map of the fields that are not zeros, of up to sixteen; a field that is not there counts as zeros.

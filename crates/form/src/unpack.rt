@@ -35,7 +35,7 @@ fn is_form(rows: &[Row], map: u64, bytes: &[u8]) -> bool
             None => return false,
         }
     }
-    (bits.rest == 0) & left.is_empty()
+    bits.rest == 0 && left.is_empty()
 }
 
 // A field's place is filled from the front of the bytes, or with zeros; the bytes after what was read.
@@ -70,13 +70,15 @@ fn spread(rows: &[Row], map: u64, bytes: &[u8], full: &mut [u8])
     }
 }
 
-// Reads a saved form, and its map: its fields go to the front of `full`, end to end. Where the bytes are none, or
-// `full` has no room for the fields, it stays as it is.
+// Reads a saved form, and its map: its fields go to the front of `full`, end to end. Where the bytes are no saved form,
+// or `full` has no room for the fields, it stays as it is.
 pub fn unpack(rows: &[Row], bytes: &[u8], full: &mut [u8]) -> Option<u16>
     ensures { read result full.new ≡ unpack_into rows.now bytes.now full.old }
 {
     let (first, fields) = bytes.split_first_chunk::<2>()?;
-    table::room_left(rows, full.len())?;
+    if !table::has_room(rows, full.len()) {
+        return None;
+    }
     let map = u16::from_le_bytes(*first);
     let m = u64::from(map);
     if !is_form(rows, m, fields) {

@@ -8,7 +8,7 @@ use lib.Ieee.{fin, lt, le, is_nan}
 use lib.Ieee.Exact.{HasValue}
 use Rattle.rng.specs.declared.SplitMix64.{SplitMix64}
 use Rattle.rng.specs.Rules.SplitMix.{gamma, xor_shift, product64, mix64, next_state, draw_of, after, draw_at}
-use Rattle.rng.specs.Rules.Unit.{unit_of, unit_draw_of, unit_at}
+use Rattle.rng.specs.Rules.Unit.{unit_draw_of}
 use Rattle.rng.proofs.Units.{unit-value, unit-range, unit-not-nan}
 
 -- ---- every draw is below 2^64
@@ -51,14 +51,6 @@ after-zero g = refl
 pub after_next : (n : ℕ) (g : SplitMix64) → (unit_draw_of (after n g)).rng ≡ after (n + 1) g
 unfolding after unit_draw_of
 after_next n g = rw add-one
-
-pub unit-at : (n : ℕ) (g : SplitMix64) → (unit_draw_of (after n g)).value ≡ unit_at n g
-unfolding unit_at
-unit-at n g = refl
-
-pub unit-at-draw : (n : ℕ) (g : SplitMix64) → unit_at n g ≡ unit_of (draw_at n g)
-unfolding unit_at unit_draw_of draw_at
-unit-at-draw n g = refl
 
 pub after-add : (m n : ℕ) (g : SplitMix64) → after n (after m g) ≡ after (m + n) g
 unfolding after

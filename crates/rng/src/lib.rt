@@ -8,7 +8,7 @@ ghost use Rattle.std.specs.Prelude.{◌≡◌};
 ghost use Rattle.rng.specs.Rules.SplitMix.{product64, at_state, seeded, draw_of};
 ghost use Rattle.rng.specs.Rules.Unit.{unit_of, between, unit_draw_of, uniform_draw_of};
 
-// The generator. Its state is private: only this crate makes one.
+// The generator. Its state is private: another crate makes one by `new` or `from_seed`, and moves it on by draws alone.
 #[derive(Clone, Copy)]
 pub struct SplitMix64 {
     state: u64,

@@ -35,7 +35,11 @@ abbrev pub walk_as : CodeWalk → Walk
 walk_as w = record { x = w.x; y = w.y; beta = w.beta; dest = w.dest; laps = w.laps; visited = w.visited }
 
 abbrev pub track_step_as : CodeTrackStep → TrackStep
-track_step_as p = record { alpha = p.alpha; beta = p.beta; x = p.x; y = p.y }
+track_step_as p = record { alpha = p.alpha; beta = p.point.beta; x = p.point.x; y = p.point.y }
+
+-- beta after its turns, without how many are still allowed
+abbrev pub turned_beta : Option (Float × ℕ) → Option Float
+turned_beta o = option_map (λ (t : Float × ℕ). t.0) o
 
 abbrev pub stepped_as : Option (CodeTrackStep × CodeWalk) → Option (TrackStep × Walk)
 stepped_as o = option_map (λ (s : CodeTrackStep × CodeWalk). (track_step_as s.0, walk_as s.1)) o

@@ -53,5 +53,5 @@ returns c =
     let u : Up b z = up b (omega arith) (omega arith) in
     let m = b * 2 ^ (z - 11) in
     let bits : (1074 - (z - 11) - 1020) * 4503599627370496 + m ≡ (54 - (z - 11)) * 4503599627370496 + m % 18446744073709551616 = omega (arith, u.low, u.few) in
-    subst (λ (x : ℕ). Scaled (units_of (b / 4503599627370496) (b % 4503599627370496)) x 27) bits
+    subst (λ (x : ℕ). Scaled (units_of (b / 4503599627370496) (b % 4503599627370496)) x 27) (bits ∙ ap (λ (u : ℕ). (54 - u) * 4503599627370496 + m % 18446744073709551616) (sym c.from.ensures))
     (brought b m (1074 - (z - 11)) (omega arith) (same b (z - 11) (omega (arith, u.few))) u.high u.low (omega (arith, u.few)) (omega (arith, u.enough)))

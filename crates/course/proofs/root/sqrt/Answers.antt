@@ -1,16 +1,15 @@
 -- `course::root::sqrt` meets its contract. Each way out of the code is a law of `RootFields`. Assumes nothing.
-use Rattle.std.proofs.Common.{T, sym, refl, ap, ◌∙◌, subst, arith}
+use Rattle.std.proofs.Common.{T, not, sym, refl, ap, ◌∙◌, subst, arith}
 use lib.Ieee.{binary64, fits, to_bits}
-use lib.Ieee.Compare.{differs_from_itself}
 use Rattle.course.specs.Rules.Root.{nearest_root}
-use Rattle.course.proofs.RootFields.{way-nan, no_nan, way-zero, way-top, way-negative, way-root, makes-nan, below_inf}
+use Rattle.course.proofs.RootFields.{way-nan, way-zero, way-top, way-negative, way-root, below_inf}
 use Rattle.course.proofs.root.sqrt.Goals as goal
 
-pub returns-then-x : goal.returns-then-x
-returns-then-x c = way-nan c.args.x (differs_from_itself c.args.x (subst T (sym c.if-x.true) tt))
+pub returns-then-is_nan : goal.returns-then-is_nan
+returns-then-is_nan c = way-nan c.args.x (sym c.is_nan.ensures.value ∙ c.if-is_nan.true)
 
 pub float_to_bits-b : goal.float_to_bits-b
-float_to_bits-b c = no_nan c.args.x c.if-x.false
+float_to_bits-b c = subst (λ b. T (not b)) (sym c.if-is_nan.false ∙ c.is_nan.ensures.value) tt
 
 -- below, what owning an `f64` tells: the format holds it
 pub returns-then-b-le-SIGN : goal.returns-then-b-le-SIGN
@@ -19,9 +18,10 @@ returns-then-b-le-SIGN c =
     way-top c.args.x held (to_bits binary64 c.args.x) refl c.if-b-ge-INFINITY.true c.if-b-le-SIGN.true
 
 pub returns-then-b-ge-INFINITY : goal.returns-then-b-ge-INFINITY
+unfolding lib.Ieee.of_bits
 returns-then-b-ge-INFINITY c =
     let held : T (fits binary64 c.args.x) = subst T (sym c.well_formed.0.1) tt in
-    makes-nan ∙ way-negative c.args.x held (to_bits binary64 c.args.x) refl (omega arith)
+    way-negative c.args.x held (to_bits binary64 c.args.x) refl (omega arith)
 
 pub returns-then-b-eq0 : goal.returns-then-b-eq0
 returns-then-b-eq0 c =

@@ -1,7 +1,8 @@
 -- `form::unpack::is_form` meets its contract. Assumes nothing.
 use Rattle.form.proofs.ReadLaws.{form-on, form-off, form-end}
 use Rattle.form.proofs.TableLaws.{row_at}
-use lib.ListN.{drop_of_length-le}
+use lib.ListN.{length, drop_of_length-le}
+use Rattle.std.proofs.Common.{eq-eqb, ne_eqb}
 use mathlib.Core.Path.{sym, ap, ◌∙◌}
 use mathlib.Core.Bool.{◌&&◌}
 use lib.Dec.{eqb}
@@ -17,7 +18,12 @@ loop-row-preserved c =
     let t = c.next.ensures.steps in
     c.loop-row.invariant ∙ form-on _ _ _ _ _ _ _ (row_at _ _ c.loop-row-test.true) (sym c.unwrap-stands.ensures ∙ t.0) t.1 _ c.in-Some.ensures
 
-pub returns : goal.returns
-returns c =
+pub returns-then-bits-eq0 : goal.returns-then-bits-eq0
+returns-then-bits-eq0 c =
     let l = c.loop-row in
-    ap (λ b. eqb l.bits.rest 0 && b) c.is_empty.ensures ∙ sym (l.invariant ∙ form-end _ l.bits.rest l.left.now (drop_of_length-le c.args.rows.now c.loop-row-test.false))
+    c.is_empty.ensures ∙ sym (l.invariant ∙ form-end _ l.bits.rest l.left.now (drop_of_length-le c.args.rows.now c.loop-row-test.false) ∙ ap (λ b. b && eqb (length l.left.now) 0) (eq-eqb _ _ c.if-bits-eq0.true))
+
+pub returns-else-bits-eq0 : goal.returns-else-bits-eq0
+returns-else-bits-eq0 c =
+    let l = c.loop-row in
+    ne_eqb _ _ c.if-bits-eq0.false ∙ sym (l.invariant ∙ form-end _ l.bits.rest l.left.now (drop_of_length-le c.args.rows.now c.loop-row-test.false) ∙ ap (λ b. b && eqb (length l.left.now) 0) (ne_eqb _ _ c.if-bits-eq0.false))

@@ -2,7 +2,7 @@
 use Rattle.form.specs.Steps.Form.{whole, fields_in}
 use Rattle.form.specs.Rules.Form.{widths, parse, joined, read}
 use Rattle.form.proofs.ByteLaws.{map-said}
-use Rattle.form.proofs.ReadLaws.{parsed-short, parsed-long, not-whole, unpack-broken, unpack-short, unpack-whole, form-enough, none-left, some-left}
+use Rattle.form.proofs.ReadLaws.{parsed-short, parsed-long, not-whole, unpack-broken, unpack-short, unpack-whole, form-enough}
 use lib.ListN.{length, drop}
 use Prim.Native.Nat.{ℕ, ◌≤◌}
 use native.Mathlib.Omega.{arith}
@@ -14,10 +14,9 @@ pub returns-in_err-first : goal.returns-in_err-first
 returns-in_err-first c =
     ap (λ m. read m c.args.full.now) c.from_residual.ensures ∙ unpack-broken _ _ _ (parsed-short _ _ c.in_err-first.ensures.cases)
 
-pub returns-in_err-room_left : goal.returns-in_err-room_left
-returns-in_err-room_left c =
-    let s = c.args in
-    ap (λ m. read m s.full.now) c.from_residual-in_err-room_left.ensures ∙ unpack-short s.rows.now s.bytes.now s.full.now (none-left _ _ c.in_err-room_left.ensures)
+pub returns-then-not-has_room : goal.returns-then-not-has_room
+returns-then-not-has_room c =
+    let s = c.args in unpack-short s.rows.now s.bytes.now s.full.now (sym c.has_room.ensures ∙ c.if-not-has_room.true)
 
 pub returns-then-not-is_form : goal.returns-then-not-is_form
 returns-then-not-is_form c =
@@ -39,6 +38,6 @@ returns c =
     let map = c.from_le_bytes-map.ensures ∙ map-said s.bytes.now _ parts.0 in
     let same = c.from-m.ensures in
     let ws = widths s.rows.now in
-    unpack-whole s.rows.now s.bytes.now s.full.now _ _ map (some-left _ _ _ c.in_ok-room_left.ensures) long
+    unpack-whole s.rows.now s.bytes.now s.full.now _ _ map (sym c.has_room.ensures ∙ c.if-not-has_room.false) long
     (ap₂ (λ (k : ℕ) (l : List ℕ). whole (parse s.rows.now k l)) (sym same) (sym parts.1) ∙ sym c.is_form.ensures ∙ c.if-not-is_form.false)
     (c.spread.ensures ∙ ap₂ (λ (k : ℕ) (l : List ℕ). joined (fields_in ws k l) ++ drop (length (joined (fields_in ws k l))) s.full.now) same parts.1)
