@@ -39,7 +39,7 @@ pub fn sheet<W: Write>(out: &mut W, answer: Result<RunSheet, Cause>) -> io::Resu
 }
 
 // The forces: motor speed, fx and fy of each wheel.
-fn forces<W: Write>(out: &mut W, numbers: &[f64]) -> io::Result<()> {
+fn forces<W: Write>(out: &mut W, numbers: &[f64; ANSWER_NUMBERS]) -> io::Result<()> {
     write!(out, "forces")?;
     for x in numbers {
         write!(out, " {}", Bits(*x))?;
@@ -56,7 +56,11 @@ fn settled<W: Write>(out: &mut W, fresh: u32, n: u32, flags: u32) -> io::Result<
 // The answer that four words and twelve numbers hold, by the first word: forces, a settle or a refusal. A call that was not
 // answered left its words untouched.
 // Kept as numbers for kinds: the C interface lends a column of words, which this shows as it stands.
-fn answer<W: Write>(out: &mut W, words: &[u32], numbers: &[f64]) -> io::Result<()> {
+fn answer<W: Write>(
+    out: &mut W,
+    words: &[u32; ANSWER_WORDS],
+    numbers: &[f64; ANSWER_NUMBERS],
+) -> io::Result<()> {
     match *words {
         [0, ..] => forces(out, numbers),
         [1, fresh, n, flags] => settled(out, fresh, n, flags),
@@ -72,10 +76,9 @@ pub fn answers<W: Write>(
     words: &[u32],
     numbers: &[f64],
 ) -> io::Result<()> {
-    let each = words
-        .chunks_exact(ANSWER_WORDS)
-        .zip(numbers.chunks_exact(ANSWER_NUMBERS));
-    for (words, numbers) in each.take(count) {
+    let (words, _) = words.as_chunks::<ANSWER_WORDS>();
+    let (numbers, _) = numbers.as_chunks::<ANSWER_NUMBERS>();
+    for (words, numbers) in words.iter().zip(numbers).take(count) {
         answer(out, words, numbers)?;
     }
     Ok(())
