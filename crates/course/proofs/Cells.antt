@@ -51,9 +51,6 @@ at-middle v h =
     omega arith
 
 -- what `truncating_f64_to_u64` asks
-between : (q : ℕ) → q < 66 → min q (2 ^ 64 - 1) < 66 → q < 2 ^ 64
-between q h g = omega arith
-
 small : (q : ℕ) → min q (2 ^ 64 - 1) < 66 → q < 2 ^ 64
 small q g = omega arith
 
