@@ -1,40 +1,31 @@
 // The lines of answers.
 use certificate::replay::{ANSWER_NUMBERS, ANSWER_WORDS};
-use course::cause::Cause;
 use run::sheet::RunSheet;
 use run::start::StartValues;
-use std::io;
 use std::io::Write;
-use vectors::line;
+use std::{fmt, io};
 use vectors::line::{Bits, Flag};
 
-// How many tiles the start credits, and the lap; or the number of the cause.
-pub fn started<W: Write>(out: &mut W, answer: Result<StartValues, Cause>) -> io::Result<()> {
-    match answer {
-        Ok(s) => writeln!(out, "started {} {}", s.count, Flag(s.lap)),
-        Err(cause) => line::refused(out, cause),
+// How many tiles a start credits, and the lap.
+#[derive(Clone, Copy)]
+pub struct Started(pub StartValues);
+
+impl fmt::Display for Started {
+    fn fmt<W: fmt::Write>(&self, f: &mut fmt::Formatter<W>) -> fmt::Result {
+        write!(f, "started {} {}", self.0.count, Flag(self.0.lap))
     }
 }
 
 // Tick, credited, n, lap, ended, fallback, share.
-fn figures<W: Write>(out: &mut W, s: RunSheet) -> io::Result<()> {
-    writeln!(
-        out,
-        "sheet {} {} {} {} {} {} {}",
-        s.tick,
-        s.credited,
-        s.n,
-        Flag(s.lap),
-        Flag(s.ended),
-        Flag(s.fallback),
-        s.share
-    )
-}
+#[derive(Clone, Copy)]
+pub struct Sheet(pub RunSheet);
 
-pub fn sheet<W: Write>(out: &mut W, answer: Result<RunSheet, Cause>) -> io::Result<()> {
-    match answer {
-        Ok(s) => figures(out, s),
-        Err(cause) => line::refused(out, cause),
+impl fmt::Display for Sheet {
+    fn fmt<W: fmt::Write>(&self, f: &mut fmt::Formatter<W>) -> fmt::Result {
+        let s = self.0;
+        let [lap, ended, fallback] = [s.lap, s.ended, s.fallback].map(Flag);
+        write!(f, "sheet {} {} {} ", s.tick, s.credited, s.n)?;
+        write!(f, "{lap} {ended} {fallback} {}", s.share)
     }
 }
 

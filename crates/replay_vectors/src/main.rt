@@ -15,6 +15,7 @@ mod read;
 
 use certificate::replay;
 use certificate::replay::{AnswerColumns, CallColumns, Opening, Replayed};
+use line::{Sheet, Started};
 use read::Log;
 use run::numbers;
 use std::alloc::{AllocError, Global};
@@ -84,9 +85,9 @@ fn replay_log<W: Write>(
     let mut c = Calls::new(alloc, record)?;
     let done = call(record, columns, &mut c);
     vectors::line::laid(out, done.laid)?;
-    line::started(out, done.start)?;
+    vectors::line::answer(out, done.start.map(Started))?;
     line::answers(out, read::held(record), &c.answer_words, &c.answer_numbers)?;
-    line::sheet(out, done.sheet)?;
+    vectors::line::answer(out, done.sheet.map(Sheet))?;
     columns.lines(out)?;
     vectors::line::column(out, &c.answer_words)?;
     vectors::line::column(out, &c.answer_numbers)
