@@ -21,6 +21,7 @@ pub fn put_last(record: Record<'_>, run: &mut Run) {
 }
 
 // A hash of the last poses, and the seed.
+// Kept as two lines by hand: a part of a run, shown here alone, so a type that prints it would be longer.
 pub fn line_last<W: Write>(out: &mut W, run: &Run) -> io::Result<()> {
     line::column(out, &run.poses)?;
     writeln!(out, "{}", run.seed)
@@ -50,6 +51,7 @@ pub fn replay_save<W: Write>(out: &mut W, record: Record<'_>, run: Run) -> io::R
 }
 
 // Which course the bytes are of.
+// Kept beside `line::answer`, whose value is on one line: these are two.
 fn line_course<W: Write>(out: &mut W, bytes: &[u8]) -> io::Result<()> {
     match restore::saved_course(bytes) {
         Ok(of) => writeln!(out, "{}\n{}", of.seed, of.n),
