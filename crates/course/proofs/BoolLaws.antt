@@ -47,12 +47,6 @@ and_right false b h = absurd (false≢true h)
 pub both : (a b : Bool) → a ≡ true → b ≡ true → (a && b) ≡ true
 both a b p q = rw (p, q)
 
-pub swap : (a b c : Bool) → a && (b && c) ≡ b && (a && c)
-swap true true c = refl
-swap true false c = refl
-swap false true c = refl
-swap false false c = refl
-
 -- two tests that agree where c does not hold
 pub and-else : (c x y : Bool) → (c ≡ false → x ≡ y) → (x && not c) ≡ (y && not c)
 and-else true x y h = and-false x ∙ sym (and-false y)

@@ -115,10 +115,6 @@ below-small (inf s) b h = absurd b
 below-small (fin false m e) b h = absurd (nonneg m e h)
 below-small (fin true m e) b h = let g = uncut (m * up e) (down e) (down_pos e) b in omega arith
 
--- −n for an n above 0
-opposite : ℕ → ℤ
-opposite n = neg_ℤ (pos n)
-
 -- v is above −n − 1 and below −n, where n is the whole part of its size
 pub below-between : (v : Float) → Bounded v 4503599627370496 → le nought v ≡ false → lt (natural (to_unsigned 64 (neg v))) (neg v) ≡ true → floor v ≡ negsuc (to_unsigned 64 (neg v))
 unfolding neg to_unsigned floor

@@ -9,6 +9,7 @@ use vectors::record::Record;
 const MOST: usize = 2600;
 
 // Points given in three columns.
+// Kept beside vectors' `Columns`, three of whose fields have these names: those are what a call writes, these what it reads.
 #[derive(Drop)]
 pub struct Given {
     pub beta: Vec<f64>,
@@ -18,23 +19,24 @@ pub struct Given {
 
 // How many points a record gives.
 pub fn count(record: Record<'_>) -> usize
-    ensures { result ≤ 2600 }
+    ensures { result ≤ MOST }
 {
     record.upto(2, MOST)
 }
 
-// Every third word from number k on, into the column from the record's first place on.
+// The points' numbers from word k on, into the column from the record's first place on.
 fn give_column(record: Record<'_>, k: usize, col: &mut [f64]) {
     let first = record.upto(1, col.len());
-    let places = front_mut(&mut col[first..], count(record) as u64);
-    record.fill(k, 3, places);
+    record.fill_points(k, count(record), &mut col[first..]);
 }
 
-// From number `period` on and below `count`: what stands a period before.
-// Kept as a loop by index: a number a period before is one that the loop itself has written, so no iterator can hold the column beside it.
+// The first numbers of the column, as many as `period`, again and again up to place `count`.
 fn repeat_column(period: usize, count: usize, col: &mut [f64]) {
-    for i in period..count.min(col.len()) {
-        col[i] = col[i - period];
+    let part = front_mut(col, count as u64);
+    if let Some((first, rest)) = part.split_at_mut_checked(period) {
+        for (place, x) in rest.iter_mut().zip(first.iter().cycle()) {
+            *place = *x;
+        }
     }
 }
 
@@ -49,7 +51,7 @@ impl Given {
 
     // Their parts, of the lengths that are words 2 to 4 of the record.
     pub fn lend(&self, record: Record<'_>) -> [&[f64]; 3] {
-        let [beta, x, y]: [u64; 3] = record.words(2);
+        let [beta, x, y]: [u64; 3] = record.values(2);
         [
             front(&self.beta, beta),
             front(&self.x, x),

@@ -108,10 +108,7 @@ fn replay_curbs<W: Write>(
 ) -> io::Result<()> {
     let mut quads = vec![in alloc; UNTOUCHED; 20100]?;
     let mut white = vec![in alloc; UNTOUCHED_MARK; 2600]?;
-    match call_curbs(record, given, &mut quads, &mut white) {
-        Ok(count) => writeln!(out, "{count}")?,
-        Err(cause) => line::refused(out, cause)?,
-    }
+    line::answer(out, call_curbs(record, given, &mut quads, &mut white))?;
     line::column(out, &quads)?;
     line::column(out, &white)
 }

@@ -53,7 +53,7 @@ impl Kind for Request {
 fn checkpoints(record: Record<'_>) -> [Checkpoint; 12] {
     let mut cs = [Checkpoint::default(); 12];
     for (c, at) in cs.iter_mut().zip((8..44).step_by(3)) {
-        let [angle, x, y]: [f64; 3] = record.floats(at);
+        let [angle, x, y]: [f64; 3] = record.values(at);
         *c = Checkpoint { angle, x, y };
     }
     cs

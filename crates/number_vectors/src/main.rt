@@ -7,7 +7,6 @@
 // the bits of its arguments, a word each. An unknown code ends the run.
 #![tactic(auto)]
 
-use course::cause::Cause;
 use course::{cell, numeric, root, trig};
 use std::io;
 use std::io::{BufWriter, Read, Write};
@@ -61,23 +60,15 @@ impl Kind for Operation {
     }
 }
 
-// What a call answers that may refuse.
-fn line_angle<W: Write>(out: &mut W, answer: Result<f64, Cause>) -> io::Result<()> {
-    match answer {
-        Ok(x) => writeln!(out, "{}", Bits(x)),
-        Err(cause) => line::refused(out, cause),
-    }
-}
-
-// The answer of one record. An operation leaves out the arguments that it does not take.
+// The answer of one record. Kept as a switch of printed lines: the answers are of four types. An operation leaves out the arguments that it does not take.
 fn line_answer<W: Write>(out: &mut W, operation: Operation, record: Record<'_>) -> io::Result<()> {
     let a = record.float(1);
     let b = record.float(2);
     let c = record.float(3);
     match operation {
-        Operation::Sine => line_angle(out, trig::sine(a)),
-        Operation::Cosine => line_angle(out, trig::cosine(a)),
-        Operation::Atan2 => line_angle(out, trig::atan2(a, b)),
+        Operation::Sine => line::answer(out, trig::sine(a).map(Bits)),
+        Operation::Cosine => line::answer(out, trig::cosine(a).map(Bits)),
+        Operation::Atan2 => line::answer(out, trig::atan2(a, b).map(Bits)),
         Operation::Sqrt => writeln!(out, "{}", Bits(root::sqrt(a))),
         Operation::Cell => writeln!(out, "{}", cell::cell_of(a)),
         Operation::Abs => writeln!(out, "{}", Bits(numeric::abs(a))),

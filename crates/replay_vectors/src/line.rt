@@ -1,45 +1,36 @@
 // The lines of answers.
 use certificate::replay::{ANSWER_NUMBERS, ANSWER_WORDS};
-use course::cause::Cause;
 use run::sheet::RunSheet;
 use run::start::StartValues;
-use std::io;
 use std::io::Write;
-use vectors::line;
+use std::{fmt, io};
 use vectors::line::{Bits, Flag};
 
-// How many tiles the start credits, and the lap; or the number of the cause.
-pub fn started<W: Write>(out: &mut W, answer: Result<StartValues, Cause>) -> io::Result<()> {
-    match answer {
-        Ok(s) => writeln!(out, "started {} {}", s.count, Flag(s.lap)),
-        Err(cause) => line::refused(out, cause),
+// How many tiles a start credits, and the lap.
+#[derive(Clone, Copy)]
+pub struct Started(pub StartValues);
+
+impl fmt::Display for Started {
+    fn fmt<W: fmt::Write>(&self, f: &mut fmt::Formatter<W>) -> fmt::Result {
+        write!(f, "started {} {}", self.0.count, Flag(self.0.lap))
     }
 }
 
 // Tick, credited, n, lap, ended, fallback, share.
-fn figures<W: Write>(out: &mut W, s: RunSheet) -> io::Result<()> {
-    writeln!(
-        out,
-        "sheet {} {} {} {} {} {} {}",
-        s.tick,
-        s.credited,
-        s.n,
-        Flag(s.lap),
-        Flag(s.ended),
-        Flag(s.fallback),
-        s.share
-    )
-}
+#[derive(Clone, Copy)]
+pub struct Sheet(pub RunSheet);
 
-pub fn sheet<W: Write>(out: &mut W, answer: Result<RunSheet, Cause>) -> io::Result<()> {
-    match answer {
-        Ok(s) => figures(out, s),
-        Err(cause) => line::refused(out, cause),
+impl fmt::Display for Sheet {
+    fn fmt<W: fmt::Write>(&self, f: &mut fmt::Formatter<W>) -> fmt::Result {
+        let s = self.0;
+        let [lap, ended, fallback] = [s.lap, s.ended, s.fallback].map(Flag);
+        write!(f, "sheet {} {} {} ", s.tick, s.credited, s.n)?;
+        write!(f, "{lap} {ended} {fallback} {}", s.share)
     }
 }
 
 // The forces: motor speed, fx and fy of each wheel.
-fn forces<W: Write>(out: &mut W, numbers: &[f64]) -> io::Result<()> {
+fn forces<W: Write>(out: &mut W, numbers: &[f64; ANSWER_NUMBERS]) -> io::Result<()> {
     write!(out, "forces")?;
     for x in numbers {
         write!(out, " {}", Bits(*x))?;
@@ -56,7 +47,11 @@ fn settled<W: Write>(out: &mut W, fresh: u32, n: u32, flags: u32) -> io::Result<
 // The answer that four words and twelve numbers hold, by the first word: forces, a settle or a refusal. A call that was not
 // answered left its words untouched.
 // Kept as numbers for kinds: the C interface lends a column of words, which this shows as it stands.
-fn answer<W: Write>(out: &mut W, words: &[u32], numbers: &[f64]) -> io::Result<()> {
+fn answer<W: Write>(
+    out: &mut W,
+    words: &[u32; ANSWER_WORDS],
+    numbers: &[f64; ANSWER_NUMBERS],
+) -> io::Result<()> {
     match *words {
         [0, ..] => forces(out, numbers),
         [1, fresh, n, flags] => settled(out, fresh, n, flags),
@@ -72,10 +67,9 @@ pub fn answers<W: Write>(
     words: &[u32],
     numbers: &[f64],
 ) -> io::Result<()> {
-    let each = words
-        .chunks_exact(ANSWER_WORDS)
-        .zip(numbers.chunks_exact(ANSWER_NUMBERS));
-    for (words, numbers) in each.take(count) {
+    let (words, _) = words.as_chunks::<ANSWER_WORDS>();
+    let (numbers, _) = numbers.as_chunks::<ANSWER_NUMBERS>();
+    for (words, numbers) in words.iter().zip(numbers).take(count) {
         answer(out, words, numbers)?;
     }
     Ok(())

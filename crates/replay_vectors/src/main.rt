@@ -15,6 +15,7 @@ mod read;
 
 use certificate::replay;
 use certificate::replay::{AnswerColumns, CallColumns, Opening, Replayed};
+use line::{Sheet, Started};
 use read::Log;
 use run::numbers;
 use std::alloc::{AllocError, Global};
@@ -26,24 +27,24 @@ use vectors::record::{BLOCK, Record, Records};
 // The columns of calls and answers, longer than a record's.
 #[derive(Drop)]
 struct Calls {
-    calls: Vec<u32>,
-    given: Vec<f64>,
-    words: Vec<u32>,
-    numbers: Vec<f64>,
+    call_words: Vec<u32>,
+    call_numbers: Vec<f64>,
+    answer_words: Vec<u32>,
+    answer_numbers: Vec<f64>,
 }
 
 impl Calls {
     // The record's calls; no place of the answers is touched.
     fn new(alloc: Global, record: Record<'_>) -> Result<Self, AllocError> {
-        let mut calls = vec![in alloc; UNTOUCHED_ID; 3700]?;
-        let mut given = vec![in alloc; UNTOUCHED; 18100]?;
-        read::give_calls(record, &mut calls);
-        read::give_numbers(record, &mut given);
+        let mut call_words = vec![in alloc; UNTOUCHED_ID; 3700]?;
+        let mut call_numbers = vec![in alloc; UNTOUCHED; 18100]?;
+        read::give_calls(record, &mut call_words);
+        read::give_numbers(record, &mut call_numbers);
         Ok(Calls {
-            calls,
-            given,
-            words: vec![in alloc; UNTOUCHED_ID; 3700]?,
-            numbers: vec![in alloc; UNTOUCHED; 10900]?,
+            call_words,
+            call_numbers,
+            answer_words: vec![in alloc; UNTOUCHED_ID; 3700]?,
+            answer_numbers: vec![in alloc; UNTOUCHED; 10900]?,
         })
     }
 }
@@ -53,16 +54,16 @@ fn call(record: Record<'_>, columns: &mut Columns, c: &mut Calls) -> Replayed {
     let opening = Opening {
         share: record.float(9),
         limit: record.low(10),
-        poses: numbers::poses_from(&record.floats(11)),
+        poses: numbers::poses_from(&record.values(11)),
     };
     let calls = CallColumns {
         many: record.low(27),
-        words: front(&c.calls, record.word(28)),
-        numbers: front(&c.given, record.word(29)),
+        words: front(&c.call_words, record.word(28)),
+        numbers: front(&c.call_numbers, record.word(29)),
     };
     let answers = AnswerColumns {
-        words: front_mut(&mut c.words, record.word(30)),
-        numbers: front_mut(&mut c.numbers, record.word(31)),
+        words: front_mut(&mut c.answer_words, record.word(30)),
+        numbers: front_mut(&mut c.answer_numbers, record.word(31)),
     };
     replay::replay(
         record.word(1),
@@ -84,12 +85,12 @@ fn replay_log<W: Write>(
     let mut c = Calls::new(alloc, record)?;
     let done = call(record, columns, &mut c);
     vectors::line::laid(out, done.laid)?;
-    line::started(out, done.start)?;
-    line::answers(out, read::held(record), &c.words, &c.numbers)?;
-    line::sheet(out, done.sheet)?;
+    vectors::line::answer(out, done.start.map(Started))?;
+    line::answers(out, read::held(record), &c.answer_words, &c.answer_numbers)?;
+    vectors::line::answer(out, done.sheet.map(Sheet))?;
     columns.lines(out)?;
-    vectors::line::column(out, &c.words)?;
-    vectors::line::column(out, &c.numbers)
+    vectors::line::column(out, &c.answer_words)?;
+    vectors::line::column(out, &c.answer_numbers)
 }
 
 fn main(rt: HostRuntime) -> io::Result<()> {

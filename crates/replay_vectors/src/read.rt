@@ -5,6 +5,7 @@
 ghost use Rattle.std.specs.Prelude.{◌≤◌};
 
 use certificate::replay::{CALL_NUMBERS, CALL_WORDS};
+use vectors::columns::front_mut;
 use vectors::record::{Kind, Record, UnknownCode};
 
 // Words of a record before its calls.
@@ -36,19 +37,20 @@ impl Kind for Log {
 
 // How many calls stand in the record.
 pub fn held(record: Record<'_>) -> usize
-    ensures { result ≤ 900 }
+    ensures { result ≤ MOST_CALLS }
 {
     record.upto(32, MOST_CALLS)
 }
 
 // The words of the record's calls, into the front of the column.
 pub fn give_calls(record: Record<'_>, col: &mut [u32]) {
-    let n = (held(record) * CALL_WORDS).min(col.len());
-    record.fill_lows(FRONT, &mut col[..n]);
+    let words = held(record) * CALL_WORDS;
+    record.fill(FRONT, front_mut(col, words as u64));
 }
 
 // The numbers of the record's calls, into the front of the column.
 pub fn give_numbers(record: Record<'_>, col: &mut [f64]) {
-    let n = (held(record) * CALL_NUMBERS).min(col.len());
-    record.fill(FRONT + held(record) * CALL_WORDS, 1, &mut col[..n]);
+    let words = held(record) * CALL_WORDS;
+    let numbers = held(record) * CALL_NUMBERS;
+    record.fill(FRONT + words, front_mut(col, numbers as u64));
 }

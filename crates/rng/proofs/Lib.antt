@@ -1,4 +1,3 @@
-pub mod Product
 pub mod Halves
 pub mod Units
 pub mod Draws

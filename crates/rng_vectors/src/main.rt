@@ -29,14 +29,8 @@ fn uniform(rt: &impl Print, seed: u64, lo: f64, hi: f64) -> io::Result<()> {
     println!(rt; "{}", Bits(SplitMix64::from_seed(seed).uniform(lo, hi)))
 }
 
-fn main(rt: HostRuntime) -> io::Result<()> {
-    draws(&rt, SplitMix64::new(1234567))?;
-    draws(&rt, SplitMix64::new(0))?;
-    for seed in [0, 42, 0xCA75_EED0, 4294967295] {
-        units(&rt, seed)?;
-    }
-    uniform(&rt, 7, 50.0, 150.0)?;
-    uniform(&rt, 7, 0.0, 0.5235987755982988)?;
+// Two wrapping products.
+fn products(rt: &impl Print) -> io::Result<()> {
     println!(rt;
         "{}",
         rng::wrapping_mul64(18446744073709551615, 18446744073709551615)
@@ -44,8 +38,12 @@ fn main(rt: HostRuntime) -> io::Result<()> {
     println!(rt;
         "{}",
         rng::wrapping_mul64(0x9E37_79B9_7F4A_7C15, 0xBF58_476D_1CE4_E5B9)
-    )?;
-    let chosen = [
+    )
+}
+
+// The units of chosen draws: about the bits that a unit leaves out, and the greatest.
+fn chosen(rt: &impl Print) -> io::Result<()> {
+    let draws = [
         0,
         2047,
         2048,
@@ -56,9 +54,14 @@ fn main(rt: HostRuntime) -> io::Result<()> {
         0xFFFF_FFFF_FFFF_F800,
         0xFFFF_FFFF_FFFF_FFFF,
     ];
-    for draw in chosen {
+    for draw in draws {
         println!(rt; "{}", Bits(rng::unit_of(draw)))?;
     }
+    Ok(())
+}
+
+// The first draws of courses' seeds.
+fn firsts(rt: &impl Print) -> io::Result<()> {
     let seeds = [
         0,
         7,
@@ -71,4 +74,17 @@ fn main(rt: HostRuntime) -> io::Result<()> {
         println!(rt; "{}", SplitMix64::from_seed(seed).next_u64())?;
     }
     Ok(())
+}
+
+fn main(rt: HostRuntime) -> io::Result<()> {
+    draws(&rt, SplitMix64::new(1234567))?;
+    draws(&rt, SplitMix64::new(0))?;
+    for seed in [0, 42, 0xCA75_EED0, 4294967295] {
+        units(&rt, seed)?;
+    }
+    uniform(&rt, 7, 50.0, 150.0)?;
+    uniform(&rt, 7, 0.0, 0.5235987755982988)?;
+    products(&rt)?;
+    chosen(&rt)?;
+    firsts(&rt)
 }

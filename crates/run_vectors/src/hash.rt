@@ -1,16 +1,15 @@
 // Hashes of forces and of a state, field by field. A float goes by its bits.
 use run::dynamics::Force;
+use run::numbers::{CAR_NUMBERS, FORCE_NUMBERS, put_car, put_forces};
 use run::state::{Car, Progress, Run, Setup};
 use vectors::hash;
 use vectors::hash::{mix, mix_all};
 
 // Of four forces.
 pub fn forces(forces: [Force; 4]) -> u64 {
-    let mut h = 1;
-    for f in forces {
-        h = mix_all(h, &[f.motor, f.fx, f.fy]);
-    }
-    h
+    let mut list = [0.0; FORCE_NUMBERS];
+    put_forces(forces, &mut list);
+    hash::column(&list)
 }
 
 fn mix_counts(h: u64, setup: Setup, progress: Progress) -> u64 {
@@ -36,11 +35,9 @@ fn mix_flags(h: u64, setup: Setup, progress: Progress) -> u64 {
 }
 
 fn mix_car(h: u64, car: Car) -> u64 {
-    let mut all = h;
-    for w in car.ctl {
-        all = mix_all(all, &[w.gas, w.brake, w.steer, w.omega, w.phase]);
-    }
-    mix(all, car.fuel_spent)
+    let mut list = [0.0; CAR_NUMBERS];
+    put_car(car, &mut list);
+    mix_all(h, &list)
 }
 
 // Of a state but for its last poses and seed, field by field, in the order of the list's records.

@@ -5,6 +5,9 @@ ghost use Rattle.course.specs.Rules.Lengths.{most_points};
 use course::constants::MOST_POINTS;
 use vectors::record::{Kind, Record, UnknownCode};
 
+// The most bytes of a Restore.
+const MOST_BYTES: usize = 4096;
+
 #[derive(Clone, Copy, Debug, PartialEq, Eq)]
 pub enum Request {
     // number of points, and each point's beta, x and y
@@ -111,7 +114,7 @@ pub fn count(record: Record<'_>) -> usize
 
 // How many bytes a Restore has.
 pub fn byte_count(record: Record<'_>) -> usize
-    ensures { result ≤ 4096 }
+    ensures { result ≤ MOST_BYTES }
 {
-    record.upto(5, 4096)
+    record.upto(5, MOST_BYTES)
 }

@@ -7,14 +7,14 @@ use course::points::{LaidCourse, LayError};
 use run::touch;
 use std::io;
 use std::io::Write;
-use vectors::columns::{Columns, front, front_mut};
+use vectors::columns::{Columns, front};
 use vectors::line;
 use vectors::record::Record;
 
-// Every third word from number k on, one for each point.
+// One number of each of the record's points, from word k on.
 fn given_column(record: Record<'_>, k: usize) -> [f64; MOST_POINTS] {
     let mut col = [0.0; MOST_POINTS];
-    record.fill(k, 3, front_mut(&mut col, kind::count(record) as u64));
+    record.fill_points(k, kind::count(record), &mut col);
     col
 }
 

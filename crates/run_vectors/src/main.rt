@@ -7,8 +7,8 @@
 // ends a block, as the zeros do that fill one up. The course's tiles, offsets and index list, and the state of the
 // run, stand from record to record.
 //
-// After each call that answers with a state, refused or not, comes a hash of the state but for its last poses and seed;
-// after a restore one of the whole state.
+// After each start, drive and settle, refused or not, comes a hash of the state but for its last poses and seed; after a
+// restore one of the whole state that it answers.
 #![tactic(auto)]
 
 mod call;

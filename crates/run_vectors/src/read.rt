@@ -1,4 +1,5 @@
 // What a record says, from its words.
+use course::tiles;
 use run::dynamics::Motion;
 use run::numbers;
 use run::start::Settings;
@@ -7,18 +8,18 @@ use vectors::record::Record;
 
 // The pose from word k on.
 pub fn pose(record: Record<'_>, k: usize) -> Pose {
-    let [x, y, cos, sin]: [f64; 4] = record.floats(k);
+    let [x, y, cos, sin]: [f64; 4] = record.values(k);
     Pose { x, y, cos, sin }
 }
 
 // The four poses from word k on.
 pub fn poses(record: Record<'_>, k: usize) -> [Pose; 4] {
-    numbers::poses_from(&record.floats(k))
+    numbers::poses_from(&record.values(k))
 }
 
 // The four motions from word 2 on.
 pub fn motions(record: Record<'_>) -> [Motion; 4] {
-    numbers::motions_from(&record.floats(2))
+    numbers::motions_from(&record.values(2))
 }
 
 // What start is told, from word 4 on.
@@ -35,9 +36,7 @@ pub fn settings(record: Record<'_>) -> Settings {
 
 // The quad from word k on.
 pub fn quad(record: Record<'_>, k: usize) -> [[f64; 2]; 4] {
-    let mut corners = [[0.0; 2]; 4];
-    record.fill(k, 1, corners.as_flattened_mut());
-    corners
+    tiles::read_quad(&record.values(k))
 }
 
 // A state but for its sets is n, count, tick, tick limit, lap share, the four flags (lap, ended, fallback, driven) as bits of
@@ -66,5 +65,5 @@ pub fn progress(record: Record<'_>) -> Progress {
 
 // What drive changes.
 pub fn car(record: Record<'_>) -> Car {
-    numbers::car_from(&record.floats(7))
+    numbers::car_from(&record.values(7))
 }

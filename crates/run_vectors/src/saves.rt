@@ -8,13 +8,20 @@ use vectors::columns::{Columns, front, front_mut};
 use vectors::line;
 use vectors::record::Record;
 
+// The length of the output that a save is lent a part of: longer than any saved form.
+const OUTPUT: usize = 700;
+
+// What stands in each place of it before a save.
+const UNTOUCHED_BYTE: u8 = 165;
+
 // The record's last poses and seed.
 pub fn put_last(record: Record<'_>, run: &mut Run) {
-    run.poses = record.floats(1);
+    run.poses = record.values(1);
     run.seed = record.word(17);
 }
 
 // A hash of the last poses, and the seed.
+// Kept as two lines by hand: a part of a run, shown here alone, so a type that prints it would be longer.
 pub fn line_last<W: Write>(out: &mut W, run: &Run) -> io::Result<()> {
     line::column(out, &run.poses)?;
     writeln!(out, "{}", run.seed)
@@ -35,7 +42,7 @@ impl fmt::Display for Hex<'_> {
 
 // A save into a part of the output: its length, and as many of the first bytes as are asked for; and a hash of the whole.
 pub fn replay_save<W: Write>(out: &mut W, record: Record<'_>, run: Run) -> io::Result<()> {
-    let mut form = [165u8; 700];
+    let mut form = [UNTOUCHED_BYTE; OUTPUT];
     match save::save(run, front_mut(&mut form, record.word(1))) {
         Ok(length) => writeln!(out, "{length}\n{}", Hex(front(&form, record.word(2))))?,
         Err(cause) => line::refused(out, cause)?,
@@ -44,6 +51,7 @@ pub fn replay_save<W: Write>(out: &mut W, record: Record<'_>, run: Run) -> io::R
 }
 
 // Which course the bytes are of.
+// Kept beside `line::answer`, whose value is on one line: these are two.
 fn line_course<W: Write>(out: &mut W, bytes: &[u8]) -> io::Result<()> {
     match restore::saved_course(bytes) {
         Ok(of) => writeln!(out, "{}\n{}", of.seed, of.n),
@@ -61,12 +69,9 @@ pub fn replay_restore<W: Write>(
     let bytes = record.bytes(6, kind::byte_count(record));
     line_course(out, bytes)?;
     let s = restore::restore(bytes, lent::lend(columns, record), record.low(4));
-    match s.answer {
-        Ok(()) => {
-            writeln!(out, "restored")?;
-            *run = s.run;
-        }
-        Err(cause) => line::refused(out, cause)?,
+    if s.answer.is_ok() {
+        *run = s.run;
     }
+    line::answer(out, s.answer.map(|()| "restored"))?;
     line::hash(out, hash::whole(&s.run))
 }

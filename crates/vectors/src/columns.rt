@@ -15,7 +15,7 @@ pub const UNTOUCHED_ID: u32 = 4000000000;
 
 pub const UNTOUCHED_MARK: u8 = 7;
 
-// The front of a column, as long as a record asks for: the whole column where that is longer.
+// The front of a column, of a length that a record asks for; the whole column where it has no more.
 pub fn front<T>(col: &[T], length: u64) -> &[T]
     ensures { result.now ≡ take length col.now }
 {
@@ -77,7 +77,7 @@ impl Columns {
         self.list.fill(UNTOUCHED_ID);
     }
 
-    // Their fronts of these lengths: the whole of a column where that is shorter.
+    // Their fronts of these lengths, as `front_mut` has them.
     fn fronts(&mut self, lengths: [u64; 7]) -> LentColumns<'_>
         ensures points { (length result.alpha.now ≤ length self.old.alpha.items)
             × (length result.beta.now ≤ length self.old.beta.items) × (length result.x.now ≤ length self.old.x.items)
@@ -107,7 +107,7 @@ impl Columns {
             × (length result.offsets.now ≤ length self.old.offsets.items)
             × (length result.list.now ≤ length self.old.list.items) }
     {
-        self.fronts(record.words(at))
+        self.fronts(record.values(at))
     }
 
     // All of them.

@@ -1,38 +1,56 @@
 // Hashes of columns: 64 bits that depend on each entry and its place.
 
+ghost use Rattle.std.specs.Prelude.{◌≡◌, ℕ};
+ghost use Rattle.std.specs.Float.{binary64};
+ghost use Rattle.std.specs.Float.Ieee.{to_bits};
+ghost use Rattle.std.specs.Int.{from_bool};
+
 use form::eight::Eight;
 
 // What goes into a hash as a word.
 pub trait Hashed: Copy {
-    fn word(self) -> u64;
+    ghost word: { Self → ℕ };
+
+    fn word(self) -> u64
+        ensures { result ≡ word self };
 }
 
 // A float goes by its bits.
 impl Hashed for f64 {
+    ghost word = { to_bits binary64 };
+
     fn word(self) -> u64 {
         self.number_of()
     }
 }
 
 impl Hashed for u64 {
+    ghost word = { λ w. w };
+
     fn word(self) -> u64 {
         self
     }
 }
 
 impl Hashed for u32 {
+    ghost word = { λ w. w };
+
     fn word(self) -> u64 {
         u64::from(self)
     }
 }
 
 impl Hashed for u8 {
+    ghost word = { λ w. w };
+
     fn word(self) -> u64 {
         u64::from(self)
     }
 }
 
 impl Hashed for bool {
+    ghost word = { from_bool };
+
     fn word(self) -> u64 {
         u64::from(self)
     }

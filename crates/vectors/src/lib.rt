@@ -10,7 +10,8 @@
 //
 // What prints a line takes the writer first. Its error, where a write fails, is the answer.
 //
-// Every function here is proved safe and ending. No public function has a `requires`.
+// Every function here is proved safe and ending. No public function has a `requires`. What a function promises beyond that is
+// what the programs' bounds need, and what a word of a record stands for: the rest shows in the stored answers.
 #![tactic(auto)]
 
 pub mod columns;

@@ -27,15 +27,27 @@ impl fmt::Display for Flag {
 }
 
 // By which cause a call was refused.
-pub fn refused<W: Write>(out: &mut W, cause: Cause) -> io::Result<()> {
-    writeln!(out, "refused {}", cause.number())
+pub fn refused<W: Write, E: Numbered>(out: &mut W, error: E) -> io::Result<()> {
+    writeln!(out, "refused {}", error.number())
+}
+
+// What a call answers, on one line, or by which cause it was refused.
+pub fn answer<W: Write, T: Copy + fmt::Display>(
+    out: &mut W,
+    answer: Result<T, Cause>,
+) -> io::Result<()> {
+    match answer {
+        Ok(value) => writeln!(out, "{value}"),
+        Err(cause) => refused(out, cause),
+    }
 }
 
 // By which cause lay or points was refused; at cause 3 with the list length needed.
 pub fn not_laid<W: Write>(out: &mut W, error: LayError) -> io::Result<()> {
+    refused(out, error)?;
     match error {
-        LayError::Short(need) => writeln!(out, "refused 3\n{need}"),
-        LayError::Refused(cause) => refused(out, cause),
+        LayError::Short(need) => writeln!(out, "{need}"),
+        LayError::Refused(_) => Ok(()),
     }
 }
 

@@ -1,9 +1,12 @@
 // A stored list and its records. A list is 64-bit words, the low byte first; a float stands there by its bits. A record
 // is the code of its kind and its arguments, a word each.
-ghost use Rattle.std.specs.Prelude.{◌≡◌, ◌≤◌, length, slice_get, MatchOption};
+ghost use Rattle.std.specs.Prelude.{◌≡◌, ◌≤◌, ◌%◌, ◌^◌, ℕ, length, slice_get, MatchOption, false, nat_eq};
 ghost use Rattle.std.specs.Int.{w64, from_le_bytes};
 ghost use Rattle.std.specs.Iterator.{at_most};
+ghost use Rattle.std.specs.Float.{binary64};
+ghost use Rattle.std.specs.Float.Ieee.{of_bits};
 
+use crate::columns::front_mut;
 use form::eight::Eight;
 use std::marker::PhantomData;
 
@@ -15,9 +18,44 @@ pub const BLOCK: usize = 262144;
 pub struct UnknownCode(pub u64);
 
 // A kind of record, by its code.
+// Kept without a promise of `arguments`: how many they are is a table, and a ghost would be the same table again.
 pub trait Kind: Copy + TryFrom<u64, Error = UnknownCode> {
     // How many words such a record has after its code.
     fn arguments(self, record: Record<'_>) -> usize;
+}
+
+// What a word stands for.
+pub trait Value: Copy {
+    ghost of_word: { ℕ → Self };
+
+    fn of_word(word: u64) -> Self
+        ensures { result ≡ of_word word };
+}
+
+impl Value for u64 {
+    ghost of_word = { λ w. w };
+
+    fn of_word(word: u64) -> u64 {
+        word
+    }
+}
+
+// The float whose bits it is.
+impl Value for f64 {
+    ghost of_word = { of_bits binary64 };
+
+    fn of_word(word: u64) -> f64 {
+        f64::of_number(word)
+    }
+}
+
+// Its low half.
+impl Value for u32 {
+    ghost of_word = { λ w. w % 2 ^ 32 };
+
+    fn of_word(word: u64) -> u32 {
+        (word % (1 << 32)) as u32
+    }
 }
 
 // A list from one of its records on.
@@ -43,17 +81,24 @@ impl<'a> Record<'a> {
     }
 
     // The float whose bits are the word.
-    pub fn float(self, at: usize) -> f64 {
-        f64::of_number(self.word(at))
+    pub fn float(self, at: usize) -> f64
+        ensures { MatchOption (slice_get self.entry.words.now at) (result ≡ of_bits binary64 0) (λ w. result ≡ of_bits binary64 (from_le_bytes w64 w)) }
+    {
+        f64::of_word(self.word(at))
     }
 
     // The low half of the word.
-    pub fn low(self, at: usize) -> u32 {
-        (self.word(at) & 0xffff_ffff) as u32
+    pub fn low(self, at: usize) -> u32
+        ensures { MatchOption (slice_get self.entry.words.now at) (result ≡ 0) (λ w. result ≡ from_le_bytes w64 w % 2 ^ 32) }
+    {
+        u32::of_word(self.word(at))
     }
 
     // The low bit of the word.
-    pub fn flag(self, at: usize) -> bool {
+    // Kept as a remainder: the language has no `bool` of a number.
+    pub fn flag(self, at: usize) -> bool
+        ensures { MatchOption (slice_get self.entry.words.now at) (result ≡ false) (λ w. result ≡ nat_eq (from_le_bytes w64 w % 2) 1) }
+    {
         self.word(at) % 2 == 1
     }
 
@@ -70,33 +115,29 @@ impl<'a> Record<'a> {
         (self.word(at) as usize).min(most)
     }
 
-    // Every `step`-th word from word `from` on, or the float that it is the bits of, into the column.
-    pub fn fill<E: Eight>(self, from: usize, step: usize, col: &mut [E]) {
+    // What every `step`-th word from word `from` on stands for, into the column.
+    fn fill_by<V: Value>(self, from: usize, step: usize, col: &mut [V]) {
         for (i, place) in col.iter_mut().enumerate() {
             let at = i.saturating_mul(step).saturating_add(from);
-            *place = E::of_number(self.word(at));
+            *place = V::of_word(self.word(at));
         }
     }
 
-    // The low halves of the words from word `from` on, into the column.
-    pub fn fill_lows(self, from: usize, col: &mut [u32]) {
-        for (i, place) in col.iter_mut().enumerate() {
-            *place = self.low(i.saturating_add(from));
-        }
+    // What the words from word `from` on stand for, into the column.
+    pub fn fill<V: Value>(self, from: usize, col: &mut [V]) {
+        self.fill_by(from, 1, col);
     }
 
-    // The N words from word `from` on.
-    pub fn words<const N: usize>(self, from: usize) -> [u64; N] {
-        let mut words = [0; N];
-        self.fill(from, 1, &mut words);
-        words
+    // One number of each of so many points, three words to a point, into the front of the column.
+    pub fn fill_points(self, from: usize, count: usize, col: &mut [f64]) {
+        self.fill_by(from, 3, front_mut(col, count as u64));
     }
 
-    // The N floats from word `from` on.
-    pub fn floats<const N: usize>(self, from: usize) -> [f64; N] {
-        let mut numbers = [0.0; N];
-        self.fill(from, 1, &mut numbers);
-        numbers
+    // What the N words from word `from` on stand for.
+    pub fn values<V: Value, const N: usize>(self, from: usize) -> [V; N] {
+        let mut values = [V::of_word(0); N];
+        self.fill(from, &mut values);
+        values
     }
 
     // The n bytes from word `at` on; none where the list ends before them.
