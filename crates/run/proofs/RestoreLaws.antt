@@ -1,7 +1,7 @@
 -- What a restore answers, by its causes and by what was read. Assumes nothing.
 use mathlib.Core.Bool.{true, not, ◌&&◌}
 use mathlib.Core.List.{List, [], ◌∷◌, ◌++◌}
-use mathlib.Core.Path.{◌≡◌, sym, ap, ap₂, ◌∙◌, subst}
+use mathlib.Core.Path.{◌≡◌, sym, ap, ◌∙◌, subst}
 use Prim.Native.Nat.{ℕ, ◌*◌, ◌≤◌, ◌<◌}
 use native.Mathlib.Omega.{arith}
 use Rattle.std.specs.Prelude.{Option, Some, None, Result, Ok, Err}
@@ -63,10 +63,10 @@ car-kept car h =
 
 -- ---- the answer
 -- a run is the restored one: its credited tiles are the saved ones, and its wheels' sets those of the first contact
-pub run-restored : (m : ℕ) (l : Columns) (f : Fields) (s : State) (credited wheels : List ℕ) → s ≡ run_from f credited wheels → credited ≡ f.credited
+pub run-restored : (m : ℕ) (l : Columns) (f : Fields) (s : State) (wheels : List ℕ) → s ≡ run_from f f.credited wheels
     → wheels ≡ (first_contact m l (poses_at f.poses 0)).wheels → s ≡ restored_state m l f
 unfolding restored_state
-run-restored m l f s credited wheels e c w = e ∙ ap₂ (run_from f) c w
+run-restored m l f s wheels e w = e ∙ ap (run_from f f.credited) w
 
 module _ (m most : ℕ) (bs : List ℕ) (l : Columns) (n : ℕ) where
   pub restore-none : None ≡ loaded m most bs → after_restore (Err Cause.Form) (zero_state m) ≡ restore_of m most bs l n

@@ -41,11 +41,11 @@ fn restore_check(f: Fields, columns: Columns<'_>, n: u32) -> Result<Stance, Caus
     Ok(stance)
 }
 
-// The saved run with these sets; so many tiles are credited as the first set has.
-fn run_of(f: Fields, credited: [u64; FULL_WORDS], wheels: [u64; WHEEL_WORDS]) -> Run
-    ensures { view result ≡ run_from (fields_as f) credited wheels }
+// The saved run, whose wheels touch these sets; so many tiles are credited as the saved set has.
+fn run_of(f: Fields, wheels: [u64; WHEEL_WORDS]) -> Run
+    ensures { view result ≡ run_from (fields_as f) f.credited wheels }
 {
-    let count = words::count(&credited);
+    let count = words::count(&f.credited);
     let setup = Setup {
         n: f.n,
         tick_limit: f.limit,
@@ -60,6 +60,7 @@ fn run_of(f: Fields, credited: [u64; FULL_WORDS], wheels: [u64; WHEEL_WORDS]) ->
         driven: false,
     };
     let car = f.car;
+    let credited = f.credited;
     let poses = f.poses;
     Run {
         setup,
@@ -83,7 +84,7 @@ fn restored(bytes: &[u8], columns: Columns<'_>, n: u32) -> Result<Run, Cause>
     let mut scratch = [0u64; FULL_WORDS];
     let mut wheels = [0u64; WHEEL_WORDS];
     contact::full_contact(&stance, columns, n as usize, &mut scratch, &mut wheels);
-    Ok(run_of(f, f.credited, wheels))
+    Ok(run_of(f, wheels))
 }
 
 // The run that was saved, on the lent course, or a cause with the state of zeros.

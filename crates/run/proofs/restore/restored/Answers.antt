@@ -1,6 +1,6 @@
 -- `run::restore::restored` meets its contract. Assumes nothing.
 use lib.Dec.{lit≤}
-use mathlib.Core.Path.{refl, sym, ap, ◌∙◌}
+use mathlib.Core.Path.{sym, ap, ◌∙◌}
 use Rattle.std.specs.Result.{result_ok}
 use Rattle.std.proofs.lemmas.Result.{err_from_is_err_and}
 use Rattle.run.specs.Grader.Widths.{most_tiles, full_words}
@@ -46,5 +46,5 @@ returns c =
     let a = c.args in
     let s = c.in_ok-stance.ensures in
     let touched = ap (λ (x : Contacted). x.wheels) (c.full_contact.ensures ∙ ap (first_contact full_words (lent_columns a.columns)) s.poses) in
-    let made = run-restored full_words (lent_columns a.columns) f (view c.run_of.result) _ _ c.run_of.ensures refl touched in
+    let made = run-restored full_words (lent_columns a.columns) f (view c.run_of.result) _ c.run_of.ensures touched in
     restore-accepted full_words most_tiles a.bytes.now (lent_columns a.columns) a.n (view c.run_of.result) f loaded_at s.passed made
