@@ -12,7 +12,7 @@ use crate::quad::Stance;
 use crate::state::{Answered, Progress, Run, Setup};
 use crate::touch::Columns;
 use crate::widths::{FULL_WORDS, WHEEL_WORDS};
-use crate::{contact, load, numbers, state, words};
+use crate::{contact, load, numbers, words};
 use course::cause::Cause;
 
 // A course's seed and its tile count.
@@ -23,7 +23,7 @@ pub struct SavedFor {
 }
 
 // Where the wheels stand at the last poses, or the first of the causes 12, 2 and 10 that holds of what was saved and of the lent course.
-#[tactic(auto, unfolding(crate::specs::Grader::Restore::restore_check, crate::specs::Grader::State::short_of))]
+#[tactic(auto, unfolding(crate::specs::Grader::Restore::restore_check))]
 fn restore_check(f: Fields, columns: Columns<'_>, n: u32) -> Result<Stance, Cause>
     ensures { StanceOr (restore_check (lent_columns columns.entry) n (Some (fields_as f)))
         (poses_at f.poses 0) result }
@@ -31,7 +31,7 @@ fn restore_check(f: Fields, columns: Columns<'_>, n: u32) -> Result<Stance, Caus
     if n != f.n {
         return Err(Cause::Course);
     }
-    if state::is_short(n, columns.tiles.len(), columns.offsets.len()) {
+    if columns.is_short(n) {
         return Err(Cause::Length);
     }
     let stance = Stance::at(numbers::poses_from(&f.poses));

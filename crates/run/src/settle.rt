@@ -32,7 +32,7 @@ pub struct SettleValues {
 }
 
 // Where the wheels stand, or the first of the causes 4, 5, 6, 2, 8 and 10 that holds.
-#[tactic(auto, unfolding(crate::specs::Grader::Settle::settle_check, crate::specs::Grader::State::short_of, crate::specs::Rules::Arguments::places_ok))]
+#[tactic(auto, unfolding(crate::specs::Grader::Settle::settle_check, crate::specs::Rules::Arguments::places_ok))]
 fn settle_check(
     setup: Setup,
     progress: Progress,
@@ -53,7 +53,7 @@ fn settle_check(
     if setup.tick_limit <= progress.tick {
         return Err(Cause::Limit);
     }
-    if state::is_short(setup.n, columns.tiles.len(), columns.offsets.len()) {
+    if columns.is_short(setup.n) {
         return Err(Cause::Length);
     }
     if !((state::in_range(places.x) & state::in_range(places.y)) & state::poses_ok(places.poses)) {

@@ -41,7 +41,7 @@ pub(crate) fn settings_ok(share: f64, limit: u32) -> bool
 }
 
 // Where the wheels stand, or the first of the causes 1, 2, 8 and 10 that holds.
-#[tactic(auto, unfolding(crate::specs::Grader::Start::start_check, crate::specs::Grader::Start::start_short, crate::specs::Grader::State::short_of))]
+#[tactic(auto, unfolding(crate::specs::Grader::Start::start_check, crate::specs::Grader::Start::start_short))]
 fn start_check(columns: Columns<'_>, settings: Settings) -> Result<Stance, Cause>
     ensures { StanceOr (start_check most_tiles (lent_columns columns.entry) settings)
         settings.poses result }
@@ -50,9 +50,7 @@ fn start_check(columns: Columns<'_>, settings: Settings) -> Result<Stance, Cause
     if !settings_ok(settings.share, settings.limit) {
         return Err(Cause::Settings);
     }
-    if state::is_short(n, columns.tiles.len(), columns.offsets.len())
-        | ((n < 1) | (MOST_TILES < n))
-    {
+    if columns.is_short(n) | ((n < 1) | (MOST_TILES < n)) {
         return Err(Cause::Length);
     }
     if !state::poses_ok(settings.poses) {

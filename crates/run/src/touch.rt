@@ -4,6 +4,7 @@ ghost use Rattle.std.specs.Prelude.{◌≡◌, true, ◌+◌, ◌*◌, ◌≤◌
 ghost use Rattle.std.specs.List.{list_all};
 ghost use Rattle.course.specs.Rules.Tiles.{tile_of};
 ghost use Rattle.run.specs.Rules.Below.{every_of};
+ghost use Rattle.run.specs.Grader.State.{short_of, lent_columns};
 ghost use Rattle.run.specs.Grader.Words.{set_of};
 ghost use Rattle.run.specs.Grader.Touch.{lists, touched_by, sound_cell, sound_poses};
 ghost use Rattle.run.specs.Steps.Touch.{overlaps_tile, Tests, Looked};
@@ -12,7 +13,8 @@ ghost use Rattle.run.specs.Grader.Widths.{full_words, most_tiles};
 use crate::quad::{Sided, Stance};
 use crate::widths::FULL_WORDS;
 use crate::words;
-use course::{index, tiles};
+use course::constants::OFFSET_COUNT;
+use course::{constants, index, tiles};
 
 // A course's columns as a host lends them: the corners of its tiles, and for each cell of the grid which part of the list is its tiles.
 #[derive(Clone, Copy)]
@@ -39,6 +41,16 @@ impl Columns<'_> {
     {
         index::part_ok(self.offsets, self.list, cell)
             && ids_below(index::cell_tiles(self.offsets, self.list, cell), n)
+    }
+
+    // A column lent with a course of n points is short (cause 2).
+    #[tactic(auto, unfolding(crate::specs::Grader::State::short_of, crate::specs::Rules::Arguments::short_columns))]
+    pub fn is_short(self, n: u32) -> bool
+        ensures { result ≡ short_of n (lent_columns self.entry) }
+    {
+        let m = constants::column_length(n as usize);
+        let short = self.tiles.len() < 8 * m;
+        short | (self.offsets.len() < OFFSET_COUNT)
     }
 
     // All cells of the wheels may be looked up: no cause 10. One that is the same as the cell before it needs no look-up of its own.
