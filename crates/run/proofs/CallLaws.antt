@@ -28,6 +28,8 @@ use Rattle.run.specs.declared.start.Settings.{Settings}
 use Rattle.run.specs.Grader.Start.{start_short, start_check, setup_of, first_progress, zero_state, begun, first_contact, started_by, start_at, start_of}
 use Rattle.run.specs.Rules.Pass.{still_car}
 use Rattle.run.specs.Grader.Settle.{settle_check, settled_progress, SettledParts, settled_parts, settled_by, settle_at, settle_parts_of, poses_after, settled_poses, settle_poses_of}
+use Rattle.run.specs.Steps.Answered.{answered_by}
+use Rattle.run.specs.declared.state.Run.{Run}
 use Rattle.run.specs.declared.state.Setup.{Setup}
 use Rattle.run.specs.declared.state.Progress.{Progress}
 use Rattle.run.specs.declared.state.Car.{Car}
@@ -40,6 +42,12 @@ long tiles offsets n most h b m =
     let t = ltb-false tiles (quad_numbers (column_length n)) (or_no (ltb tiles (quad_numbers (column_length n))) (ltb offsets offset_count) h).0 in
     let k = points-fit n (omega (arith, ltb-false most n b, m)) in
     omega (arith, t, k)
+
+-- an answer and the state beside it, as one record of the two
+pub answered : {T B : Type 0} (both : Result T Cause → State → B) (made : Result (T × Run) Cause) {a : Result T Cause} {s : State}
+    → (a ≡ answered_by (λ a s. a) made) × (s ≡ answered_by (λ a s. s) made) → both a s ≡ answered_by both made
+answered both (Ok v) h = ap₂ both h.0 h.1
+answered both (Err e) h = ap₂ both h.0 h.1
 
 -- ---- start
 pub record StartFacts (most : ℕ) (l : Columns) (a : Settings) : Type 0 where
@@ -64,9 +72,9 @@ start-facts most l a m h =
       sound = not-false (sound_poses l.offsets l.list a.n a.poses) s.0;
     }
 
-pub start-refused : (m most : ℕ) (l : Columns) (a : Settings) (k : Cause) (s : State) → Err k ≡ start_check most l a → s ≡ zero_state m → begun (Err k) s ≡ start_of m most l a
+pub start-refused : (m most : ℕ) (l : Columns) (a : Settings) (k : Cause) → Err k ≡ start_check most l a → begun (Err k) (zero_state m) ≡ start_of m most l a
 unfolding start_of start_at
-start-refused m most l a k s e z = ap (begun (Err k)) z ∙ ap (λ (j : Result Unit Cause). start_at m j l a) e
+start-refused m most l a k e = ap (λ (j : Result Unit Cause). start_at m j l a) e
 
 pub start-accepted : (m most : ℕ) (l : Columns) (a : Settings) (c w : List ℕ) (f : ℕ) (z lap : Bool) (p : Progress) (car : Car) (last : List Float) → Ok tt ≡ start_check most l a
     → contacted c w f z ≡ first_contact m l a.poses

@@ -4,7 +4,8 @@ ghost use Rattle.run.specs.Grader.Widths.{full_words, most_tiles};
 ghost use Rattle.run.specs.Grader.State.{view, lent_columns};
 ghost use Rattle.run.specs.Grader.Numbers.{poses_at};
 ghost use Rattle.run.specs.Grader.Restore.{run_from, after_restore, restore_of, saved_course_of, restore_check};
-ghost use Rattle.run.specs.Steps.Load.{fields_as, restored_as};
+ghost use Rattle.run.specs.Steps.Answered.{answered_by};
+ghost use Rattle.run.specs.Steps.Load.{fields_as};
 ghost use Rattle.run.specs.Steps.Stand.{StanceOr};
 
 use crate::load::Fields;
@@ -74,8 +75,8 @@ fn run_of(f: Fields, wheels: [u64; WHEEL_WORDS]) -> Run
 }
 
 // The run that was saved, on the lent course. What the wheels touch at the last poses is found anew; what they would credit there is dropped.
-fn restored(bytes: &[u8], columns: Columns<'_>, n: u32) -> Result<Run, Cause>
-    ensures { restored_as result
+fn restored(bytes: &[u8], columns: Columns<'_>, n: u32) -> Result<((), Run), Cause>
+    ensures { answered_by after_restore result
         ≡ restore_of full_words most_tiles bytes.now
         (lent_columns columns.entry) n }
 {
@@ -84,7 +85,7 @@ fn restored(bytes: &[u8], columns: Columns<'_>, n: u32) -> Result<Run, Cause>
     let mut scratch = [0u64; FULL_WORDS];
     let mut wheels = [0u64; WHEEL_WORDS];
     contact::full_contact(&stance, columns, n as usize, &mut scratch, &mut wheels);
-    Ok(run_of(f, wheels))
+    Ok(((), run_of(f, wheels)))
 }
 
 // The run that was saved, on the lent course, or a cause with the state of zeros.
@@ -93,16 +94,7 @@ pub fn restore(bytes: &[u8], columns: Columns<'_>, n: u32) -> Answered<()>
         ≡ restore_of full_words most_tiles bytes.now
         (lent_columns columns.entry) n }
 {
-    match restored(bytes, columns, n) {
-        Ok(run) => Answered {
-            answer: Ok(()),
-            run,
-        },
-        Err(cause) => Answered {
-            answer: Err(cause),
-            run: Run::default(),
-        },
-    }
+    Answered::from_result(restored(bytes, columns, n))
 }
 
 // The course of the run that was saved.

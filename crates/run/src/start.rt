@@ -4,6 +4,7 @@ ghost use Rattle.run.specs.Grader.Widths.{full_words, most_tiles};
 ghost use Rattle.run.specs.Grader.State.{view, lent_columns};
 ghost use Rattle.run.specs.Grader.Start.{start_check, first_progress, begun, start_of};
 ghost use Rattle.run.specs.Rules.Arguments.{settings_ok};
+ghost use Rattle.run.specs.Steps.Answered.{answered_by};
 ghost use Rattle.run.specs.Steps.Stand.{StanceOr};
 
 use crate::numbers::POSE_NUMBERS;
@@ -75,20 +76,12 @@ fn first_progress(count: u32, lap: bool) -> Progress
     }
 }
 
-// A run on the lent course, or a cause with the state of zeros.
-pub fn start(columns: Columns<'_>, settings: Settings) -> Answered<StartValues>
-    ensures { begun result.answer (view result.run)
+// The first contact on the lent course, and the run that it leaves.
+fn started(columns: Columns<'_>, settings: Settings) -> Result<(StartValues, Run), Cause>
+    ensures { answered_by begun result
         ≡ start_of full_words most_tiles (lent_columns columns.entry) settings }
 {
-    let stance = match start_check(columns, settings) {
-        Ok(stance) => stance,
-        Err(cause) => {
-            return Answered {
-                answer: Err(cause),
-                run: Run::default(),
-            };
-        }
-    };
+    let stance = start_check(columns, settings)?;
     let n = settings.n;
     let mut credited = [0u64; FULL_WORDS];
     let mut wheels = [0u64; WHEEL_WORDS];
@@ -102,23 +95,28 @@ pub fn start(columns: Columns<'_>, settings: Settings) -> Answered<StartValues>
     };
     let progress = first_progress(c.fresh, lap);
     let car = Car::default();
-    let mut last = [0.0; POSE_NUMBERS];
-    numbers::put_poses(settings.poses, &mut last);
+    let mut poses = [0.0; POSE_NUMBERS];
+    numbers::put_poses(settings.poses, &mut poses);
     let run = Run {
         setup,
         progress,
         car,
         credited,
         wheels,
-        poses: last,
+        poses,
         seed: settings.seed,
     };
     let values = StartValues {
         count: c.fresh,
         lap,
     };
-    Answered {
-        answer: Ok(values),
-        run,
-    }
+    Ok((values, run))
+}
+
+// A run on the lent course, or a cause with the state of zeros.
+pub fn start(columns: Columns<'_>, settings: Settings) -> Answered<StartValues>
+    ensures { begun result.answer (view result.run)
+        ≡ start_of full_words most_tiles (lent_columns columns.entry) settings }
+{
+    Answered::from_result(started(columns, settings))
 }
