@@ -1,7 +1,7 @@
 -- A set's tiles word by word: how many there are, and whether all are below n. For sets of any number of words. Assumes nothing.
 use mathlib.Core.Bool.{Bool, true, false, not, ◌&&◌, ◌||◌}
 use mathlib.Core.List.{List, [], ◌∷◌}
-use mathlib.Core.Path.{◌≡◌, refl, sym, ap, ap₂, ◌∙◌, subst}
+use mathlib.Core.Path.{◌≡◌, refl, sym, ap, ap₂, ◌∙◌}
 use mathlib.Mathlib.Data.Bool.Basic.{eq-false_of_not-eq-true}
 use Prim.Native.Nat.{ℕ, zero, suc, ◌+◌, ◌-◌, ◌*◌, ◌/◌, ◌%◌, ◌^◌, ◌≤◌, ◌<◌}
 use native.Mathlib.Nat.{div-eq_of_lt, div-one}
@@ -16,7 +16,6 @@ use lib.Seq.{drop-cons}
 use Rattle.std.specs.List.{sum_by, list_all}
 use lib.Pow.{shr-shr, shr_le}
 use borrow.Author.Tests.{lt-ltb, le-ltb, not-true, eq-eqb, ne_eqb}
-use Rattle.course.proofs.BoolLaws.{and_left, and_right}
 use Rattle.run.specs.Rules.Below.{every_below, how_many}
 use Rattle.run.specs.Grader.Words.{bit_of, member}
 use Rattle.run.specs.Grader.Saved.{all_below}

@@ -5,7 +5,7 @@ use Rattle.run.proofs.PairLaws.{no_pair_yet, one_pair, no_pair}
 use Rattle.std.specs.Int.{div_ceil}
 use Rattle.std.specs.Iterator.Adapters.{enumerate_count}
 use lib.ListN.{length, get_or}
-use Prim.Native.Nat.{ℕ, ◌*◌, ◌^◌, ◌≤◌, ◌<◌}
+use Prim.Native.Nat.{ℕ, ◌*◌, ◌^◌, ◌<◌}
 use mathlib.Core.Path.{◌≡◌, refl, sym}
 use native.Mathlib.Omega.{arith}
 use borrow.Author.Rules.{rules}
