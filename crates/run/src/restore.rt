@@ -11,7 +11,7 @@ ghost use Rattle.run.specs.Steps.Stand.{StanceOr};
 use crate::load::Fields;
 use crate::quad::Stance;
 use crate::state::{Answered, Progress, Run, Setup};
-use crate::touch::Columns;
+use crate::touch::{Columns, Course};
 use crate::widths::{FULL_WORDS, WHEEL_WORDS};
 use crate::{contact, load, numbers, words};
 use course::cause::Cause;
@@ -84,7 +84,11 @@ fn restored(bytes: &[u8], columns: Columns<'_>, n: u32) -> Result<((), Run), Cau
     let stance = restore_check(f, columns, n)?;
     let mut scratch = [0u64; FULL_WORDS];
     let mut wheels = [0u64; WHEEL_WORDS];
-    contact::full_contact(&stance, columns, n as usize, &mut scratch, &mut wheels);
+    let course = Course {
+        columns,
+        n: n as usize,
+    };
+    contact::full_contact(&stance, course, &mut scratch, &mut wheels);
     Ok(((), run_of(f, wheels)))
 }
 

@@ -8,7 +8,7 @@ ghost use Rattle.run.specs.Steps.Stand.{StanceOr};
 use crate::numbers::POSE_NUMBERS;
 use crate::quad::Stance;
 use crate::state::{Pose, Progress, Run, Setup};
-use crate::touch::Columns;
+use crate::touch::{Columns, Course};
 use crate::widths::{FULL_WORDS, WHEEL_WORDS};
 use crate::{contact, lap, numbers, state};
 use course::cause::Cause;
@@ -98,7 +98,11 @@ pub fn settle_parts(
         last.old (lent_columns columns.entry) places.x places.y places.poses }
 {
     let stance = settle_check(setup, *progress, columns, places)?;
-    let c = contact::full_contact(&stance, columns, setup.n as usize, credited, wheels);
+    let course = Course {
+        columns,
+        n: setup.n as usize,
+    };
+    let c = contact::full_contact(&stance, course, credited, wheels);
     let off = lap::is_off(places.x, places.y);
     let next = settled_progress(setup, *progress, c.fresh, c.zero, off);
     *progress = next;

@@ -10,7 +10,7 @@ ghost use Rattle.run.specs.Steps.Stand.{StanceOr};
 use crate::numbers::POSE_NUMBERS;
 use crate::quad::Stance;
 use crate::state::{Answered, Car, Pose, Progress, Run, Setup};
-use crate::touch::Columns;
+use crate::touch::{Columns, Course};
 use crate::widths::{FULL_WORDS, MOST_TILES, WHEEL_WORDS};
 use crate::{contact, lap, numbers, state};
 use course::cause::Cause;
@@ -85,7 +85,11 @@ fn started(columns: Columns<'_>, settings: Settings) -> Result<(StartValues, Run
     let n = settings.n;
     let mut credited = [0u64; FULL_WORDS];
     let mut wheels = [0u64; WHEEL_WORDS];
-    let c = contact::full_contact(&stance, columns, n as usize, &mut credited, &mut wheels);
+    let course = Course {
+        columns,
+        n: n as usize,
+    };
+    let c = contact::full_contact(&stance, course, &mut credited, &mut wheels);
     let lap = lap::update_lap(false, c.zero, c.fresh, n, settings.share);
     let setup = Setup {
         n,

@@ -76,11 +76,12 @@ fn ids_below(ids: &[u32], n: usize) -> bool
     ids.iter().all(|id| (*id as usize) < n)
 }
 
-// A course as a contact has it: its columns, and how many tiles it has. A set has room for these, and all of them are lent.
+// A course as a contact has it: its columns, and how many tiles it has. It has some, a set has room for them, and all of them are lent.
 #[derive(Clone, Copy)]
 pub(crate) struct Course<'a> {
     pub columns: Columns<'a>,
     pub n: usize,
+    ghost some: { 0 < n },
     ghost few: { n ≤ most_tiles },
     ghost lent: { n * 8 ≤ length columns.tiles.now },
 }

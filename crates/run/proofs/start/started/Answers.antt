@@ -3,7 +3,6 @@ use Rattle.run.proofs.CallLaws.{start-facts, start-refused, start-accepted}
 use Rattle.run.proofs.Zeros.{still_car_is}
 use Rattle.run.specs.Grader.Widths.{most_tiles, full_words}
 use Rattle.run.specs.Grader.State.{view, lent_columns}
-use Rattle.run.specs.Grader.Touch.{sound_poses}
 use lib.Dec.{lit≤}
 use Rattle.std.proofs.lemmas.Result.{err_from_is_err_and}
 use mathlib.Core.Path.{ap, ◌∙◌}
@@ -15,12 +14,15 @@ returns-in_err-stance c =
     let p = err_from_is_err_and c.from_residual.result c.from_residual.ensures.1 in
     rw (p.1, p.2) (start-refused full_words most_tiles (lent_columns c.args.columns) c.args.settings _ c.in_err-stance.ensures)
 
+pub invariant_of-course : goal.invariant_of-course
+invariant_of-course c =
+    let h = start-facts most_tiles (lent_columns c.args.columns) c.args.settings (lit≤ tt) c.in_ok-stance.ensures.passed in
+    record { some = h.some; few = h.few; lent = h.lent }
+
 pub full_contact-c-requires : goal.full_contact-c-requires
 full_contact-c-requires c =
-    let a = c.args in
     let s = c.in_ok-stance.ensures in
-    let h = start-facts most_tiles (lent_columns a.columns) a.settings (lit≤ tt) s.passed in
-    (h.some, h.few, h.tiles, ap (sound_poses a.columns.offsets.now a.columns.list.now a.settings.n) s.poses ∙ h.sound)
+    rw s.poses (start-facts most_tiles (lent_columns c.args.columns) c.args.settings (lit≤ tt) s.passed).sound
 
 pub returns : goal.returns
 unfolding view setup_of first_contact
