@@ -1,6 +1,6 @@
 // One step of the walk round the checkpoints (document 01, "Lay": `try_generate`).
 ghost use Rattle.std.specs.Prelude.{◌≡◌, ◌≤◌};
-ghost use Rattle.course.specs.Rules.Trig.{turns_of, sin_cos_of};
+ghost use Rattle.course.specs.Rules.Trig.{turns_of};
 ghost use Rattle.course.specs.Steps.Numbers.{turns_at, sin_cos_as};
 ghost use Rattle.course.specs.Rules.Step.{sight_of, turn_down, turn_up, turn_of, steered, proj_of, landed_of, step_of};
 ghost use Rattle.course.specs.Steps.Lay.{dest_as, walk_as, stepped_as, sight_as, turned_beta};

@@ -28,6 +28,8 @@ use Rattle.run.specs.declared.start.Settings.{Settings}
 use Rattle.run.specs.Grader.Start.{start_short, start_check, setup_of, first_progress, zero_state, begun, first_contact, started_by, start_at, start_of}
 use Rattle.run.specs.Rules.Pass.{still_car}
 use Rattle.run.specs.Grader.Settle.{settle_check, settled_progress, SettledParts, settled_parts, settled_by, settle_at, settle_parts_of, poses_after, settled_poses, settle_poses_of}
+use Rattle.run.specs.Steps.Answered.{answered_by}
+use Rattle.run.specs.declared.state.Run.{Run}
 use Rattle.run.specs.declared.state.Setup.{Setup}
 use Rattle.run.specs.declared.state.Progress.{Progress}
 use Rattle.run.specs.declared.state.Car.{Car}
@@ -41,14 +43,21 @@ long tiles offsets n most h b m =
     let k = points-fit n (omega (arith, ltb-false most n b, m)) in
     omega (arith, t, k)
 
--- ---- start
-pub record StartFacts (most : ℕ) (l : Columns) (a : Settings) : Type 0 where
-  pub some : 0 < a.n
-  pub few : a.n ≤ most
-  pub tiles : a.n * 8 ≤ length l.tiles
-  pub sound : sound_poses l.offsets l.list a.n a.poses ≡ true
+-- an answer and the state beside it, as one record of the two
+pub answered : {T B : Type 0} (both : Result T Cause → State → B) (made : Result (T × Run) Cause) {a : Result T Cause} {s : State}
+    → (a ≡ answered_by (λ a s. a) made) × (s ≡ answered_by (λ a s. s) made) → both a s ≡ answered_by both made
+answered both (Ok v) h = ap₂ both h.0 h.1
+answered both (Err e) h = ap₂ both h.0 h.1
 
-pub start-facts : (most : ℕ) (l : Columns) (a : Settings) → most ≤ most_points → Ok tt ≡ start_check most l a → StartFacts most l a
+-- ---- what a contact wants to know of a course of n tiles and of the wheels' poses
+pub record ContactFacts (most : ℕ) (l : Columns) (n : ℕ) (ps : List Pose) : Type 0 where
+  pub some : 0 < n
+  pub few : n ≤ most
+  pub lent : n * 8 ≤ length l.tiles
+  pub sound : sound_poses l.offsets l.list n ps ≡ true
+
+-- ---- start
+pub start-facts : (most : ℕ) (l : Columns) (a : Settings) → most ≤ most_points → Ok tt ≡ start_check most l a → ContactFacts most l a.n a.poses
 unfolding start_check start_short short_of
 start-facts most l a m h =
     let p = passed (not (settings_ok a.share a.limit)) _ _ (sym h) in
@@ -60,13 +69,13 @@ start-facts most l a m h =
     record {
       some = ltb-false a.n 1 v.0;
       few = ltb-false most a.n v.1;
-      tiles = long (length l.tiles) (length l.offsets) a.n most u.0 v.1 m;
+      lent = long (length l.tiles) (length l.offsets) a.n most u.0 v.1 m;
       sound = not-false (sound_poses l.offsets l.list a.n a.poses) s.0;
     }
 
-pub start-refused : (m most : ℕ) (l : Columns) (a : Settings) (k : Cause) (s : State) → Err k ≡ start_check most l a → s ≡ zero_state m → begun (Err k) s ≡ start_of m most l a
+pub start-refused : (m most : ℕ) (l : Columns) (a : Settings) (k : Cause) → Err k ≡ start_check most l a → begun (Err k) (zero_state m) ≡ start_of m most l a
 unfolding start_of start_at
-start-refused m most l a k s e z = ap (begun (Err k)) z ∙ ap (λ (j : Result Unit Cause). start_at m j l a) e
+start-refused m most l a k e = ap (λ (j : Result Unit Cause). start_at m j l a) e
 
 pub start-accepted : (m most : ℕ) (l : Columns) (a : Settings) (c w : List ℕ) (f : ℕ) (z lap : Bool) (p : Progress) (car : Car) (last : List Float) → Ok tt ≡ start_check most l a
     → contacted c w f z ≡ first_contact m l a.poses
@@ -79,12 +88,9 @@ start-accepted m most l a c w f z lap p car last e h el ep er es =
 
 -- ---- settle
 pub record SettleFacts (most : ℕ) (u : Setup) (p : Progress) (l : Columns) (ps : List Pose) : Type 0 where
-  pub some : 0 < u.n
-  pub few : u.n ≤ most
+  pub contact : ContactFacts most l u.n ps
   pub count : p.visited_count ≤ u.n
   pub time : p.tick < u.tick_limit
-  pub tiles : u.n * 8 ≤ length l.tiles
-  pub sound : sound_poses l.offsets l.list u.n ps ≡ true
 
 pub settle-facts : (most : ℕ) (u : Setup) (p : Progress) (l : Columns) (x y : Float) (ps : List Pose) → most ≤ most_points → Ok tt ≡ settle_check most u p l x y ps → SettleFacts most u p l ps
 unfolding settle_check unfit short_of
@@ -99,12 +105,14 @@ settle-facts most u p l x y ps m h =
     let g = or_no (ltb u.n 1 || ltb most u.n) (ltb u.n p.visited_count) f.0 in
     let k = or_no (ltb u.n 1) (ltb most u.n) g.0 in
     record {
-      some = ltb-false u.n 1 k.0;
-      few = ltb-false most u.n k.1;
+      contact = record {
+        some = ltb-false u.n 1 k.0;
+        few = ltb-false most u.n k.1;
+        lent = long (length l.tiles) (length l.offsets) u.n most d.0 k.1 m;
+        sound = not-false (sound_poses l.offsets l.list u.n ps) v.0;
+      };
       count = ltb-false u.n p.visited_count g.1;
       time = leb-false u.tick_limit p.tick c.0;
-      tiles = long (length l.tiles) (length l.offsets) u.n most d.0 k.1 m;
-      sound = not-false (sound_poses l.offsets l.list u.n ps) v.0;
     }
 
 -- the number of its cause

@@ -1,8 +1,8 @@
 -- What a restore answers, by its causes and by what was read. Assumes nothing.
 use mathlib.Core.Bool.{true, not, ◌&&◌}
 use mathlib.Core.List.{List, [], ◌∷◌, ◌++◌}
-use mathlib.Core.Path.{◌≡◌, sym, ap, ap₂, ◌∙◌, subst}
-use Prim.Native.Nat.{ℕ, ◌*◌, ◌≤◌, ◌<◌}
+use mathlib.Core.Path.{◌≡◌, sym, ap, ◌∙◌, subst}
+use Prim.Native.Nat.{ℕ, ◌≤◌}
 use native.Mathlib.Omega.{arith}
 use Rattle.std.specs.Prelude.{Option, Some, None, Result, Ok, Err}
 use lib.Dec.{leb, eqb}
@@ -22,19 +22,13 @@ use Rattle.run.specs.Grader.Touch.{sound_poses}
 use Rattle.run.specs.Grader.Start.{zero_state, first_contact}
 use Rattle.run.specs.Grader.Saved.{Fields, sound_fields, loaded}
 use Rattle.run.specs.Grader.Restore.{restore_check, run_from, restored_state, after_restore, restore_at, restore_of}
-use Rattle.run.proofs.CallLaws.{long}
+use Rattle.run.proofs.CallLaws.{long, ContactFacts}
 use Rattle.run.proofs.FourItems.{four-items}
 use Rattle.run.proofs.NumberLaws.{numbers-back}
 use Rattle.run.proofs.CheckLaws.{passed}
 
 -- ---- what no cause tells
-pub record RestoreFacts (most : ℕ) (l : Columns) (n : ℕ) (f : Fields) : Type 0 where
-  pub some : 0 < n
-  pub few : n ≤ most
-  pub tiles : n * 8 ≤ length l.tiles
-  pub sound : sound_poses l.offsets l.list n (poses_at f.poses 0) ≡ true
-
-pub restore-facts : (most : ℕ) (l : Columns) (n : ℕ) (f : Fields) → most ≤ most_points → sound_fields most f ≡ true → Ok tt ≡ restore_check l n (Some f) → RestoreFacts most l n f
+pub restore-facts : (most : ℕ) (l : Columns) (n : ℕ) (f : Fields) → most ≤ most_points → sound_fields most f ≡ true → Ok tt ≡ restore_check l n (Some f) → ContactFacts most l n (poses_at f.poses 0)
 unfolding restore_check sound_fields short_of
 restore-facts most l n f m h e =
     let p = passed (not (eqb n f.n)) _ _ (sym e) in
@@ -46,7 +40,7 @@ restore-facts most l n f m h e =
     record {
       some = omega (arith, same, leb-true 1 f.n (and_left (leb 1 f.n) (leb f.n most) range));
       few = few;
-      tiles = long (length l.tiles) (length l.offsets) n most q.0 (le-ltb most n few) m;
+      lent = long (length l.tiles) (length l.offsets) n most q.0 (le-ltb most n few) m;
       sound = not-false (sound_poses l.offsets l.list n (poses_at f.poses 0)) r.0;
     }
 
@@ -63,10 +57,10 @@ car-kept car h =
 
 -- ---- the answer
 -- a run is the restored one: its credited tiles are the saved ones, and its wheels' sets those of the first contact
-pub run-restored : (m : ℕ) (l : Columns) (f : Fields) (s : State) (credited wheels : List ℕ) → s ≡ run_from f credited wheels → credited ≡ f.credited
+pub run-restored : (m : ℕ) (l : Columns) (f : Fields) (s : State) (wheels : List ℕ) → s ≡ run_from f f.credited wheels
     → wheels ≡ (first_contact m l (poses_at f.poses 0)).wheels → s ≡ restored_state m l f
 unfolding restored_state
-run-restored m l f s credited wheels e c w = e ∙ ap₂ (run_from f) c w
+run-restored m l f s wheels e w = e ∙ ap (run_from f f.credited) w
 
 module _ (m most : ℕ) (bs : List ℕ) (l : Columns) (n : ℕ) where
   pub restore-none : None ≡ loaded m most bs → after_restore (Err Cause.Form) (zero_state m) ≡ restore_of m most bs l n

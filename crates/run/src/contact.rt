@@ -1,15 +1,15 @@
 // One contact of four wheels over the lent course (document 01, "Touch"; the Rust's `contact_pass`), in place over a state's
 // sets: first what each wheel touches now, then the credit of what it entered.
-ghost use Rattle.std.specs.Prelude.{◌≡◌, true, not, ◌&&◌, ◌*◌, ◌<◌, ◌≤◌, length};
+ghost use Rattle.std.specs.Prelude.{◌≡◌, true, not, ◌&&◌, length};
 ghost use Rattle.run.specs.Grader.Words.{member};
 ghost use Rattle.run.specs.Rules.Wheel.{quad_of};
 ghost use Rattle.run.specs.Steps.Touch.{Creditable, AllCreditable, credits, credits_of, entered_since};
 ghost use Rattle.run.specs.Grader.Touch.{touched_by, sound_poses};
 ghost use Rattle.run.specs.Grader.Contact.{wheel_sets, contacted, contact_of};
-ghost use Rattle.run.specs.Grader.Widths.{full_words, most_tiles};
+ghost use Rattle.run.specs.Grader.Widths.{full_words};
 
 use crate::quad::Stance;
-use crate::touch::{Columns, Course};
+use crate::touch::Course;
 use crate::widths::{FULL_WORDS, WHEEL_WORDS};
 use crate::{quad, touch, words};
 
@@ -73,21 +73,17 @@ fn credit_sets(credited: &mut [u64], before: &[u64], wheels: &[u64], n: usize) -
 // The contact of four wheels on the full state's sets, by the cells of the wheels' boxes.
 pub(crate) fn full_contact(
     stance: &Stance,
-    columns: Columns,
-    n: usize,
+    course: Course,
     credited: &mut [u64; FULL_WORDS],
     wheels: &mut [u64; WHEEL_WORDS],
 ) -> Contact
-    requires { (0 < n)
-        × (n ≤ most_tiles)
-        × (n * 8 ≤ length columns.tiles.now)
-        × (sound_poses columns.offsets.now columns.list.now n stance.now.poses ≡ true) }
+    requires { sound_poses course.columns.offsets.now course.columns.list.now course.n stance.now.poses ≡ true }
     ensures { contacted credited.new wheels.new result.fresh result.zero
         ≡ contact_of full_words credited.old wheels.old
-        (λ w. touched_by columns.entry.tiles.now columns.entry.offsets.now columns.entry.list.now
-        (quad_of stance.now.poses w)) }
+        (λ w. touched_by course.entry.columns.tiles.now course.entry.columns.offsets.now
+        course.entry.columns.list.now (quad_of stance.now.poses w)) }
 {
     let before = *wheels;
-    touch_sets(stance, Course { columns, n }, wheels);
-    credit_sets(credited, &before, wheels, n)
+    touch_sets(stance, course, wheels);
+    credit_sets(credited, &before, wheels, course.n)
 }

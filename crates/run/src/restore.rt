@@ -4,15 +4,16 @@ ghost use Rattle.run.specs.Grader.Widths.{full_words, most_tiles};
 ghost use Rattle.run.specs.Grader.State.{view, lent_columns};
 ghost use Rattle.run.specs.Grader.Numbers.{poses_at};
 ghost use Rattle.run.specs.Grader.Restore.{run_from, after_restore, restore_of, saved_course_of, restore_check};
-ghost use Rattle.run.specs.Steps.Load.{fields_as, restored_as};
+ghost use Rattle.run.specs.Steps.Answered.{answered_by};
+ghost use Rattle.run.specs.Steps.Load.{fields_as};
 ghost use Rattle.run.specs.Steps.Stand.{StanceOr};
 
 use crate::load::SavedRun;
 use crate::quad::Stance;
 use crate::state::{Answered, Progress, Run, Setup};
-use crate::touch::Columns;
+use crate::touch::{Columns, Course};
 use crate::widths::{FULL_WORDS, WHEEL_WORDS};
-use crate::{contact, load, numbers, state, words};
+use crate::{contact, load, numbers, words};
 use course::cause::Cause;
 
 // A course's seed and its tile count.
@@ -23,7 +24,7 @@ pub struct SavedFor {
 }
 
 // Where the wheels stand at the last poses, or the first of the causes 12, 2 and 10 that holds of what was saved and of the lent course.
-#[tactic(auto, unfolding(crate::specs::Grader::Restore::restore_check, crate::specs::Grader::State::short_of))]
+#[tactic(auto, unfolding(crate::specs::Grader::Restore::restore_check))]
 fn restore_check(f: SavedRun, columns: Columns<'_>, n: u32) -> Result<Stance, Cause>
     ensures { StanceOr (restore_check (lent_columns columns.entry) n (Some (fields_as f)))
         (poses_at f.poses 0) result }
@@ -31,7 +32,7 @@ fn restore_check(f: SavedRun, columns: Columns<'_>, n: u32) -> Result<Stance, Ca
     if n != f.n {
         return Err(Cause::Course);
     }
-    if state::is_short(n, columns.tiles.len(), columns.offsets.len()) {
+    if columns.is_short(n) {
         return Err(Cause::Length);
     }
     let stance = Stance::at(numbers::poses_from(&f.poses));
@@ -41,11 +42,11 @@ fn restore_check(f: SavedRun, columns: Columns<'_>, n: u32) -> Result<Stance, Ca
     Ok(stance)
 }
 
-// The saved run with these sets; so many tiles are credited as the first set has.
-fn run_of(f: SavedRun, credited: [u64; FULL_WORDS], wheels: [u64; WHEEL_WORDS]) -> Run
-    ensures { view result ≡ run_from (fields_as f) credited wheels }
+// The saved run, whose wheels touch these sets; so many tiles are credited as the saved set has.
+fn run_of(f: SavedRun, wheels: [u64; WHEEL_WORDS]) -> Run
+    ensures { view result ≡ run_from (fields_as f) f.credited wheels }
 {
-    let count = words::count(&credited);
+    let count = words::count(&f.credited);
     let setup = Setup {
         n: f.n,
         tick_limit: f.limit,
@@ -60,6 +61,7 @@ fn run_of(f: SavedRun, credited: [u64; FULL_WORDS], wheels: [u64; WHEEL_WORDS]) 
         driven: false,
     };
     let car = f.car;
+    let credited = f.credited;
     let poses = f.poses;
     Run {
         setup,
@@ -73,8 +75,8 @@ fn run_of(f: SavedRun, credited: [u64; FULL_WORDS], wheels: [u64; WHEEL_WORDS]) 
 }
 
 // The run that was saved, on the lent course. What the wheels touch at the last poses is found anew; what they would credit there is dropped.
-fn restored(bytes: &[u8], columns: Columns<'_>, n: u32) -> Result<Run, Cause>
-    ensures { restored_as result
+fn restored(bytes: &[u8], columns: Columns<'_>, n: u32) -> Result<((), Run), Cause>
+    ensures { answered_by after_restore result
         ≡ restore_of full_words most_tiles bytes.now
         (lent_columns columns.entry) n }
 {
@@ -82,8 +84,12 @@ fn restored(bytes: &[u8], columns: Columns<'_>, n: u32) -> Result<Run, Cause>
     let stance = restore_check(f, columns, n)?;
     let mut scratch = [0u64; FULL_WORDS];
     let mut wheels = [0u64; WHEEL_WORDS];
-    contact::full_contact(&stance, columns, n as usize, &mut scratch, &mut wheels);
-    Ok(run_of(f, f.credited, wheels))
+    let course = Course {
+        columns,
+        n: n as usize,
+    };
+    contact::full_contact(&stance, course, &mut scratch, &mut wheels);
+    Ok(((), run_of(f, wheels)))
 }
 
 // The run that was saved, on the lent course, or a cause with the state of zeros.
@@ -92,16 +98,7 @@ pub fn restore(bytes: &[u8], columns: Columns<'_>, n: u32) -> Answered<()>
         ≡ restore_of full_words most_tiles bytes.now
         (lent_columns columns.entry) n }
 {
-    match restored(bytes, columns, n) {
-        Ok(run) => Answered {
-            answer: Ok(()),
-            run,
-        },
-        Err(cause) => Answered {
-            answer: Err(cause),
-            run: Run::default(),
-        },
-    }
+    Answered::from_result(restored(bytes, columns, n))
 }
 
 // The course of the run that was saved.

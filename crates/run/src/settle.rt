@@ -8,7 +8,7 @@ ghost use Rattle.run.specs.Steps.Stand.{StanceOr};
 use crate::numbers::POSE_NUMBERS;
 use crate::quad::Stance;
 use crate::state::{Pose, Progress, Run, Setup};
-use crate::touch::Columns;
+use crate::touch::{Columns, Course};
 use crate::widths::{FULL_WORDS, WHEEL_WORDS};
 use crate::{contact, lap, numbers, state};
 use course::cause::Cause;
@@ -32,7 +32,7 @@ pub struct SettleValues {
 }
 
 // Where the wheels stand, or the first of the causes 4, 5, 6, 2, 8 and 10 that holds.
-#[tactic(auto, unfolding(crate::specs::Grader::Settle::settle_check, crate::specs::Grader::State::short_of, crate::specs::Rules::Arguments::places_ok))]
+#[tactic(auto, unfolding(crate::specs::Grader::Settle::settle_check, crate::specs::Rules::Arguments::places_ok))]
 fn settle_check(
     setup: Setup,
     progress: Progress,
@@ -53,7 +53,7 @@ fn settle_check(
     if setup.tick_limit <= progress.tick {
         return Err(Cause::Limit);
     }
-    if state::is_short(setup.n, columns.tiles.len(), columns.offsets.len()) {
+    if columns.is_short(setup.n) {
         return Err(Cause::Length);
     }
     if !((state::in_range(places.x) & state::in_range(places.y)) & state::poses_ok(places.poses)) {
@@ -98,7 +98,11 @@ pub fn settle_parts(
         last.old (lent_columns columns.entry) places.x places.y places.poses }
 {
     let stance = settle_check(setup, *progress, columns, places)?;
-    let c = contact::full_contact(&stance, columns, setup.n as usize, credited, wheels);
+    let course = Course {
+        columns,
+        n: setup.n as usize,
+    };
+    let c = contact::full_contact(&stance, course, credited, wheels);
     let off = lap::is_off(places.x, places.y);
     let next = settled_progress(setup, *progress, c.fresh, c.zero, off);
     *progress = next;

@@ -4,12 +4,13 @@ ghost use Rattle.run.specs.Grader.Widths.{full_words, most_tiles};
 ghost use Rattle.run.specs.Grader.State.{view, lent_columns};
 ghost use Rattle.run.specs.Grader.Start.{start_check, first_progress, begun, start_of};
 ghost use Rattle.run.specs.Rules.Arguments.{settings_ok};
+ghost use Rattle.run.specs.Steps.Answered.{answered_by};
 ghost use Rattle.run.specs.Steps.Stand.{StanceOr};
 
 use crate::numbers::POSE_NUMBERS;
 use crate::quad::Stance;
 use crate::state::{Answered, Car, Pose, Progress, Run, Setup};
-use crate::touch::Columns;
+use crate::touch::{Columns, Course};
 use crate::widths::{FULL_WORDS, MOST_TILES, WHEEL_WORDS};
 use crate::{contact, lap, numbers, state};
 use course::cause::Cause;
@@ -41,7 +42,7 @@ pub(crate) fn settings_ok(share: f64, limit: u32) -> bool
 }
 
 // Where the wheels stand, or the first of the causes 1, 2, 8 and 10 that holds.
-#[tactic(auto, unfolding(crate::specs::Grader::Start::start_check, crate::specs::Grader::Start::start_short, crate::specs::Grader::State::short_of))]
+#[tactic(auto, unfolding(crate::specs::Grader::Start::start_check, crate::specs::Grader::Start::start_short))]
 fn start_check(columns: Columns<'_>, settings: Settings) -> Result<Stance, Cause>
     ensures { StanceOr (start_check most_tiles (lent_columns columns.entry) settings)
         settings.poses result }
@@ -50,9 +51,7 @@ fn start_check(columns: Columns<'_>, settings: Settings) -> Result<Stance, Cause
     if !settings_ok(settings.share, settings.limit) {
         return Err(Cause::Settings);
     }
-    if state::is_short(n, columns.tiles.len(), columns.offsets.len())
-        | ((n < 1) | (MOST_TILES < n))
-    {
+    if columns.is_short(n) | ((n < 1) | (MOST_TILES < n)) {
         return Err(Cause::Length);
     }
     if !state::poses_ok(settings.poses) {
@@ -77,24 +76,20 @@ fn first_progress(count: u32, lap: bool) -> Progress
     }
 }
 
-// A run on the lent course, or a cause with the state of zeros.
-pub fn start(columns: Columns<'_>, settings: Settings) -> Answered<StartValues>
-    ensures { begun result.answer (view result.run)
+// The first contact on the lent course, and the run that it leaves.
+fn started(columns: Columns<'_>, settings: Settings) -> Result<(StartValues, Run), Cause>
+    ensures { answered_by begun result
         ≡ start_of full_words most_tiles (lent_columns columns.entry) settings }
 {
-    let stance = match start_check(columns, settings) {
-        Ok(stance) => stance,
-        Err(cause) => {
-            return Answered {
-                answer: Err(cause),
-                run: Run::default(),
-            };
-        }
-    };
+    let stance = start_check(columns, settings)?;
     let n = settings.n;
     let mut credited = [0u64; FULL_WORDS];
     let mut wheels = [0u64; WHEEL_WORDS];
-    let c = contact::full_contact(&stance, columns, n as usize, &mut credited, &mut wheels);
+    let course = Course {
+        columns,
+        n: n as usize,
+    };
+    let c = contact::full_contact(&stance, course, &mut credited, &mut wheels);
     let lap = lap::update_lap(false, c.zero, c.fresh, n, settings.share);
     let setup = Setup {
         n,
@@ -104,23 +99,28 @@ pub fn start(columns: Columns<'_>, settings: Settings) -> Answered<StartValues>
     };
     let progress = first_progress(c.fresh, lap);
     let car = Car::default();
-    let mut last = [0.0; POSE_NUMBERS];
-    numbers::put_poses(settings.poses, &mut last);
+    let mut poses = [0.0; POSE_NUMBERS];
+    numbers::put_poses(settings.poses, &mut poses);
     let run = Run {
         setup,
         progress,
         car,
         credited,
         wheels,
-        poses: last,
+        poses,
         seed: settings.seed,
     };
     let values = StartValues {
         count: c.fresh,
         lap,
     };
-    Answered {
-        answer: Ok(values),
-        run,
-    }
+    Ok((values, run))
+}
+
+// A run on the lent course, or a cause with the state of zeros.
+pub fn start(columns: Columns<'_>, settings: Settings) -> Answered<StartValues>
+    ensures { begun result.answer (view result.run)
+        ≡ start_of full_words most_tiles (lent_columns columns.entry) settings }
+{
+    Answered::from_result(started(columns, settings))
 }

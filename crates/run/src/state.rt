@@ -4,13 +4,13 @@ ghost use Rattle.std.specs.Prelude.{◌≡◌};
 ghost use Rattle.run.specs.Grader.Widths.{full_words, most_tiles};
 ghost use Rattle.run.specs.Grader.State.{unfit, view};
 ghost use Rattle.run.specs.Grader.Start.{zero_state};
-ghost use Rattle.run.specs.Rules.Arguments.{in_range, pose_ok, poses_ok, short_columns};
+ghost use Rattle.run.specs.Steps.Answered.{answered_by};
+ghost use Rattle.run.specs.Rules.Arguments.{in_range, pose_ok, poses_ok};
 
 use crate::numbers::POSE_NUMBERS;
 use crate::widths::{FULL_WORDS, MOST_TILES, WHEEL_WORDS};
 use course::cause::Cause;
-use course::constants::OFFSET_COUNT;
-use course::{constants, numeric};
+use course::numeric;
 
 // A wheel's control record: what it keeps from drive to drive.
 #[repr(C)]
@@ -109,6 +109,25 @@ pub struct Answered<T> {
     pub run: Run,
 }
 
+impl<T> Answered<T> {
+    // What a call made, or its cause with the state of zeros.
+    pub(crate) fn from_result(made: Result<(T, Run), Cause>) -> Answered<T>
+        ensures { (result.answer ≡ answered_by (λ a s. a) made)
+            × (view result.run ≡ answered_by (λ a s. s) made) }
+    {
+        match made {
+            Ok((values, run)) => Answered {
+                answer: Ok(values),
+                run,
+            },
+            Err(cause) => Answered {
+                answer: Err(cause),
+                run: Run::default(),
+            },
+        }
+    }
+}
+
 // Finite and within a million of 0 (cause 8).
 #[tactic(auto, unfolding(crate::specs::Rules::Arguments::in_range), using(crate::proofs::Literals::million))]
 pub fn in_range(x: f64) -> bool
@@ -131,16 +150,6 @@ pub fn poses_ok(p: [Pose; 4]) -> bool
     ensures { result ≡ poses_ok p }
 {
     p.iter().all(|pose| pose_ok(*pose))
-}
-
-// A column lent with a course of n points is short, by the lengths of tiles and offsets (cause 2).
-#[tactic(auto, unfolding(crate::specs::Rules::Arguments::short_columns))]
-pub fn is_short(n: u32, tiles: usize, offsets: usize) -> bool
-    ensures { result ≡ short_columns n tiles offsets }
-{
-    let m = constants::column_length(n as usize);
-    let short = tiles < 8 * m;
-    short | (offsets < OFFSET_COUNT)
 }
 
 // Cause 4 but for its ended part: the sheet's whole cause.

@@ -4,6 +4,7 @@ ghost use Rattle.std.specs.Prelude.{◌≡◌, true, ◌+◌, ◌*◌, ◌≤◌
 ghost use Rattle.std.specs.List.{list_all};
 ghost use Rattle.course.specs.Rules.Tiles.{tile_of};
 ghost use Rattle.run.specs.Rules.Below.{every_of};
+ghost use Rattle.run.specs.Grader.State.{short_of, lent_columns};
 ghost use Rattle.run.specs.Grader.Words.{set_of};
 ghost use Rattle.run.specs.Grader.Touch.{lists, touched_by, sound_cell, sound_poses};
 ghost use Rattle.run.specs.Steps.Touch.{overlaps_tile, Tests, Looked};
@@ -12,7 +13,8 @@ ghost use Rattle.run.specs.Grader.Widths.{full_words, most_tiles};
 use crate::quad::{Sided, Stance};
 use crate::widths::FULL_WORDS;
 use crate::words;
-use course::{index, tiles};
+use course::constants::OFFSET_COUNT;
+use course::{constants, index, tiles};
 
 // A course's columns as a host lends them: the corners of its tiles, and for each cell of the grid which part of the list is its tiles.
 #[derive(Clone, Copy)]
@@ -41,6 +43,16 @@ impl Columns<'_> {
             && ids_below(index::cell_tiles(self.offsets, self.list, cell), n)
     }
 
+    // A column lent with a course of n points is short (cause 2).
+    #[tactic(auto, unfolding(crate::specs::Grader::State::short_of, crate::specs::Rules::Arguments::short_columns))]
+    pub fn is_short(self, n: u32) -> bool
+        ensures { result ≡ short_of n (lent_columns self.entry) }
+    {
+        let m = constants::column_length(n as usize);
+        let short = self.tiles.len() < 8 * m;
+        short | (self.offsets.len() < OFFSET_COUNT)
+    }
+
     // All cells of the wheels may be looked up: no cause 10. One that is the same as the cell before it needs no look-up of its own.
     pub(crate) fn stance_sound(self, n: usize, stance: &Stance) -> bool
         ensures { result
@@ -64,11 +76,12 @@ fn ids_below(ids: &[u32], n: usize) -> bool
     ids.iter().all(|id| (*id as usize) < n)
 }
 
-// A course as a contact has it: its columns, and how many tiles it has. A set has room for these, and all of them are lent.
+// A course as a contact has it: its columns, and how many tiles it has. It has some, a set has room for them, and all of them are lent.
 #[derive(Clone, Copy)]
 pub(crate) struct Course<'a> {
     pub columns: Columns<'a>,
     pub n: usize,
+    ghost some: { 0 < n },
     ghost few: { n ≤ most_tiles },
     ghost lent: { n * 8 ≤ length columns.tiles.now },
 }

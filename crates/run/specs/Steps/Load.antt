@@ -1,15 +1,10 @@
 -- Document 02, orders 1 and 3: what was read of a save, as the private functions of `load` and `restore` keep it. Assumes nothing.
-use Rattle.std.specs.Prelude.{cond, List, ℕ, take, Option, Some, None, Result, Ok, Err}
-use Rattle.course.specs.declared.cause.Cause.{Cause}
+use Rattle.std.specs.Prelude.{cond, List, ℕ, take, Option, Some, None}
 use Rattle.form.specs.Rules.Bytes.{number}
 use Rattle.form.specs.Rules.Form.{cut}
 use Rattle.run.specs.Grader.Widths.{full_words}
 use Rattle.run.specs.Grader.Numbers.{control_count, car_numbers}
-use Rattle.run.specs.Grader.State.{view}
-use Rattle.run.specs.Grader.Start.{zero_state}
 use Rattle.run.specs.Grader.Saved.{Fields, field_bytes, field_at, seed_from, seeds_ok}
-use Rattle.run.specs.Grader.Restore.{AfterRestore, after_restore}
-use Rattle.run.specs.declared.state.Run.{Run}
 use Rattle.run.specs.declared.saved.SeedParts.{SeedParts}
 use Rattle.run.specs.declared.load.SavedRun.{SavedRun}
 
@@ -42,8 +37,3 @@ fields_as f =
       poses = f.poses;
       n = f.n;
     }
-
--- a restored run, or a cause with the state of zeros
-abbrev pub restored_as : Result Run Cause → AfterRestore
-restored_as (Ok run) = after_restore (Ok tt) (view run)
-restored_as (Err k) = after_restore (Err k) (zero_state full_words)

@@ -1,11 +1,6 @@
 -- `run::contact::credit_sets` meets its contract. Assumes nothing.
-use Rattle.run.specs.Steps.Touch.{credits, credits_of}
-use Rattle.run.specs.Grader.Words.{member}
-use Rattle.run.proofs.ContactLaws.{Parts, Credited, next-parts, no-parts, no-credit, own-credit, one-credit, few-new, credited-long, four-credits}
+use Rattle.run.proofs.ContactLaws.{next-parts, no-parts, no-credit, own-credit, one-credit, few-new, credited-long, four-credits}
 use Rattle.std.proofs.lemmas.List.{length_push}
-use lib.ListN.{length}
-use mathlib.Core.Bool.{not, ◌&&◌}
-use mathlib.Core.Path.{◌≡◌, sym, subst}
 use native.Mathlib.Omega.{arith}
 use borrow.Author.Rules.{rules}
 use Rattle.run.proofs.contact.credit_sets.Goals as goal

@@ -10,13 +10,13 @@ use borrow.Author.Rules.{rules}
 use Rattle.run.proofs.contact.full_contact.Goals as goal
 
 pub touch_sets-requires : goal.touch_sets-requires
-touch_sets-requires c = c.requires.3
+touch_sets-requires c = c.requires
 
 pub credit_sets-requires : goal.credit_sets-requires
 credit_sets-requires c =
     let e : length c.args.credited.now ≡ full_words = search rules in
     let w : length c.args.wheels.now ≡ 4 * full_words = search rules in
-    touched-creditable full_words _ c.args.n _ _ _ _ _ _ c.touch_sets.ensures e w (lit< tt) c.requires.0 (omega (arith, c.requires.1)) c.requires.3
+    touched-creditable full_words _ c.args.course.n _ _ _ _ _ _ c.touch_sets.ensures e w (lit< tt) c.args.course.some (omega (arith, c.args.course.few)) c.requires
 
 pub returns : goal.returns
 returns c =

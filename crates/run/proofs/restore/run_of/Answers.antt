@@ -18,7 +18,7 @@ returns c =
     search rules
     in
     let f = fields_as c.args.f in
-    let credited = c.args.credited in
+    let credited = f.credited in
     let wheels = c.args.wheels in
     let count : c.count-count.result ≡ bit_count credited = c.count-count.ensures in
     let car : c.args.f.car ≡ car_from (f.controls ++ (f.fuel ∷ [])) = car-kept c.args.f.car four in

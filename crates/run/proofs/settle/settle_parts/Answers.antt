@@ -1,10 +1,9 @@
 -- `run::settle::settle_parts` meets its contract. Assumes nothing.
-use mathlib.Core.Path.{ap, sym, ◌∙◌}
+use mathlib.Core.Path.{sym}
 use native.Mathlib.Omega.{arith}
 use lib.Dec.{lit≤}
 use Rattle.std.proofs.lemmas.Result.{err_from_is_err_and}
 use Rattle.run.specs.Grader.State.{lent_columns}
-use Rattle.run.specs.Grader.Touch.{sound_poses}
 use Rattle.run.specs.Grader.Widths.{full_words, most_tiles}
 use Rattle.run.proofs.CallLaws.{settle-facts, settle-refused, settle-accepted, contact-few}
 use Rattle.run.proofs.settle.settle_parts.Goals as goal
@@ -14,18 +13,21 @@ returns-in_err-stance c =
     let p = err_from_is_err_and c.from_residual.result c.from_residual.ensures.1 in
     rw (p.1, p.2) (settle-refused full_words most_tiles _ _ _ _ _ c.in_err-stance.ensures)
 
+pub invariant_of-course : goal.invariant_of-course
+invariant_of-course c =
+    let h = (settle-facts most_tiles _ _ _ _ _ _ (lit≤ tt) c.in_ok-stance.ensures.passed).contact in
+    record { some = h.some; few = h.few; lent = h.lent }
+
 pub full_contact-c-requires : goal.full_contact-c-requires
 full_contact-c-requires c =
-    let a = c.args in
     let s = c.in_ok-stance.ensures in
-    let h = settle-facts most_tiles a.setup a.progress.now (lent_columns a.columns) a.places.x a.places.y a.places.poses (lit≤ tt) s.passed in
-    (h.some, h.few, h.tiles, ap (sound_poses a.columns.offsets.now a.columns.list.now a.setup.n) s.poses ∙ h.sound)
+    rw s.poses (settle-facts most_tiles _ _ _ _ _ _ (lit≤ tt) s.passed).contact.sound
 
 pub settled_progress-next-requires : goal.settled_progress-next-requires
 settled_progress-next-requires c =
     let a = c.args in
     let h = settle-facts most_tiles a.setup a.progress.now (lent_columns a.columns) a.places.x a.places.y a.places.poses (lit≤ tt) c.in_ok-stance.ensures.passed in
-    (omega (arith, h.few, h.count, contact-few full_words _ _ _ c.full_contact-c.ensures), h.time)
+    (omega (arith, h.contact.few, h.count, contact-few full_words _ _ _ c.full_contact-c.ensures), h.time)
 
 pub returns : goal.returns
 returns c =

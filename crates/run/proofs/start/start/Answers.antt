@@ -1,29 +1,8 @@
 -- `run::start::start` meets its contract. Assumes nothing.
-use Rattle.run.proofs.CallLaws.{start-facts, start-refused, start-accepted}
-use Rattle.run.proofs.Zeros.{still_car_is}
-use Rattle.run.specs.Grader.Widths.{most_tiles, full_words}
-use Rattle.run.specs.Grader.State.{view, lent_columns}
-use Rattle.run.specs.Grader.Touch.{sound_poses}
-use lib.Dec.{lit≤}
-use mathlib.Core.Path.{ap, ◌∙◌}
-use Rattle.run.specs.Grader.Start.{setup_of, first_contact}
+use mathlib.Core.Path.{◌∙◌}
+use Rattle.run.specs.Grader.Start.{begun}
+use Rattle.run.proofs.CallLaws.{answered}
 use Rattle.run.proofs.start.start.Goals as goal
 
-pub returns-in-Err : goal.returns-in-Err
-returns-in-Err c = start-refused full_words most_tiles (lent_columns c.args.columns) c.args.settings _ _ c.in-Err.ensures c.default.ensures
-
-pub full_contact-c-requires : goal.full_contact-c-requires
-full_contact-c-requires c =
-    let a = c.args in
-    let s = c.in-Ok.ensures in
-    let h = start-facts most_tiles (lent_columns a.columns) a.settings (lit≤ tt) s.passed in
-    (h.some, h.few, h.tiles, ap (sound_poses a.columns.offsets.now a.columns.list.now a.settings.n) s.poses ∙ h.sound)
-
 pub returns : goal.returns
-unfolding view setup_of first_contact
-returns c =
-    let s = c.in-Ok.ensures in
-    let t = c.full_contact-c in
-    let l = lent_columns c.args.columns in
-    start-accepted full_words most_tiles l c.args.settings _ _ t.result.fresh t.result.zero c.update_lap-lap.result c.first_progress-progress.result
-    c.default-car.result _ s.passed (t.ensures ∙ ap (first_contact full_words l) s.poses) c.update_lap-lap.ensures c.first_progress-progress.ensures (still_car_is c.default-car.ensures) c.put_poses.ensures
+returns c = answered begun c.started.result c.from_result.ensures ∙ c.started.ensures
