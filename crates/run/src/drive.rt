@@ -12,12 +12,13 @@ ghost use Rattle.run.specs.Rules.Pass.{steer_of, gas_of, brake_of, front_of, rea
 ghost use Rattle.run.specs.Grader.Drive.{drive_check, drove_parts, drive_parts_of, driven, drive_of};
 ghost use Rattle.run.specs.Steps.Drive.{wheel_as, stands, action_number, numbered, told};
 
-use crate::dynamics::{Force, Motion, Turned};
+use crate::dynamics::{Force, Motion, Turned, TyreForce};
 use crate::state::{Car, Progress, Run, Setup, WheelCtl};
 use crate::widths::{FULL_WORDS, WHEEL_WORDS};
 use crate::{dynamics, state};
 use course::cause::Cause;
 use course::numeric;
+use std::array;
 
 // What the tyre pass leaves.
 #[derive(Clone, Copy)]
@@ -115,32 +116,24 @@ fn rear(w: WheelCtl, action: Action) -> WheelCtl
 
 // The tyre pass over the four wheels, the fuel going from one to the next. What pushes at the tyres is worked out for all of them
 // before any is cut: a root takes long, and so the wheels' roots do not wait for each other.
-// Kept wheel by wheel: the pass in straight lines is a form that the requirement names, so that the roots are under way at once.
 #[tactic(auto, unfolding(crate::specs::Rules::Pass::gathered_of), using(crate::proofs::DriveLaws::wheel_passed, crate::proofs::DriveLaws::pass_from))]
 fn pass(car: Car, action: Action, motion: [Motion; 4], roads: [bool; 4]) -> Passed
     ensures { tyres_passed result.car result.forces ≡ pass_of car (action_number action) motion roads }
 {
-    let ctl = car.ctl;
-    let w0 = front(ctl[0], action);
-    let w1 = front(ctl[1], action);
-    let w2 = rear(ctl[2], action);
-    let w3 = rear(ctl[3], action);
-    let o0 = dynamics::turning(w0);
-    let o1 = dynamics::turning(w1);
-    let o2 = dynamics::turning(w2);
-    let o3 = dynamics::turning(w3);
-    let p0 = dynamics::push(o0, motion[0]);
-    let p1 = dynamics::push(o1, motion[1]);
-    let p2 = dynamics::push(o2, motion[2]);
-    let p3 = dynamics::push(o3, motion[3]);
-    let s0 = dynamics::held(roads[0], p0);
-    let s1 = dynamics::held(roads[1], p1);
-    let s2 = dynamics::held(roads[2], p2);
-    let s3 = dynamics::held(roads[3], p3);
-    let a = dynamics::finish(w0, motion[0], o0, s0, car.fuel_spent);
-    let b = dynamics::finish(w1, motion[1], o1, s1, a.fuel_spent);
-    let c = dynamics::finish(w2, motion[2], o2, s2, b.fuel_spent);
-    let d = dynamics::finish(w3, motion[3], o3, s3, c.fuel_spent);
+    let [w0, w1, w2, w3]: [WheelCtl; 4] = car.ctl;
+    let ctl = [
+        front(w0, action),
+        front(w1, action),
+        rear(w2, action),
+        rear(w3, action),
+    ];
+    let omega = ctl.map(dynamics::turning);
+    let push: [TyreForce; 4] = array::from_fn(|w| dynamics::push(omega[w], motion[w]));
+    let s: [TyreForce; 4] = array::from_fn(|w| dynamics::held(roads[w], push[w]));
+    let a = dynamics::finish(ctl[0], motion[0], omega[0], s[0], car.fuel_spent);
+    let b = dynamics::finish(ctl[1], motion[1], omega[1], s[1], a.fuel_spent);
+    let c = dynamics::finish(ctl[2], motion[2], omega[2], s[2], b.fuel_spent);
+    let d = dynamics::finish(ctl[3], motion[3], omega[3], s[3], c.fuel_spent);
     Passed {
         car: Car {
             ctl: [a.ctl, b.ctl, c.ctl, d.ctl],
@@ -171,7 +164,7 @@ fn any_stands(words: &[u64]) -> bool
 }
 
 // Whether a wheel touched a tile at the last contact, by its set. The first words are looked at alone: they hold the tiles of most courses,
-// so that they answer for a wheel on the road.
+// so that they answer for a wheel on the road. Compiled in place: four calls of it cost more than the words.
 #[inline(always)]
 fn on_road(set: &[u64]) -> bool
     ensures { result ≡ any_below (64 * length set.now) (member set.now) }

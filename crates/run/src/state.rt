@@ -77,7 +77,7 @@ pub struct Run {
     // Kept flat, a set behind the other: document 01, "Which shape goes where", names one array of 160 words, 40 to a wheel.
     pub wheels: [u64; WHEEL_WORDS],
     // The wheels' poses at the last contact, each x, y, cos, sin.
-    // Kept as numbers: `grader_run` of host/grader.h has `double poses[16]`, and a host lends sixteen numbers to `grader_settle_parts`.
+    // Kept as numbers: `grader_run` of host/grader.h has `double poses[GRADER_POSES]`, sixteen, and a host lends as many to `grader_settle_parts`.
     pub poses: [f64; POSE_NUMBERS],
     // The course's seed, as start was told it.
     pub seed: u64,
