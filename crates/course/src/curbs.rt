@@ -55,7 +55,7 @@ fn after(i: usize, n: usize) -> usize
     0
 }
 
-// Kept: `i < self.count` is asked by four of these, since it is a plain bound of an index; a struct that has it would be made again for each neighbour.
+// Kept: `i < self.count` is asked by each of these, since it is a plain bound of an index; a struct that has it would be made again for each neighbour.
 impl PointColumns<'_> {
     // How far beta turns at point i.
     #[tactic(auto, unfolding(crate::specs::Grader::Curbs::turn_at))]

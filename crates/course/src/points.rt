@@ -92,7 +92,7 @@ pub(crate) fn all_good(points: &PointColumns) -> bool
 }
 
 // Cause 2 of lent columns: each has its length, those of points m entries.
-// Kept with m told, here and in `finish`: lay tells `LAID_LENGTH`, and points what `column_length` gives for its n. Both are 2,500 now, and document 02's
+// Kept with m told, here, in `finish` and in curbs.rt: lay tells `LAID_LENGTH`, and points what `column_length` gives for its n. Both are 2,500 now, and document 02's
 // order 8 parts them.
 // Kept as columns one by one, since the proof did not close: after the struct is lent whole, by `&`, what its columns hold did not
 // prove to be the same.
