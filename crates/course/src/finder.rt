@@ -21,7 +21,8 @@ pub(crate) struct Dest {
 // first, with alpha one tau less; a third pass refuses.
 // Kept as two loops, the inner one left by the label of the outer: document 01 names that form of the search, which "leaves both search
 // loops the moment a checkpoint is found". And kept by index, since the proof did not close: of the first step of a
-// `cs.iter().enumerate().skip(first)` a proof knows a run that is passed over, and not the place where it stands (tried).
+// `cs.iter().enumerate().skip(first)` a proof knows a run that is passed over, and not the place where it stands;
+// the check alone did not find that, and a proof by hand was not written.
 pub(crate) fn find(cs: &[Checkpoint], from: usize, alpha: f64) -> Option<Dest>
     ensures { found_as result ≡ dest_of cs.now from alpha }
 {

@@ -56,7 +56,8 @@ fn greater(greatest: f64, x: f64) -> f64
 // The least of four numbers, a NaN passed over.
 // Kept as a pair with `greatest`: document 01 folds both as the Rust does, each from its own end, and one function for both would be
 // passed the end and the fold, which are all that it says. And kept as calls in one another, since the proof did not close:
-// `[a, b, c, d].into_iter().fold(f64::MAX, lesser)` asks for a proof that each of its calls may be made (tried).
+// `[a, b, c, d].into_iter().fold(f64::MAX, lesser)` asks for a proof that each of its calls may be made, which the check
+// alone did not find; one by hand was not written.
 pub fn least(a: f64, b: f64, c: f64, d: f64) -> f64
     ensures { result ≡ least_of a b c d }
 {

@@ -28,8 +28,8 @@ fn passes_at(alpha: &[f64], i: usize) -> bool
 }
 
 // The greatest number from 1 to n at which the angles pass through the start.
-// Kept as `1..n + 1`, since the proof did not close: of `(1..=n).rfind` the check did not find that the closure is called within its bounds
-// (tried).
+// Kept as `1..n + 1`, since the proof did not close: of `(1..=n).rfind` the check alone did not find that the closure is called within its
+// bounds; a proof by hand was not written.
 fn last_pass(alpha: &[f64], n: usize) -> Option<usize>
     requires { n < length alpha.now }
     ensures value { result ≡ last_pass alpha.now n }

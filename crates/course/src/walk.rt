@@ -24,7 +24,7 @@ fn start() -> Walk
 }
 
 // At most STEP_LIMIT steps, until the fifth lap is done: how many were stored, none where one was refused.
-// Kept by index, since the proof did not close: what four zipped `iter_mut` leave in the lent columns is known to no proof after the loop.
+// Kept by index: four `iter_mut`, zipped, are no plainer, and after such a loop over one column no proof knew what it holds (form's eight.rt).
 pub(crate) fn walk_round(cs: &[Checkpoint; 12], cols: &mut WalkColumns) -> Option<usize>
     ensures same { SameColumns cols.old cols.new }
     ensures trod { Trod cs.now (columns_of cols.old) (columns_of cols.new) result }
