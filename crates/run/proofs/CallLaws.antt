@@ -13,7 +13,7 @@ use Rattle.course.specs.Grader.Cause.{number_of, cause_number}
 use Rattle.course.specs.declared.cause.Cause.{Cause}
 use Rattle.course.specs.Rules.Lengths.{most_points, column_length, quad_numbers, offset_count}
 use Rattle.course.proofs.LengthLaws.{points-fit}
-use Rattle.run.specs.Grader.State.{State, state_of, Columns, short_of, unfit}
+use Rattle.run.specs.Grader.State.{state_of, Columns, short_of, unfit}
 use Rattle.run.specs.Rules.Arguments.{poses_ok, short_columns, settings_ok, places_ok}
 use Rattle.run.specs.Grader.Touch.{sound_poses, touched_by}
 use Rattle.run.specs.Rules.Wheel.{quad_of}
