@@ -13,7 +13,7 @@ use Rattle.course.specs.Grader.Cause.{number_of, cause_number}
 use Rattle.course.specs.declared.cause.Cause.{Cause}
 use Rattle.course.specs.Rules.Lengths.{most_points, column_length, quad_numbers, offset_count}
 use Rattle.course.proofs.LengthLaws.{points-fit}
-use Rattle.run.specs.Grader.State.{State, state_of, Columns, short_of, unfit}
+use Rattle.run.specs.Grader.State.{state_of, Columns, short_of, unfit}
 use Rattle.run.specs.Rules.Arguments.{poses_ok, short_columns, settings_ok, places_ok}
 use Rattle.run.specs.Grader.Touch.{sound_poses, touched_by}
 use Rattle.run.specs.Rules.Wheel.{quad_of}
@@ -28,8 +28,6 @@ use Rattle.run.specs.declared.start.Settings.{Settings}
 use Rattle.run.specs.Grader.Start.{start_short, start_check, setup_of, first_progress, zero_state, begun, first_contact, started_by, start_at, start_of}
 use Rattle.run.specs.Rules.Pass.{still_car}
 use Rattle.run.specs.Grader.Settle.{settle_check, settled_progress, SettledParts, settled_parts, settled_by, settle_at, settle_parts_of, poses_after, settled_poses, settle_poses_of}
-use Rattle.run.specs.Steps.Answered.{answered_by}
-use Rattle.run.specs.declared.state.Run.{Run}
 use Rattle.run.specs.declared.state.Setup.{Setup}
 use Rattle.run.specs.declared.state.Progress.{Progress}
 use Rattle.run.specs.declared.state.Car.{Car}
@@ -42,12 +40,6 @@ long tiles offsets n most h b m =
     let t = ltb-false tiles (quad_numbers (column_length n)) (or_no (ltb tiles (quad_numbers (column_length n))) (ltb offsets offset_count) h).0 in
     let k = points-fit n (omega (arith, ltb-false most n b, m)) in
     omega (arith, t, k)
-
--- an answer and the state beside it, as one record of the two
-pub answered : {T B : Type 0} (both : Result T Cause → State → B) (made : Result (T × Run) Cause) {a : Result T Cause} {s : State}
-    → (a ≡ answered_by (λ a s. a) made) × (s ≡ answered_by (λ a s. s) made) → both a s ≡ answered_by both made
-answered both (Ok v) h = ap₂ both h.0 h.1
-answered both (Err e) h = ap₂ both h.0 h.1
 
 -- ---- what a contact wants to know of a course of n tiles and of the wheels' poses
 pub record ContactFacts (most : ℕ) (l : Columns) (n : ℕ) (ps : List Pose) : Type 0 where

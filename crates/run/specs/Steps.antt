@@ -3,8 +3,6 @@
 pub mod Touch
 -- of start, settle and restore
 pub mod Stand
--- of state, start and restore
-pub mod Answered
 -- of drive
 pub mod Drive
 -- of save

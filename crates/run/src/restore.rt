@@ -3,8 +3,8 @@ ghost use Rattle.std.specs.Prelude.{◌≡◌, Some};
 ghost use Rattle.run.specs.Grader.Widths.{full_words, most_tiles};
 ghost use Rattle.run.specs.Grader.State.{view, lent_columns};
 ghost use Rattle.run.specs.Grader.Numbers.{poses_at};
+ghost use Rattle.run.specs.Grader.Start.{zero_state};
 ghost use Rattle.run.specs.Grader.Restore.{run_from, after_restore, restore_of, saved_course_of, restore_check};
-ghost use Rattle.run.specs.Steps.Answered.{answered_by};
 ghost use Rattle.run.specs.Steps.Load.{fields_as};
 ghost use Rattle.run.specs.Steps.Stand.{StanceOr};
 
@@ -74,9 +74,10 @@ fn run_of(f: SavedRun, wheels: [u64; WHEEL_WORDS]) -> Run
     }
 }
 
-// The run that was saved, on the lent course. What the wheels touch at the last poses is found anew; what they would credit there is dropped.
-fn restored(bytes: &[u8], columns: Columns<'_>, n: u32) -> Result<((), Run), Cause>
-    ensures { answered_by after_restore result
+// The run that was saved, on the lent course. What the wheels touch at the last poses is found anew; what they would credit there is dropped. A refusal leaves the state of zeros.
+fn restored(bytes: &[u8], columns: Columns<'_>, n: u32, run: &mut Run) -> Result<(), Cause>
+    requires { view run.old ≡ zero_state full_words }
+    ensures { after_restore result (view run.new)
         ≡ restore_of full_words most_tiles bytes.now
         (lent_columns columns.entry) n }
 {
@@ -89,7 +90,8 @@ fn restored(bytes: &[u8], columns: Columns<'_>, n: u32) -> Result<((), Run), Cau
         n: n as usize,
     };
     contact::full_contact(&stance, course, &mut scratch, &mut wheels);
-    Ok(((), run_of(f, wheels)))
+    *run = run_of(f, wheels);
+    Ok(())
 }
 
 // The run that was saved, on the lent course, or a cause with the state of zeros.
@@ -98,7 +100,9 @@ pub fn restore(bytes: &[u8], columns: Columns<'_>, n: u32) -> Answered<()>
         ≡ restore_of full_words most_tiles bytes.now
         (lent_columns columns.entry) n }
 {
-    Answered::from_result(restored(bytes, columns, n))
+    let mut run = Run::default();
+    let answer = restored(bytes, columns, n, &mut run);
+    Answered { answer, run }
 }
 
 // The course of the run that was saved.

@@ -2,16 +2,14 @@
 ghost use Rattle.std.specs.Prelude.{◌≡◌};
 ghost use Rattle.run.specs.Grader.Widths.{full_words, most_tiles};
 ghost use Rattle.run.specs.Grader.State.{view, lent_columns};
-ghost use Rattle.run.specs.Grader.Start.{start_check, first_progress, begun, start_of};
+ghost use Rattle.run.specs.Grader.Start.{start_check, first_progress, zero_state, begun, start_of};
 ghost use Rattle.run.specs.Rules.Arguments.{settings_ok};
-ghost use Rattle.run.specs.Steps.Answered.{answered_by};
 ghost use Rattle.run.specs.Steps.Stand.{StanceOr};
 
-use crate::numbers::POSE_NUMBERS;
 use crate::quad::Stance;
-use crate::state::{Answered, Car, Pose, Progress, Run, Setup};
+use crate::state::{Answered, Pose, Progress, Run, Setup};
 use crate::touch::{Columns, Course};
-use crate::widths::{FULL_WORDS, MOST_TILES, WHEEL_WORDS};
+use crate::widths::MOST_TILES;
 use crate::{contact, lap, numbers, state};
 use course::cause::Cause;
 
@@ -76,45 +74,33 @@ fn first_progress(count: u32, lap: bool) -> Progress
     }
 }
 
-// The first contact on the lent course, and the run that it leaves.
-fn started(columns: Columns<'_>, settings: Settings) -> Result<(StartValues, Run), Cause>
-    ensures { answered_by begun result
+// The first contact on the lent course, in a state of zeros; a refusal leaves it.
+fn started(columns: Columns<'_>, settings: Settings, run: &mut Run) -> Result<StartValues, Cause>
+    requires { view run.old ≡ zero_state full_words }
+    ensures { begun result (view run.new)
         ≡ start_of full_words most_tiles (lent_columns columns.entry) settings }
 {
     let stance = start_check(columns, settings)?;
     let n = settings.n;
-    let mut credited = [0u64; FULL_WORDS];
-    let mut wheels = [0u64; WHEEL_WORDS];
     let course = Course {
         columns,
         n: n as usize,
     };
-    let c = contact::full_contact(&stance, course, &mut credited, &mut wheels);
+    let c = contact::full_contact(&stance, course, &mut run.credited, &mut run.wheels);
     let lap = lap::update_lap(false, c.zero, c.fresh, n, settings.share);
-    let setup = Setup {
+    run.setup = Setup {
         n,
         tick_limit: settings.limit,
         lap_share: settings.share,
         fallback: settings.fallback,
     };
-    let progress = first_progress(c.fresh, lap);
-    let car = Car::default();
-    let mut poses = [0.0; POSE_NUMBERS];
-    numbers::put_poses(settings.poses, &mut poses);
-    let run = Run {
-        setup,
-        progress,
-        car,
-        credited,
-        wheels,
-        poses,
-        seed: settings.seed,
-    };
-    let values = StartValues {
+    run.progress = first_progress(c.fresh, lap);
+    numbers::put_poses(settings.poses, &mut run.poses);
+    run.seed = settings.seed;
+    Ok(StartValues {
         count: c.fresh,
         lap,
-    };
-    Ok((values, run))
+    })
 }
 
 // A run on the lent course, or a cause with the state of zeros.
@@ -122,5 +108,7 @@ pub fn start(columns: Columns<'_>, settings: Settings) -> Answered<StartValues>
     ensures { begun result.answer (view result.run)
         ≡ start_of full_words most_tiles (lent_columns columns.entry) settings }
 {
-    Answered::from_result(started(columns, settings))
+    let mut run = Run::default();
+    let answer = started(columns, settings, &mut run);
+    Answered { answer, run }
 }

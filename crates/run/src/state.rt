@@ -4,7 +4,6 @@ ghost use Rattle.std.specs.Prelude.{◌≡◌};
 ghost use Rattle.run.specs.Grader.Widths.{full_words, most_tiles};
 ghost use Rattle.run.specs.Grader.State.{unfit, view};
 ghost use Rattle.run.specs.Grader.Start.{zero_state};
-ghost use Rattle.run.specs.Steps.Answered.{answered_by};
 ghost use Rattle.run.specs.Rules.Arguments.{in_range, pose_ok, poses_ok};
 
 use crate::numbers::POSE_NUMBERS;
@@ -107,25 +106,6 @@ impl Default for Run {
 pub struct Answered<T> {
     pub answer: Result<T, Cause>,
     pub run: Run,
-}
-
-impl<T> Answered<T> {
-    // What a call made, or its cause with the state of zeros.
-    pub(crate) fn from_result(made: Result<(T, Run), Cause>) -> Answered<T>
-        ensures { (result.answer ≡ answered_by (λ a s. a) made)
-            × (view result.run ≡ answered_by (λ a s. s) made) }
-    {
-        match made {
-            Ok((values, run)) => Answered {
-                answer: Ok(values),
-                run,
-            },
-            Err(cause) => Answered {
-                answer: Err(cause),
-                run: Run::default(),
-            },
-        }
-    }
 }
 
 // Finite and within a million of 0 (cause 8).

@@ -18,14 +18,14 @@ returns-in_err-f c =
     let a = c.args in
     let p = err_from_is_err_and c.from_residual.result c.from_residual.ensures.1 in
     let q = not-there c.load.result c.ok_or.ensures.value c.in_err-f.was in
-    rw (p.1, p.2, q.1) (restore-none full_words most_tiles a.bytes.now (lent_columns a.columns) a.n (not-loaded q.0 c.load.ensures))
+    rw (p.1, p.2, q.1, c.requires) (restore-none full_words most_tiles a.bytes.now (lent_columns a.columns) a.n (not-loaded q.0 c.load.ensures))
 
 pub returns-in_err-stance : goal.returns-in_err-stance
 returns-in_err-stance c =
     let loaded_at = is-loaded (c.ok_or.ensures.ok_part ∙ ap result_ok c.in_ok-f.was) c.load.ensures in
     let a = c.args in
     let p = err_from_is_err_and c.from_residual-in_err-stance.result c.from_residual-in_err-stance.ensures.1 in
-    rw (p.1, p.2) (restore-refused full_words most_tiles a.bytes.now (lent_columns a.columns) a.n _ _ loaded_at c.in_err-stance.ensures)
+    rw (p.1, p.2, c.requires) (restore-refused full_words most_tiles a.bytes.now (lent_columns a.columns) a.n _ _ loaded_at c.in_err-stance.ensures)
 
 pub invariant_of-course : goal.invariant_of-course
 invariant_of-course c =
