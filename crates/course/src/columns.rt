@@ -1,6 +1,6 @@
 // Copies, moves and zeros in one lent column.
-// Kept around one call of the library each: their contracts say what the whole column holds afterwards, and not its parts, and the laws of
-// what lay and points leave (course/proofs/LaidColumns) take it so.
+// Kept around one call of the library each, which is no plainer in their place: lay and points each make several, and each would be followed by the
+// same law of what the whole column holds, front and rest, which is said here once.
 ghost use Rattle.std.specs.Prelude.{◌≡◌, ◌+◌, ◌-◌, ◌≤◌, ◌++◌, length, take, drop, replicate};
 ghost use Rattle.course.specs.Rules.Arithmetic.{nought};
 

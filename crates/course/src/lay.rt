@@ -103,7 +103,7 @@ fn ring_point(i: u32) -> TrackPoint
 }
 
 // The ring's points stand in front.
-// Kept by index: four `iter_mut`, zipped, are no plainer, and after such a loop over one column no proof knew what it holds (form's eight.rt).
+// Kept by index: three `iter_mut`, zipped, are no plainer, and after such a loop over one column no proof knew what it holds (form's eight.rt).
 fn ring_points(cols: &mut WalkColumns)
     ensures same { SameColumns cols.old cols.new }
     ensures ringed { Ringed (columns_of cols.old) (columns_of cols.new) }

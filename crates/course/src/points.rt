@@ -1,6 +1,6 @@
 // A course from the caller's own points (document 01, "Beside the run": Points), and what lay shares with it.
-// Kept: the given points come as three columns and their count, which the C interface lends one by one; `given_check` makes the struct of them once
-// their lengths are known.
+// Kept with the given points as three columns and their count, here and in curbs.rt, since a struct of what is not tested yet is no plainer: it would
+// stand beside `PointColumns`, which `given_check` makes once their lengths and numbers are, with the same fields.
 ghost use Rattle.std.specs.Prelude.{◌≡◌, ◌+◌, ◌-◌, ◌*◌, ◌<◌, ◌≤◌, ◌++◌, length, take, drop, Err, MatchResult};
 ghost use Rattle.course.specs.Rules.Lengths.{most_points};
 ghost use Rattle.course.specs.Rules.Tiles.{points_of};

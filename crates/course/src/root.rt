@@ -21,10 +21,10 @@ const WORD: u64 = 1 << 32;
 // What the start of a guess is taken from: a little less than 2^54.
 const START: u64 = 4 * LEAD - 0x400_0000_0000;
 
-// The root of n * 4^27, by bisection. Hardly a root takes it, and it is kept out of the way of those that don't.
+// The root of n * 4^27, by the library. Hardly a root takes it, and it is kept out of the way of those that don't.
 #[cold]
 #[inline(never)]
-fn bisected(n: u64) -> u64
+fn library_root(n: u64) -> u64
     ensures { IsRoot (n * 18014398509481984) result }
 {
     (u128::from(n) * 0x40_0000_0000_0000).isqrt() as u64
@@ -86,7 +86,7 @@ fn tested(s: u32, e: u64, d: u32) -> Option<u64>
     }
 }
 
-// The root of n * 4^27 where s * 2^22 + d is not it: one of the neighbours, or else by bisection.
+// The root of n * 4^27 where s * 2^22 + d is not it: one of the neighbours, or else the library's.
 fn mended(n: u64, s: u32, e: u64, d: u32) -> u64
     requires { (s * s + e ≡ n * 1024) × (e < 137438953472) × (d < 268435456) }
     ensures { IsRoot (n * 18014398509481984) result }
@@ -97,7 +97,7 @@ fn mended(n: u64, s: u32, e: u64, d: u32) -> u64
     if let Some(w) = tested(s, e, d + 1) {
         return w;
     }
-    bisected(n)
+    library_root(n)
 }
 
 // The root of n * 4^27. s is a guess at its upper digits, e is what s leaves, and d are the digits that follow from that. They are
@@ -112,7 +112,7 @@ fn whole_root(n: u64, l: u64) -> u64
     let s = g.root;
     let e = a.wrapping_sub(product(s, s));
     if 0x20_0000_0000 <= e {
-        return bisected(n);
+        return library_root(n);
     }
     let d = (product((e / 32) as u32, g.inverse) / 0x10_0000_0000) as u32;
     if let Some(w) = tested(s, e, d) {
@@ -122,6 +122,7 @@ fn whole_root(n: u64, l: u64) -> u64
 }
 
 // The bits of a normal number, and how many times it was multiplied by four.
+// Kept apart from what is true of the two: `root_bits` alone asks it, of the one that `scaled` makes, so that ghost fields would say it again.
 #[derive(Clone, Copy)]
 struct Normal {
     bits: u64,

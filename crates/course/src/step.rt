@@ -87,6 +87,7 @@ fn turn_up(beta: f64, alpha: f64, left: u32) -> Option<f64>
     ensures { result ≡ turned_beta (turn_up left beta alpha) }
 {
     let mut b = beta;
+    // Counted down, as `turn_up` of the definitions is.
     for _n in (0..=left).rev() {
         if !(b - alpha < UP) {
             return Some(b);

@@ -3,7 +3,7 @@
 ghost use Rattle.std.specs.Prelude.{◌≤◌, length};
 ghost use Rattle.course.specs.Rules.Lengths.{laid_length};
 
-// The columns of angles, headings and places, each with the length that lay is lent.
+// The columns of angles, headings and places, each with at least the length that lay asks for.
 #[derive(Drop)]
 pub(crate) struct WalkColumns<'a> {
     pub alpha: &'a mut [f64],

@@ -19,6 +19,7 @@ fn shown(stands: bool, field: &[u8]) -> &[u8]
 }
 
 // The length of the fields that stand.
+// Kept as a loop, since the proof did not close: with `map` and `sum` over the zip (tried) it asks that the sum of all that a pair may give fits.
 fn standing_length(fields: Fields<'_>, map: u64) -> usize
     ensures { (result ≡ length (standing map (table_fields fields.entry)))
         × (result ≤ length fields.entry.full.now) }

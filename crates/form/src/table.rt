@@ -40,6 +40,7 @@ impl<'a> Iterator for Fields<'a> {
 }
 
 // Whether all fields have room in that many bytes.
+// Kept as a loop, since the proof did not close: with `try_fold` over `checked_sub` (tried) it asks for what the fold leaves as a sum of its own.
 pub(crate) fn has_room(rows: &[Row], room: usize) -> bool
     ensures { result ≡ leb (sum (widths rows.now)) room }
 {

@@ -1,6 +1,6 @@
 -- The joint motor's speed is the product cut at both ends: a product by 50 has the sign of its factor, and a float times 1 is itself. So the Rust's
 -- sign times the lesser size is the same float, at −0, at the infinities and at NaN too. Assumes nothing.
-use mathlib.Core.Path.{◌≡◌, refl, sym, ap, ap₂, ◌∙◌}
+use mathlib.Core.Path.{◌≡◌, refl, sym, ap, ap₂, ◌∙◌, subst}
 use Prim.Native.Nat.{ℕ, ◌*◌}
 use native.Mathlib.Nat.{one-mul}
 use mathlib.Core.Bool.{Bool, true, false, cond}
@@ -9,7 +9,8 @@ use lib.Dec.{T}
 use lib.Ieee.{Float, nan, inf, fin, binary64, up, down, round, mul, neg, lt, is_nan, fits, of_bits, of_int}
 use lib.Ieee.Fits.{mul-fits}
 use Rattle.course.specs.Rules.Arithmetic.{◌⊖◌, ◌⊗◌, natural}
-use Rattle.course.specs.Rules.Numeric.{abs_of, min_of, signum_of}
+use Rattle.std.proofs.lemmas.Float.{lt_trans, lt_irrefl}
+use Rattle.course.specs.Rules.Numeric.{abs_of, clamp_of, min_of, signum_of}
 use Rattle.course.proofs.Bounds.{plain, plain-round, neg-round}
 use Rattle.course.proofs.OwnValue.{own_value}
 use Rattle.run.specs.Rules.Dynamics.{motor_of}
@@ -108,21 +109,30 @@ motor-cut : (steer angle : Float) → cut (fifty ⊗ (steer ⊖ angle)) ≡ moto
 unfolding motor_of natural of_int
 motor-cut steer angle = at-difference (steer ⊖ angle)
 
--- by the tests that the code makes: of the product, lowered to 3, whether it is under −3
-motor_tests : (steer angle lowered : Float) (under : Bool) → lowered ≡ cond (lt three (fifty ⊗ (steer ⊖ angle))) three (fifty ⊗ (steer ⊖ angle)) → lt lowered (neg three) ≡ under
-    → cond under (neg three) lowered ≡ motor_of steer angle
-motor_tests steer angle lowered under e h =
-    ap (λ (b : Bool). cond b (neg three) lowered) (sym h) ∙ ap (λ (w : Float). cond (lt w (neg three)) (neg three) w) e ∙ motor-cut steer angle
+-- ---- the clamp, which raises before it lowers: what is over 3 is not under −3
+over-not-under : (x : Float) → lt three x ≡ true → lt x (neg three) ≡ false
+unfolding lt neg
+over-not-under x h = go (lt x (neg three)) refl
+  where
+    go : (b : Bool) → lt x (neg three) ≡ b → lt x (neg three) ≡ false
+    go false e = e
+    go true e = absurd (lt_irrefl three (lt_trans three (neg three) three (lt_trans three x (neg three) (subst T (sym h) tt) (subst T (sym e) tt)) tt))
 
--- by the bits of its literals
-pub motor_cut_down : (steer angle lowered : Float)
-    → lowered ≡ cond (lt (of_bits binary64 0x4008000000000000) (of_bits binary64 0x4049000000000000 ⊗ (steer ⊖ angle))) (of_bits binary64 0x4008000000000000) (of_bits binary64 0x4049000000000000 ⊗ (steer ⊖ angle))
-    → lt lowered (neg (of_bits binary64 0x4008000000000000)) ≡ true → neg (of_bits binary64 0x4008000000000000) ≡ motor_of steer angle
-unfolding of_bits
-motor_cut_down steer angle lowered e h = motor_tests steer angle lowered true e h
+abbrev by-tests : Bool → Bool → Float → Float
+by-tests over under x = cond under (cond (lt three (neg three)) three (neg three)) (cond over three x)
 
-pub motor_lowered : (steer angle lowered : Float)
-    → lowered ≡ cond (lt (of_bits binary64 0x4008000000000000) (of_bits binary64 0x4049000000000000 ⊗ (steer ⊖ angle))) (of_bits binary64 0x4008000000000000) (of_bits binary64 0x4049000000000000 ⊗ (steer ⊖ angle))
-    → lt lowered (neg (of_bits binary64 0x4008000000000000)) ≡ false → lowered ≡ motor_of steer angle
+abbrev lowered-first : Bool → Float → Float
+lowered-first over x = cond (lt (cond over three x) (neg three)) (neg three) (cond over three x)
+
+clamped : (x : Float) → clamp_of x (neg three) three ≡ cut x
+unfolding clamp_of lt neg
+clamped x = go (lt three x) refl
+  where
+    go : (over : Bool) → lt three x ≡ over → clamp_of x (neg three) three ≡ cut x
+    go true h = ap₂ (λ (o u : Bool). by-tests o u x) h (over-not-under x h) ∙ sym (ap (λ (o : Bool). lowered-first o x) h)
+    go false h = ap (λ (o : Bool). by-tests o (lt x (neg three)) x) h ∙ sym (ap (λ (o : Bool). lowered-first o x) h)
+
+-- by the bits of the code's literals
+pub motor_clamped : (steer angle r : Float) → r ≡ clamp_of (of_bits binary64 0x4049000000000000 ⊗ (steer ⊖ angle)) (neg (of_bits binary64 0x4008000000000000)) (of_bits binary64 0x4008000000000000) → r ≡ motor_of steer angle
 unfolding of_bits
-motor_lowered steer angle lowered e h = motor_tests steer angle lowered false e h
+motor_clamped steer angle r e = e ∙ clamped (fifty ⊗ (steer ⊖ angle)) ∙ motor-cut steer angle

@@ -12,7 +12,7 @@ ghost use Rattle.run.specs.Rules.Pass.{steer_of, gas_of, brake_of, front_of, rea
 ghost use Rattle.run.specs.Grader.Drive.{drive_check, drove_parts, drive_parts_of, driven, drive_of};
 ghost use Rattle.run.specs.Steps.Drive.{wheel_as, stands, action_number, numbered, told};
 
-use crate::dynamics::{Force, Motion, Turned, TyreForce};
+use crate::dynamics::{Force, Motion, TyreForce};
 use crate::state::{Car, Progress, Run, Setup, WheelCtl};
 use crate::widths::{FULL_WORDS, WHEEL_WORDS};
 use crate::{dynamics, state};
@@ -116,6 +116,8 @@ fn rear(w: WheelCtl, action: Action) -> WheelCtl
 
 // The tyre pass over the four wheels, the fuel going from one to the next. What pushes at the tyres is worked out for all of them
 // before any is cut: a root takes long, and so the wheels' roots do not wait for each other.
+// Kept wheel by wheel where the fuel goes on, which is no plainer otherwise: each wheel starts from what the one before it spent, and a loop
+// that carries it would write controls and forces by place.
 #[tactic(auto, unfolding(crate::specs::Rules::Pass::gathered_of), using(crate::proofs::DriveLaws::wheel_passed, crate::proofs::DriveLaws::pass_from))]
 fn pass(car: Car, action: Action, motion: [Motion; 4], roads: [bool; 4]) -> Passed
     ensures { tyres_passed result.car result.forces ≡ pass_of car (action_number action) motion roads }
@@ -155,8 +157,8 @@ fn motion_ok(m: Motion) -> bool
         & state::in_range(m.vy)
 }
 
-// Whether a word is not 0. All are read, several at a time: `any`, which reads word by word and stops, takes 10 % more instructions in a drive
-// with no wheel on the road.
+// Whether a word is not 0. Kept as a fold that reads them all, several at a time: `any`, which reads word by word and stops, was tried, and took
+// 10 % more instructions in a drive with no wheel on the road, where 5 % are the bar.
 fn any_stands(words: &[u64]) -> bool
     ensures { result ≡ list_any stands words.now }
 {
@@ -174,6 +176,7 @@ fn on_road(set: &[u64]) -> bool
 }
 
 // Which wheels touched a tile at the last contact.
+// Kept as four calls, since the proof did not close: with `array::from_fn` (tried) no law ties its closure's answers to the parts of the sets.
 fn roads_of(wheels: &[u64; WHEEL_WORDS]) -> [bool; 4]
     ensures { result ≡ roads_of full_words wheels.now }
 {
@@ -195,6 +198,8 @@ fn motions_ok(m: [Motion; 4]) -> bool
 }
 
 // The action, or the first cause that holds.
+// Kept with causes 4 to 6 tested as in `settle_check`, which waits for a drive where this waits for a settle: a test for both is no plainer, since it
+// would be told which of the two calls it is.
 #[tactic(auto, unfolding(crate::specs::Grader::Drive::drive_check))]
 fn drive_check(
     setup: Setup,

@@ -63,14 +63,12 @@ pub(crate) struct Turned {
 }
 
 // The joint motor's speed: 50 times the way to the steering angle, cut at 3 and at -3. A product has the sign of its factor, also
-// at -0, so that this is the Rust's sign times the lesser size; two choices compile to no branch.
-#[tactic(auto, using(crate::proofs::MotorLaw::motor_cut_down, crate::proofs::MotorLaw::motor_lowered))]
+// at -0, so that this is the Rust's sign times the lesser size.
+#[tactic(auto, using(crate::proofs::MotorLaw::motor_clamped))]
 pub(crate) fn motor(steer: f64, angle: f64) -> f64
     ensures { result ≡ motor_of steer angle }
 {
-    let speed = 50.0 * (steer - angle);
-    let lowered = if 3.0 < speed { 3.0 } else { speed };
-    if lowered < -3.0 { -3.0 } else { lowered }
+    numeric::clamp(50.0 * (steer - angle), -3.0, 3.0)
 }
 
 // Omega after the engine.

@@ -38,8 +38,8 @@ pub(crate) trait Numbers: Copy {
     ghost list: { Self → List Float };
 
     // The record from number i on.
-    // Kept with a place: a `read` of exactly its numbers, by an array pattern, gives the record of a part of the list, which is that of the
-    // whole list only by a law more of each of the four records.
+    // Kept with a place, since a `read` of exactly its numbers is no plainer: each caller would cut the part out first, and the record of a part
+    // is that of the whole list by a law more for each of the four.
     fn read(numbers: &[f64], i: usize) -> Self
         requires { i + COUNT ≤ length numbers.now }
         ensures { result ≡ held numbers.now i };

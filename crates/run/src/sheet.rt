@@ -7,7 +7,7 @@ use crate::state;
 use crate::state::{Progress, Setup};
 use course::cause::Cause;
 
-#[repr(C)]
+// The figures of a run.
 #[derive(Clone, Copy, Default)]
 pub struct RunSheet {
     pub tick: u32,

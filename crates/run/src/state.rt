@@ -33,6 +33,7 @@ pub struct Pose {
 }
 
 // What start fixes: no later call changes it.
+// Kept apart from `Progress`, though calls take both: the C interface hands each on by value, and a call answers the one that it changes.
 #[repr(C)]
 #[derive(Clone, Copy, Default)]
 pub struct Setup {
@@ -43,7 +44,7 @@ pub struct Setup {
     pub fallback: bool,
 }
 
-// What settle changes.
+// What settle changes, and whether a drive awaits it.
 #[repr(C)]
 #[derive(Clone, Copy, Default)]
 pub struct Progress {

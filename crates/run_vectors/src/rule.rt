@@ -1,4 +1,5 @@
 // The records that answer without a state after them.
+// Kept as lines by hand, here and in call.rt, lent.rt: each answer is shown at one place of this program, so a type that prints it would be longer.
 use crate::read;
 use run::reward::Weights;
 use run::state::Run;

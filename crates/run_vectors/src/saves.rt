@@ -51,7 +51,7 @@ pub fn replay_save<W: Write>(out: &mut W, record: Record<'_>, run: Run) -> io::R
 }
 
 // Which course the bytes are of.
-// Kept beside `line::answer`, whose value is on one line: these are two.
+// Kept as two lines by hand, shown here alone: a type that prints them would be longer.
 fn line_course<W: Write>(out: &mut W, bytes: &[u8]) -> io::Result<()> {
     match restore::saved_course(bytes) {
         Ok(of) => writeln!(out, "{}\n{}", of.seed, of.n),

@@ -8,6 +8,8 @@ ghost use Rattle.std.specs.Int.{from_bool};
 use form::eight::Eight;
 
 // What goes into a hash as a word.
+// Kept with an impl for each type, of a line each: a generic one over `Into<u64>` would take in types that have none here. And beside form's `Eight`, whose
+// values are eight bytes wide, as flags, marks and ids are not.
 pub trait Hashed: Copy {
     ghost word: { Self → ℕ };
 

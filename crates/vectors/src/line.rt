@@ -62,6 +62,7 @@ pub fn hash<W: Write>(out: &mut W, h: u64) -> io::Result<()> {
 }
 
 // What lay and points answer: n, fallback, list length and the first point; at cause 3 the length needed.
+// Kept as lines by hand, said here once: a type of this crate around the course's answer, to print it, would be longer.
 pub fn laid<W: Write>(out: &mut W, answer: Result<LaidCourse, LayError>) -> io::Result<()> {
     match answer {
         Ok(c) => {
