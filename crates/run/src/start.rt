@@ -55,11 +55,7 @@ fn start_check(columns: Columns<'_>, settings: Settings) -> Result<Stance, Cause
     if !state::poses_ok(settings.poses) {
         return Err(Cause::Range);
     }
-    let stance = Stance::at(settings.poses);
-    if !columns.stance_sound(n as usize, &stance) {
-        return Err(Cause::Index);
-    }
-    Ok(stance)
+    columns.stand(n as usize, settings.poses)
 }
 
 // Tick 0 and no drive made, with so many tiles credited.
