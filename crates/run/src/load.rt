@@ -13,7 +13,7 @@ use crate::saved::{
     POSES_AT, SEED_AT, SHARE_AT, SeedParts, TICK_AT, WIDE_SEED_AT,
 };
 use crate::state::Car;
-use crate::widths::{FULL_WORDS, MOST_TILES};
+use crate::widths::FULL_WORDS;
 use crate::{numbers, saved, start, state, words};
 use form::{eight, number, unpack};
 
@@ -123,7 +123,7 @@ fn is_sound(f: SavedRun) -> bool
 {
     let poses = numbers::poses_from(&f.poses);
     let settings = start::settings_ok(f.share, f.limit);
-    let count = (1 <= f.n) & (f.n <= MOST_TILES);
+    let count = state::count_ok(f.n);
     let tiles = words::all_below(&f.credited, f.n as usize);
     settings & (count & (state::poses_ok(poses) & (tiles & (f.tick <= f.limit))))
 }

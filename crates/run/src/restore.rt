@@ -35,11 +35,7 @@ fn restore_check(f: SavedRun, columns: Columns<'_>, n: u32) -> Result<Stance, Ca
     if columns.is_short(n) {
         return Err(Cause::Length);
     }
-    let stance = Stance::at(numbers::poses_from(&f.poses));
-    if !columns.stance_sound(n as usize, &stance) {
-        return Err(Cause::Index);
-    }
-    Ok(stance)
+    columns.stand(n as usize, numbers::poses_from(&f.poses))
 }
 
 // The saved run, whose wheels touch these sets; so many tiles are credited as the saved set has.

@@ -59,11 +59,7 @@ fn settle_check(
     if !((state::in_range(places.x) & state::in_range(places.y)) & state::poses_ok(places.poses)) {
         return Err(Cause::Range);
     }
-    let stance = Stance::at(places.poses);
-    if !columns.stance_sound(setup.n as usize, &stance) {
-        return Err(Cause::Index);
-    }
-    Ok(stance)
+    columns.stand(setup.n as usize, places.poses)
 }
 
 // The progress after a contact with `fresh` new tiles.

@@ -9,7 +9,6 @@ ghost use Rattle.run.specs.Steps.Stand.{StanceOr};
 use crate::quad::Stance;
 use crate::state::{Answered, Pose, Progress, Run, Setup};
 use crate::touch::{Columns, Course};
-use crate::widths::MOST_TILES;
 use crate::{contact, lap, numbers, state};
 use course::cause::Cause;
 
@@ -49,17 +48,13 @@ fn start_check(columns: Columns<'_>, settings: Settings) -> Result<Stance, Cause
     if !settings_ok(settings.share, settings.limit) {
         return Err(Cause::Settings);
     }
-    if columns.is_short(n) | ((n < 1) | (MOST_TILES < n)) {
+    if columns.is_short(n) | !state::count_ok(n) {
         return Err(Cause::Length);
     }
     if !state::poses_ok(settings.poses) {
         return Err(Cause::Range);
     }
-    let stance = Stance::at(settings.poses);
-    if !columns.stance_sound(n as usize, &stance) {
-        return Err(Cause::Index);
-    }
-    Ok(stance)
+    columns.stand(n as usize, settings.poses)
 }
 
 // Tick 0 and no drive made, with so many tiles credited.

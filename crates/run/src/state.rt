@@ -1,6 +1,6 @@
 // The state of a run, and the tests of arguments and states that the calls share (document 01,
 // "Refusals by cause").
-ghost use Rattle.std.specs.Prelude.{◌≡◌};
+ghost use Rattle.std.specs.Prelude.{◌≡◌, ◌&&◌, leb};
 ghost use Rattle.run.specs.Grader.Widths.{full_words, most_tiles};
 ghost use Rattle.run.specs.Grader.State.{unfit, view};
 ghost use Rattle.run.specs.Grader.Start.{zero_state};
@@ -133,10 +133,17 @@ pub fn poses_ok(p: [Pose; 4]) -> bool
     p.iter().all(|pose| pose_ok(*pose))
 }
 
+// A course of n tiles can have a run: it has some, and a set has room for them (causes 2, 4 and 11).
+pub(crate) fn count_ok(n: u32) -> bool
+    ensures { result ≡ (leb 1 n && leb n most_tiles) }
+{
+    (1 <= n) & (n <= MOST_TILES)
+}
+
 // Cause 4 but for its ended part: the sheet's whole cause.
 #[tactic(auto, unfolding(crate::specs::Grader::State::unfit))]
 pub fn is_unfit(setup: Setup, progress: Progress) -> bool
     ensures { result ≡ unfit most_tiles setup progress }
 {
-    (setup.n < 1) | (MOST_TILES < setup.n) | (setup.n < progress.visited_count)
+    !count_ok(setup.n) | (setup.n < progress.visited_count)
 }

@@ -1,6 +1,6 @@
 // Which tiles a wheel touches, by the lent tiles and index (document 01, "Touch"). Each tile is tested
 // once for a wheel, however many cells list it and however often.
-ghost use Rattle.std.specs.Prelude.{◌≡◌, true, ◌+◌, ◌*◌, ◌≤◌, ◌<◌, eqb, ltb, length};
+ghost use Rattle.std.specs.Prelude.{◌≡◌, true, cond, not, ◌+◌, ◌*◌, ◌≤◌, ◌<◌, eqb, ltb, length, Ok, Err};
 ghost use Rattle.std.specs.List.{list_all};
 ghost use Rattle.course.specs.Rules.Tiles.{tile_of};
 ghost use Rattle.run.specs.Rules.Below.{every_of};
@@ -8,11 +8,14 @@ ghost use Rattle.run.specs.Grader.State.{short_of, lent_columns};
 ghost use Rattle.run.specs.Grader.Words.{set_of};
 ghost use Rattle.run.specs.Grader.Touch.{lists, touched_by, sound_cell, sound_poses};
 ghost use Rattle.run.specs.Steps.Touch.{overlaps_tile, Tests, Looked};
+ghost use Rattle.run.specs.Steps.Stand.{StanceOr};
 ghost use Rattle.run.specs.Grader.Widths.{full_words, most_tiles};
 
 use crate::quad::{Sided, Stance};
+use crate::state::Pose;
 use crate::widths::FULL_WORDS;
 use crate::words;
+use course::cause::Cause;
 use course::constants::OFFSET_COUNT;
 use course::{constants, index, tiles};
 
@@ -66,6 +69,19 @@ impl Columns<'_> {
             before = Some(*cell);
         }
         true
+    }
+
+    // Where wheels at these poses stand, if all their cells may be looked up; else cause 10.
+    pub(crate) fn stand(self, n: usize, poses: [Pose; 4]) -> Result<Stance, Cause>
+        ensures { StanceOr
+            (cond (not (sound_poses self.entry.offsets.now self.entry.list.now n poses)) (Err Cause.Index) (Ok tt))
+            poses result }
+    {
+        let stance = Stance::at(poses);
+        if !self.stance_sound(n, &stance) {
+            return Err(Cause::Index);
+        }
+        Ok(stance)
     }
 }
 

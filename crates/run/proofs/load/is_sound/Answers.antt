@@ -15,4 +15,5 @@ returns c =
     let settings : c.settings_ok-settings.result ≡ settings_ok f.share f.limit = c.settings_ok-settings.ensures in
     let poses : c.poses_ok.result ≡ poses_ok (poses_at f.poses 0) = c.poses_ok.ensures ∙ ap poses_ok c.poses_from-poses.ensures in
     let tiles : c.all_below-tiles.result ≡ all_below f.n f.credited = c.all_below-tiles.ensures in
-    λ i. settings i && ((leb 1 f.n && leb f.n most_tiles) && (poses i && (tiles i && leb f.tick f.limit)))
+    let count : c.count_ok-count.result ≡ (leb 1 f.n && leb f.n most_tiles) = c.count_ok-count.ensures in
+    λ i. settings i && (count i && (poses i && (tiles i && leb f.tick f.limit)))
