@@ -7,10 +7,10 @@ ghost use Rattle.run.specs.Grader.Numbers.{control_count, pose_count, car_number
 ghost use Rattle.run.specs.Grader.Saved.{field_bytes, field_at, float_in, fields_with, sound_fields, loaded};
 ghost use Rattle.run.specs.Steps.Load.{seeds_read, fields_as, saved_field};
 
-use crate::numbers::{CAR_NUMBERS, POSE_NUMBERS};
+use crate::numbers::{CAR_NUMBERS, CONTROL_NUMBERS, POSE_NUMBERS};
 use crate::saved::{
-    ALL_BYTES, CONTROL_NUMBERS, CONTROLS_AT, COUNT_AT, CREDITED_AT, FLAGS_AT, FUEL_AT, LIMIT_AT,
-    POSES_AT, SEED_AT, SHARE_AT, SeedParts, TICK_AT, WIDE_SEED_AT,
+    ALL_BYTES, CONTROLS_AT, COUNT_AT, CREDITED_AT, FLAGS_AT, FUEL_AT, LIMIT_AT, POSES_AT, SEED_AT,
+    SHARE_AT, SeedParts, TICK_AT, WIDE_SEED_AT,
 };
 use crate::state::Car;
 use crate::widths::{FULL_WORDS, MOST_TILES};

@@ -8,10 +8,10 @@ ghost use Rattle.run.specs.Grader.Saved.{fields_of, flags_of, bytes_of};
 ghost use Rattle.run.specs.Grader.Save.{save_check, after_save, save_of};
 ghost use Rattle.run.specs.Steps.Save.{first_fields, last_fields, first_bytes, last_from, all_bytes};
 
-use crate::numbers::CAR_NUMBERS;
+use crate::numbers::{CAR_NUMBERS, CONTROL_NUMBERS};
 use crate::saved::{
-    ALL_BYTES, CONTROL_NUMBERS, CONTROLS_AT, COUNT_AT, CREDITED_AT, FLAGS_AT, FUEL_AT, LIMIT_AT,
-    POSES_AT, SEED_AT, SHARE_AT, SeedParts, TICK_AT, WIDE_SEED_AT,
+    ALL_BYTES, CONTROLS_AT, COUNT_AT, CREDITED_AT, FLAGS_AT, FUEL_AT, LIMIT_AT, POSES_AT, SEED_AT,
+    SHARE_AT, SeedParts, TICK_AT, WIDE_SEED_AT,
 };
 use crate::state::{Progress, Run, Setup};
 use crate::{numbers, saved, state};
