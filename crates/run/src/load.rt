@@ -1,10 +1,10 @@
 // What saved bytes say of a run, or that they are refused (document 02, orders 1 and 3, cause 11).
-ghost use Rattle.std.specs.Prelude.{◌≡◌, [], ◌∷◌, ◌++◌, ◌+◌, ◌≤◌, length, take, drop, option_map};
+ghost use Rattle.std.specs.Prelude.{◌≡◌, [], ◌∷◌, ◌++◌, take, drop, option_map};
 ghost use Rattle.form.specs.Rules.Bytes.{number, words_from, floats_from};
-ghost use Rattle.form.specs.Rules.Form.{sum, cut};
+ghost use Rattle.form.specs.Rules.Form.{cut};
 ghost use Rattle.run.specs.Grader.Widths.{full_words, most_tiles};
 ghost use Rattle.run.specs.Grader.Numbers.{control_count, pose_count, car_numbers};
-ghost use Rattle.run.specs.Grader.Saved.{field_bytes, field_at, float_in, fields_with, sound_fields, loaded};
+ghost use Rattle.run.specs.Grader.Saved.{field_bytes, float_in, fields_with, sound_fields, loaded};
 ghost use Rattle.run.specs.Steps.Load.{seeds_read, fields_as, saved_field};
 
 use crate::numbers::{CAR_NUMBERS, CONTROL_NUMBERS, POSE_NUMBERS};
@@ -15,6 +15,7 @@ use crate::saved::{
 use crate::state::Car;
 use crate::widths::{FULL_WORDS, MOST_TILES};
 use crate::{numbers, saved, start, state, words};
+use form::eight::Eight;
 use form::{eight, number, unpack};
 
 // What a save keeps of a run.
@@ -43,12 +44,9 @@ fn four_at(full: &[u8], at: usize) -> u32
 
 // The float of the eight bytes from `at` on.
 fn float_at(full: &[u8], at: usize) -> f64
-    requires { at + 8 ≤ length full.now }
     ensures { result ≡ float_in (take 8 (drop at full.now)) }
 {
-    let mut x = [0.0; 1];
-    eight::read(&full[at..at + 8], &mut x).unwrap();
-    x[0]
+    f64::of_number(number::number_at(full, at, 8))
 }
 
 // The credited tiles, field 4.
