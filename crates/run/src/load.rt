@@ -43,6 +43,7 @@ fn four_at(full: &[u8], at: usize) -> u32
 }
 
 // The float of the eight bytes from `at` on.
+#[tactic(auto, unfolding(form::specs::Rules::Bytes::each_from))]
 fn float_at(full: &[u8], at: usize) -> f64
     ensures { result ≡ float_in (take 8 (drop at full.now)) }
 {
