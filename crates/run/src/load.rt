@@ -36,7 +36,7 @@ pub(crate) struct SavedRun {
 }
 
 // The number of the four bytes from `at` on.
-fn four_at(full: &[u8], at: usize) -> u32
+fn four_at(full: &[u8; ALL_BYTES], at: usize) -> u32
     ensures { result ≡ number (take 4 (drop at full.now)) }
 {
     number::number_at(full, at, 4) as u32
@@ -44,7 +44,7 @@ fn four_at(full: &[u8], at: usize) -> u32
 
 // The float of the eight bytes from `at` on.
 #[tactic(auto, unfolding(form::specs::Rules::Bytes::each_from))]
-fn float_at(full: &[u8], at: usize) -> f64
+fn float_at(full: &[u8; ALL_BYTES], at: usize) -> f64
     ensures { result ≡ float_in (take 8 (drop at full.now)) }
 {
     f64::of_number(number::number_at(full, at, 8))
@@ -81,7 +81,7 @@ fn poses_in(full: &[u8; ALL_BYTES]) -> [f64; POSE_NUMBERS]
 }
 
 // The seed's two fields, 0 and 10.
-fn seeds_in(full: &[u8]) -> SeedParts
+fn seeds_in(full: &[u8; ALL_BYTES]) -> SeedParts
     ensures { result ≡ seeds_read (saved_field full.now 0) (saved_field full.now 10) }
 {
     let narrow = number::number_at(full, SEED_AT, 4);

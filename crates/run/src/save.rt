@@ -91,8 +91,6 @@ fn put_fields(run: Run, full: &mut [u8; ALL_BYTES])
 {
     let setup = run.setup;
     let progress = run.progress;
-    let credited = run.credited;
-    let poses = run.poses;
     let flags = flags_of(progress.lap, progress.ended, setup.fallback);
     let seed = SeedParts::of(run.seed);
     put_first(
@@ -102,17 +100,22 @@ fn put_fields(run: Run, full: &mut [u8; ALL_BYTES])
         progress.tick,
         full,
     );
-    eight::put(&credited, &mut full[CREDITED_AT..FLAGS_AT]).unwrap();
-    put_last(u64::from(flags), run.car, &poses, setup.n, seed.wide, full);
+    eight::put(&run.credited, &mut full[CREDITED_AT..FLAGS_AT]).unwrap();
+    put_last(
+        u64::from(flags),
+        run.car,
+        &run.poses,
+        setup.n,
+        seed.wide,
+        full,
+    );
 }
 
 // The run's saved form goes to the front of the output; its length, or a cause and the output as it was.
 pub fn save(run: Run, out: &mut [u8]) -> Result<u32, Cause>
     ensures { after_save result out.new ≡ save_of most_tiles (view run) out.old }
 {
-    let setup = run.setup;
-    let progress = run.progress;
-    save_check(setup, progress, out.len())?;
+    save_check(run.setup, run.progress, out.len())?;
     let mut full = [0u8; ALL_BYTES];
     put_fields(run, &mut full);
     let rows = saved::rows();
