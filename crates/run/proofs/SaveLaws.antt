@@ -6,7 +6,7 @@ use Prim.Native.Nat.{ℕ, ◌+◌, ◌-◌, ◌≤◌}
 use native.Mathlib.Omega.{arith}
 use lib.Dec.{ltb}
 use lib.ListN.{length, take, drop}
-use lib.Ieee.{Float}
+use lib.Seq.{sets}
 use borrow.Author.Tests.{ltb-false}
 use Rattle.std.specs.Prelude.{Result, Ok, Err}
 use Rattle.course.specs.declared.cause.Cause.{Cause}
@@ -16,7 +16,7 @@ use Rattle.form.specs.declared.pack.NoRoom.{NoRoom}
 use Rattle.form.specs.declared.short.TooShort.{TooShort}
 use Rattle.form.specs.Rules.Form.{widths, cut, joined, most_rows, map_of, standing, packed, Wrote, wrote, pack_into}
 use Rattle.form.proofs.ByteLaws.{low-length, stored-whole}
-use Rattle.form.proofs.Filling.{Filling, begins, part-on, part-long, ends-whole, ends-with}
+use Rattle.form.proofs.Filling.{Filling, sets-front, begins, goes_on, part-on, part-long, ends, ends-whole, ends-with}
 use Rattle.form.proofs.TableLaws.{packed-length, pack-room, widths-of}
 use Rattle.form.proofs.MapLaws.{left_out, cut-joined}
 use Rattle.form.proofs.LaterRows.{zeros-low}
@@ -72,38 +72,41 @@ field-on {c} {l} {all} {i} f fs p e r k s n a h =
     let long : length f ≡ length (take (e - i) (drop i c)) = n ∙ sym (part-long c i e a room) in
     part-on p f (joined fs) e e k refl (stored-whole f _ p r long s) (omega (arith, n, a)) room refl
 
--- the next few were
-fields-on : {c l all : List ℕ} {i : ℕ} (fs gs : List (List ℕ)) (p : List ℕ) (e : ℕ) → Filling c l all i (joined (fs ++ gs))
-    → p ≡ joined fs → length (joined fs) ≡ e - i → i ≤ e → e ≤ length l
-    → Filling (take i c ++ (p ++ drop (e - i) (drop i c))) l all e (joined gs)
-fields-on fs gs p e k s n a h = part-on p (joined fs) (joined gs) e e k (joined-append fs gs) s (omega (arith, n, a)) (omega (arith, k.same, h)) refl
-
 -- all were
 pub fields-end : {c l all : List ℕ} {i : ℕ} → Filling c l all i (joined []) → length l ≡ i → c ≡ all
 unfolding joined
 fields-end k n = ends-whole k refl (omega (arith, k.count, n))
+
+-- those at the front were
+pub fields-front : {c l all : List ℕ} {i : ℕ} → Filling c l all i (joined []) → i ≤ length l → c ≡ all ++ drop i l
+unfolding joined
+fields-front {c} {l} {all} {i} k h =
+    let n : length all ≡ i = omega (arith, k.count) in
+    ends k refl (omega (arith, n, h)) ∙ ap (λ (j : ℕ). all ++ drop j l) n
 
 -- a list, one of whose parts a call has filled
 abbrev with_part : List ℕ → ℕ → ℕ → List ℕ → List ℕ
 with_part l i e p = take i l ++ (p ++ drop (e - i) (drop i l))
 
 -- all fields of a run are there once those before the credited tiles, these, and those behind are put
-pub fields-put : (f : Fields) (full p q v : List ℕ) (r : Result Unit TooShort) (seed : SeedParts) (flags : ℕ) (controls : List Float) → Whole full_words f → length full ≡ all_bytes
-    → seed ≡ seed_parts f.seed → p ≡ joined (first_fields seed.narrow f.share f.limit f.tick)
-    → leaves r q ≡ store (word_bytes f.credited) (take (last_from - first_bytes) (drop first_bytes (with_part full 0 first_bytes p)))
-    → flags ≡ flags_of f.lap f.ended f.fallback → controls ≡ f.controls
-    → v ≡ take last_from (with_part (with_part full 0 first_bytes p) first_bytes last_from q) ++ joined (last_fields flags f.fuel controls f.poses f.n seed.wide) → v ≡ joined (bytes_of f)
+pub fields-put : (f : Fields) (full p q v : List ℕ) (r : Result Unit TooShort) (seed : SeedParts) (flags : ℕ) → Whole full_words f → length full ≡ all_bytes
+    → seed ≡ seed_parts f.seed → p ≡ joined (first_fields seed.narrow f.share f.limit f.tick) ++ drop first_bytes full
+    → leaves r q ≡ store (word_bytes f.credited) (take (last_from - first_bytes) (drop first_bytes p))
+    → flags ≡ flags_of f.lap f.ended f.fallback
+    → v ≡ take last_from (with_part p first_bytes last_from q) ++ joined (last_fields flags f.fuel f.controls f.poses f.n seed.wide) → v ≡ joined (bytes_of f)
 unfolding seed_parts
-fields-put f full p q v r seed flags controls h n s a b x y z =
+fields-put f full p q v r seed flags h n s a b x z =
     let words = word_bytes f.credited in
-    let first : p ≡ joined (first_of f) = a ∙ ap (λ (t : SeedParts). joined (first_fields t.narrow f.share f.limit f.tick)) s in
-    let last : joined (last_fields flags f.fuel controls f.poses f.n seed.wide) ≡ joined (last_of f) =
-    ap₂ (λ (k : ℕ) (l : List Float). joined (last_fields k f.fuel l f.poses f.n seed.wide)) x y
-    ∙ ap (λ (t : SeedParts). joined (last_fields (flags_of f.lap f.ended f.fallback) f.fuel f.controls f.poses f.n t.wide)) s in
+    let front = joined (first_of f) in
+    let first : p ≡ sets full 0 front =
+    a ∙ ap (λ (t : SeedParts). joined (first_fields t.narrow f.share f.limit f.tick) ++ drop first_bytes full) s
+    ∙ ap (λ (j : ℕ). front ++ drop j full) (sym (first-length f)) ∙ sym (sets-front front full (omega (arith, first-length f, n))) in
+    let last : joined (last_fields flags f.fuel f.controls f.poses f.n seed.wide) ≡ joined (last_of f) =
+    ap₂ (λ (k : ℕ) (t : SeedParts). joined (last_fields k f.fuel f.controls f.poses f.n t.wide)) x s in
     let k0 = begins full (joined (bytes_of f)) (joined (first_of f ++ (words ∷ last_of f))) (ap joined (sym (apart f))) in
-    let k1 = fields-on (first_of f) (words ∷ last_of f) p first_bytes k0 first (first-length f) (omega arith) (omega (arith, n)) in
+    let k1 = goes_on p first_bytes front (joined (words ∷ last_of f)) k0 (joined-append (first_of f) (words ∷ last_of f)) first (omega (arith, first-length f)) in
     let k2 = field-on words (last_of f) q last_from r k1 b (words_long f.credited full_words h.credited) (omega arith) (omega (arith, n)) in
-    z ∙ ap (λ (l : List ℕ). take last_from (with_part (with_part full 0 first_bytes p) first_bytes last_from q) ++ l) last ∙ ends-with k2 (omega (arith, k2.count, last-length f h, n))
+    z ∙ ap (λ (l : List ℕ). take last_from (with_part p first_bytes last_from q) ++ l) last ∙ ends-with k2 (omega (arith, k2.count, last-length f h, n))
 
 -- ---- the answer
 

@@ -1,20 +1,21 @@
 // What saved bytes say of a run, or that they are refused (document 02, orders 1 and 3, cause 11).
-ghost use Rattle.std.specs.Prelude.{◌≡◌, [], ◌∷◌, ◌++◌, ◌+◌, ◌≤◌, length, take, drop, option_map};
+ghost use Rattle.std.specs.Prelude.{◌≡◌, [], ◌∷◌, ◌++◌, take, drop, option_map};
 ghost use Rattle.form.specs.Rules.Bytes.{number, words_from, floats_from};
-ghost use Rattle.form.specs.Rules.Form.{sum, cut};
+ghost use Rattle.form.specs.Rules.Form.{cut};
 ghost use Rattle.run.specs.Grader.Widths.{full_words, most_tiles};
 ghost use Rattle.run.specs.Grader.Numbers.{control_count, pose_count, car_numbers};
-ghost use Rattle.run.specs.Grader.Saved.{field_bytes, field_at, float_in, fields_with, sound_fields, loaded};
+ghost use Rattle.run.specs.Grader.Saved.{field_bytes, float_in, fields_with, sound_fields, loaded};
 ghost use Rattle.run.specs.Steps.Load.{seeds_read, fields_as, saved_field};
 
-use crate::numbers::{CAR_NUMBERS, POSE_NUMBERS};
+use crate::numbers::{CAR_NUMBERS, CONTROL_NUMBERS, POSE_NUMBERS};
 use crate::saved::{
-    ALL_BYTES, CONTROL_NUMBERS, CONTROLS_AT, COUNT_AT, CREDITED_AT, FLAGS_AT, FUEL_AT, LIMIT_AT,
-    POSES_AT, SEED_AT, SHARE_AT, SeedParts, TICK_AT, WIDE_SEED_AT,
+    ALL_BYTES, CONTROLS_AT, COUNT_AT, CREDITED_AT, FLAGS_AT, FUEL_AT, LIMIT_AT, POSES_AT, SEED_AT,
+    SHARE_AT, SeedParts, TICK_AT, WIDE_SEED_AT,
 };
 use crate::state::Car;
 use crate::widths::FULL_WORDS;
 use crate::{numbers, saved, start, state, words};
+use form::eight::Eight;
 use form::{eight, number, unpack};
 
 // What a save keeps of a run.
@@ -35,20 +36,18 @@ pub(crate) struct SavedRun {
 }
 
 // The number of the four bytes from `at` on.
-fn four_at(full: &[u8], at: usize) -> u32
+fn four_at(full: &[u8; ALL_BYTES], at: usize) -> u32
     ensures { result ≡ number (take 4 (drop at full.now)) }
 {
     number::number_at(full, at, 4) as u32
 }
 
 // The float of the eight bytes from `at` on.
-fn float_at(full: &[u8], at: usize) -> f64
-    requires { at + 8 ≤ length full.now }
+#[tactic(auto, unfolding(form::specs::Rules::Bytes::each_from))]
+fn float_at(full: &[u8; ALL_BYTES], at: usize) -> f64
     ensures { result ≡ float_in (take 8 (drop at full.now)) }
 {
-    let mut x = [0.0; 1];
-    eight::read(&full[at..at + 8], &mut x).unwrap();
-    x[0]
+    f64::of_number(number::number_at(full, at, 8))
 }
 
 // The credited tiles, field 4.
@@ -82,7 +81,7 @@ fn poses_in(full: &[u8; ALL_BYTES]) -> [f64; POSE_NUMBERS]
 }
 
 // The seed's two fields, 0 and 10.
-fn seeds_in(full: &[u8]) -> SeedParts
+fn seeds_in(full: &[u8; ALL_BYTES]) -> SeedParts
     ensures { result ≡ seeds_read (saved_field full.now 0) (saved_field full.now 10) }
 {
     let narrow = number::number_at(full, SEED_AT, 4);

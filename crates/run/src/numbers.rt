@@ -8,7 +8,7 @@ use crate::dynamics::{Force, Motion};
 use crate::state::{Car, Pose, WheelCtl};
 
 // The controls' numbers, five to a wheel.
-const CONTROL_NUMBERS: usize = 20;
+pub(crate) const CONTROL_NUMBERS: usize = 20;
 
 // The controls, then the fuel spent.
 pub const CAR_NUMBERS: usize = CONTROL_NUMBERS + 1;

@@ -1,19 +1,19 @@
 // The call `save`: a run between ticks as bytes (document 02, orders 1 and 3).
-ghost use Rattle.std.specs.Prelude.{◌≡◌, ◌++◌, ◌≤◌, length, take};
+ghost use Rattle.std.specs.Prelude.{◌≡◌, ◌++◌, take, drop};
 ghost use Rattle.form.specs.Rules.Form.{joined};
 ghost use Rattle.run.specs.Grader.Widths.{most_tiles};
 ghost use Rattle.run.specs.Grader.State.{view};
-ghost use Rattle.run.specs.Grader.Numbers.{control_count, pose_count};
+ghost use Rattle.run.specs.Grader.Numbers.{control_count, car_numbers};
 ghost use Rattle.run.specs.Grader.Saved.{fields_of, flags_of, bytes_of};
 ghost use Rattle.run.specs.Grader.Save.{save_check, after_save, save_of};
-ghost use Rattle.run.specs.Steps.Save.{first_fields, last_fields, first_bytes, last_from, all_bytes};
+ghost use Rattle.run.specs.Steps.Save.{first_fields, last_fields, first_bytes, last_from};
 
-use crate::numbers::CAR_NUMBERS;
+use crate::numbers::{CAR_NUMBERS, CONTROL_NUMBERS, POSE_NUMBERS};
 use crate::saved::{
-    ALL_BYTES, CONTROL_NUMBERS, CONTROLS_AT, COUNT_AT, CREDITED_AT, FLAGS_AT, FUEL_AT, LIMIT_AT,
-    POSES_AT, SEED_AT, SHARE_AT, SeedParts, TICK_AT, WIDE_SEED_AT,
+    ALL_BYTES, CONTROLS_AT, COUNT_AT, CREDITED_AT, FLAGS_AT, FUEL_AT, LIMIT_AT, POSES_AT, SEED_AT,
+    SHARE_AT, SeedParts, TICK_AT, WIDE_SEED_AT,
 };
-use crate::state::{Progress, Run, Setup};
+use crate::state::{Car, Progress, Run, Setup};
 use crate::{numbers, saved, state};
 use course::cause::Cause;
 use form::table::Fields;
@@ -47,54 +47,50 @@ pub fn flags_of(first: bool, second: bool, third: bool) -> u32
     u32::from(first) + 2 * u32::from(second) + 4 * u32::from(third)
 }
 
-// Narrow seed, lap share, tick limit and tick, over an output of their length.
-fn put_first(narrow: u64, share: f64, limit: u32, tick: u32, out: &mut [u8])
-    requires { length out.old ≡ first_bytes }
-    ensures { out.new ≡ joined (first_fields narrow share limit tick) }
+// Narrow seed, lap share, tick limit and tick, at the front of the bytes of all fields.
+fn put_first(narrow: u64, share: f64, limit: u32, tick: u32, full: &mut [u8; ALL_BYTES])
+    ensures { full.new ≡ joined (first_fields narrow share limit tick) ++ drop first_bytes full.old }
 {
-    number::put_number(narrow, 4, &mut out[SEED_AT..SHARE_AT]).unwrap();
-    eight::put(&[share], &mut out[SHARE_AT..LIMIT_AT]).unwrap();
-    number::put_number(u64::from(limit), 4, &mut out[LIMIT_AT..TICK_AT]).unwrap();
-    number::put_number(u64::from(tick), 4, &mut out[TICK_AT..CREDITED_AT]).unwrap();
+    number::put_number(narrow, 4, &mut full[SEED_AT..SHARE_AT]).unwrap();
+    eight::put(&[share], &mut full[SHARE_AT..LIMIT_AT]).unwrap();
+    number::put_number(u64::from(limit), 4, &mut full[LIMIT_AT..TICK_AT]).unwrap();
+    number::put_number(u64::from(tick), 4, &mut full[TICK_AT..CREDITED_AT]).unwrap();
 }
 
-// Flags, fuel, controls, poses, tile count and wide seed, in the bytes of all fields.
+// Flags, fuel, controls, poses, tile count and wide seed, behind the credited tiles.
 fn put_last(
     flags: u64,
-    fuel: f64,
-    controls: &[f64],
-    poses: &[f64],
+    car: Car,
+    poses: &[f64; POSE_NUMBERS],
     n: u32,
     wide: u64,
-    full: &mut [u8],
+    full: &mut [u8; ALL_BYTES],
 )
-    requires controls_len { length controls.now ≡ control_count }
-    requires poses_len { length poses.now ≡ pose_count }
-    requires full_len { length full.old ≡ all_bytes }
     ensures { full.new
         ≡ take last_from full.old
-        ++ joined (last_fields flags fuel controls.now poses.now n wide) }
+        ++ joined
+        (last_fields flags car.fuel_spent (take control_count (car_numbers car)) poses.now n wide) }
 {
+    let mut numbers = [0.0; CAR_NUMBERS];
+    numbers::put_car(car, &mut numbers);
     number::put_number(flags, 1, &mut full[FLAGS_AT..FUEL_AT]).unwrap();
-    eight::put(&[fuel], &mut full[FUEL_AT..CONTROLS_AT]).unwrap();
-    eight::put(controls, &mut full[CONTROLS_AT..POSES_AT]).unwrap();
+    eight::put(&[car.fuel_spent], &mut full[FUEL_AT..CONTROLS_AT]).unwrap();
+    eight::put(
+        &numbers[..CONTROL_NUMBERS],
+        &mut full[CONTROLS_AT..POSES_AT],
+    )
+    .unwrap();
     eight::put(poses, &mut full[POSES_AT..COUNT_AT]).unwrap();
     number::put_number(u64::from(n), 2, &mut full[COUNT_AT..WIDE_SEED_AT]).unwrap();
     number::put_number(wide, 8, &mut full[WIDE_SEED_AT..ALL_BYTES]).unwrap();
 }
 
-// Every field of a run, end to end over an output of their length.
-fn put_fields(run: Run, full: &mut [u8])
-    requires { length full.old ≡ all_bytes }
+// Every field of a run, end to end.
+fn put_fields(run: Run, full: &mut [u8; ALL_BYTES])
     ensures { full.new ≡ joined (bytes_of (fields_of (view run))) }
 {
     let setup = run.setup;
     let progress = run.progress;
-    let car = run.car;
-    let credited = run.credited;
-    let poses = run.poses;
-    let mut numbers = [0.0; CAR_NUMBERS];
-    numbers::put_car(car, &mut numbers);
     let flags = flags_of(progress.lap, progress.ended, setup.fallback);
     let seed = SeedParts::of(run.seed);
     put_first(
@@ -102,14 +98,13 @@ fn put_fields(run: Run, full: &mut [u8])
         setup.lap_share,
         setup.tick_limit,
         progress.tick,
-        &mut full[SEED_AT..CREDITED_AT],
+        full,
     );
-    eight::put(&credited, &mut full[CREDITED_AT..FLAGS_AT]).unwrap();
+    eight::put(&run.credited, &mut full[CREDITED_AT..FLAGS_AT]).unwrap();
     put_last(
         u64::from(flags),
-        car.fuel_spent,
-        &numbers[..CONTROL_NUMBERS],
-        &poses,
+        run.car,
+        &run.poses,
         setup.n,
         seed.wide,
         full,
@@ -120,9 +115,7 @@ fn put_fields(run: Run, full: &mut [u8])
 pub fn save(run: Run, out: &mut [u8]) -> Result<u32, Cause>
     ensures { after_save result out.new ≡ save_of most_tiles (view run) out.old }
 {
-    let setup = run.setup;
-    let progress = run.progress;
-    save_check(setup, progress, out.len())?;
+    save_check(run.setup, run.progress, out.len())?;
     let mut full = [0u8; ALL_BYTES];
     put_fields(run, &mut full);
     let rows = saved::rows();

@@ -5,15 +5,12 @@ ghost use Rattle.run.specs.Grader.Saved.{second_form};
 ghost use Rattle.run.specs.Steps.Save.{seed_parts};
 ghost use Rattle.run.specs.Steps.Load.{seed_in};
 
-use crate::numbers::{CAR_NUMBERS, POSE_NUMBERS};
+use crate::numbers::{CONTROL_NUMBERS, POSE_NUMBERS};
 use crate::widths::FULL_WORDS;
 use form::table::Row;
 
 // How many fields there are.
 pub(crate) const FIELDS: usize = 11;
-
-// The numbers of the four controls, before the fuel spent.
-pub(crate) const CONTROL_NUMBERS: usize = CAR_NUMBERS - 1;
 
 // Where the fields begin, in bit order, when they lie end to end.
 pub(crate) const SEED_AT: usize = 0;
