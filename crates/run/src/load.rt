@@ -19,7 +19,7 @@ use form::eight::Eight;
 use form::{eight, number, unpack};
 
 // What a save keeps of a run.
-// Kept: the poses are sixteen numbers, as in `Run`, whose form the C interface has (host/grader.h).
+// Kept with the poses as sixteen numbers, which is no plainer as four: `run_of` copies them into a `Run`, which has them so (state.rt).
 #[derive(Clone, Copy)]
 pub(crate) struct SavedRun {
     pub seed: u64,
