@@ -26,11 +26,11 @@ use run::{drive, numbers, settle, sheet, start};
 // Words and numbers of a call, and of its answer.
 pub const CALL_WORDS: usize = 4;
 
-pub const CALL_NUMBERS: usize = 20;
+pub const CALL_NUMBERS: usize = numbers::MOTION_NUMBERS;
 
 pub const ANSWER_WORDS: usize = 4;
 
-pub const ANSWER_NUMBERS: usize = 12;
+pub const ANSWER_NUMBERS: usize = numbers::FORCE_NUMBERS;
 
 // What a run starts with beside its course: lap share, tick limit and the wheels' poses.
 #[derive(Clone, Copy)]
