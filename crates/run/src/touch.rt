@@ -57,7 +57,7 @@ impl Columns<'_> {
     }
 
     // All cells of the wheels may be looked up: no cause 10. One that is the same as the cell before it needs no look-up of its own.
-    pub(crate) fn stance_sound(self, n: usize, stance: &Stance) -> bool
+    fn stance_sound(self, n: usize, stance: &Stance) -> bool
         ensures { result
             ≡ sound_poses self.entry.offsets.now self.entry.list.now n stance.now.poses }
     {

@@ -1,5 +1,5 @@
--- What the checks of start, settle and restore hand on (document 01, "Refusals by cause", 10; document 02, order 1): where the wheels stand, as private
--- functions of `start`, `settle` and `restore` say it. Assumes nothing.
+-- What the checks of start, settle and restore hand on (document 01, "Refusals by cause", 10; document 02, order 1): where the wheels stand, as `Columns::stand` and
+-- private functions of `start`, `settle` and `restore` say it. Assumes nothing.
 use Rattle.std.specs.Prelude.{◌≡◌, List, Result, Ok, Err, MatchResult}
 use Rattle.course.specs.declared.cause.Cause.{Cause}
 use Rattle.run.specs.declared.state.Pose.{Pose}
