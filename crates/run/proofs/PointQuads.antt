@@ -8,10 +8,10 @@ use native.Mathlib.Omega.{arith}
 use lib.IntN.{pos}
 use lib.Dec.{T, ltb, lit≤}
 use borrow.Author.Tests.{le-ltb}
-use lib.Ieee.{Float, nan, inf, fin, binary64, up, down, round, unlike, sum, add, sub, mul, neg, lt, is_nan}
+use lib.Ieee.{Float, nan, inf, fin, binary64, of_int, up, down, round, unlike, sum, add, sub, mul, neg, lt, is_nan}
 use lib.Ieee.Fits.{down_pos}
 use lib.Ieee.Scale.{finite, round_same}
-use Rattle.course.specs.Rules.Arithmetic.{◌⊕◌, ◌⊖◌, ◌⊗◌, decimal}
+use Rattle.course.specs.Rules.Arithmetic.{◌⊕◌, ◌⊖◌, ◌⊗◌, natural, decimal}
 use Rattle.course.specs.Rules.Constants.{f64_max, f64_min}
 use Rattle.course.specs.Rules.Numeric.{min_of, max_of, least_of, greatest_of}
 use Rattle.run.specs.Rules.Overlap.{least_on, greatest_on, apart_on, apart_along, apart_by_edges, overlap_of}
@@ -114,3 +114,8 @@ pub points-overlap : (x y z w : Float) → T (finite x) → T (finite y) → T (
     → overlap_of (rectangle x y x y) (rectangle z w z w) ≡ true
 unfolding overlap_of
 points-overlap x y z w f g h k = ap₂ (λ (p q : Bool). not (p || q)) (by-no-edge x y f g x y z w f g h k) (by-no-edge z w h k x y z w f g h k)
+
+-- finiteness is needed: a point at infinity is apart from the origin
+infinity-apart : overlap_of (rectangle (inf false) (natural 0) (inf false) (natural 0)) (rectangle (natural 0) (natural 0) (natural 0) (natural 0)) ≡ false
+unfolding overlap_of apart_by_edges apart_along apart_on least_on greatest_on least_of greatest_of min_of max_of f64_max f64_min natural decimal of_int round add sub mul neg lt is_nan
+infinity-apart = refl
