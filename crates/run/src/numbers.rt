@@ -26,6 +26,7 @@ pub const SETTLE_NUMBERS: usize = MOTION_NUMBERS;
 pub const FORCE_NUMBERS: usize = 12;
 
 // A record of so many numbers.
+// Kept as one trait for both ways, though a motion is only read here and a force only written: two would tell count and numbers of a record twice.
 pub(crate) trait Numbers: Copy {
     const COUNT: usize;
 

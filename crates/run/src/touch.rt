@@ -94,6 +94,8 @@ fn ids_below(ids: &[u32], n: usize) -> bool
 }
 
 // A course as a contact has it: its columns, and how many tiles it has. It has some, a set has room for them, and all of them are lent.
+// Kept as made behind the check by each call that makes a contact: a check that handed it on beside the stance would answer a pair, which is no
+// plainer, since each call would take it apart.
 #[derive(Clone, Copy)]
 pub(crate) struct Course<'a> {
     pub columns: Columns<'a>,

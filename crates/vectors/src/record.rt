@@ -49,7 +49,7 @@ impl Value for f64 {
     }
 }
 
-// Its low half.
+// Its low half. Kept beside form's `Eight`, whose values are eight bytes wide.
 impl Value for u32 {
     ghost of_word = { λ w. w % 2 ^ 32 };
 
@@ -116,6 +116,7 @@ impl<'a> Record<'a> {
     }
 
     // What every `step`-th word from word `from` on stands for, into the column.
+    // Kept with a word's place worked out: zipped with a range of places, which ends, a column longer than the record would stay as it was behind it.
     fn fill_by<V: Value>(self, from: usize, step: usize, col: &mut [V]) {
         for (i, place) in col.iter_mut().enumerate() {
             let at = i.saturating_mul(step).saturating_add(from);
