@@ -4,7 +4,7 @@ use mathlib.Core.Path.{◌≡◌, refl, sym, ap, ap₂, ◌∙◌}
 use mathlib.Core.Bool.{Bool, true, false, cond, not, true≢false}
 use Rattle.std.specs.Option.{is_none}
 use Rattle.std.proofs.lemmas.Nat.{pow_pos}
-use mathlib.Core.List.{List, [], ◌∷◌, ◌++◌, append-nil}
+use mathlib.Core.List.{List, [], ◌∷◌, ◌++◌, map, append-nil}
 use native.Mathlib.Nat.{pow-suc, pow-le-pow_right, mul-le-mul_left, mul-add, mul_assoc, mul_comm}
 use native.Mathlib.Numerals.{add-one}
 use native.Mathlib.Omega.{arith}
@@ -53,6 +53,15 @@ pub widths-of : (ws : List ℕ) (zs : List Bool) → widths (rows_of ws zs) ≡ 
 unfolding rows_of
 widths-of [] zs = refl
 widths-of (w ∷ ws) zs = ap (λ (l : List ℕ). w ∷ l) (widths-of ws (drop 1 zs))
+
+-- a table's marks; and each table is that of its widths and marks
+abbrev pub marks : List Row → List Bool
+marks = map (λ (r : Row). r.zeros)
+
+pub rows-back : (rows : List Row) → rows_of (widths rows) (marks rows) ≡ rows
+unfolding rows_of
+rows-back [] = refl
+rows-back (r ∷ rows) = ap (λ (l : List Row). r ∷ l) (rows-back rows)
 
 -- ---- the map
 bit-small : (b : Bool) → bit b ≤ 1
