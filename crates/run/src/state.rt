@@ -4,12 +4,13 @@ ghost use Rattle.std.specs.Prelude.{◌≡◌, ◌&&◌, leb};
 ghost use Rattle.run.specs.Grader.Widths.{full_words};
 ghost use Rattle.run.specs.Grader.State.{unfit, view};
 ghost use Rattle.run.specs.Grader.Start.{zero_state};
-ghost use Rattle.run.specs.Rules.Arguments.{in_range, pose_ok, poses_ok};
+ghost use Rattle.run.specs.Rules.Arguments.{in_range, pose_ok, poses_ok, short_columns};
 
 use crate::numbers::POSE_NUMBERS;
 use crate::widths::{FULL_WORDS, WHEEL_WORDS};
 use course::cause::Cause;
-use course::numeric;
+use course::constants::OFFSET_COUNT;
+use course::{constants, numeric};
 
 // A wheel's control record: what it keeps from drive to drive.
 #[repr(C)]
@@ -131,6 +132,16 @@ pub fn poses_ok(p: [Pose; 4]) -> bool
     ensures { result ≡ poses_ok p }
 {
     p.iter().all(|pose| pose_ok(*pose))
+}
+
+// A column lent with a course of n points is short, by the lengths of tiles and offsets (cause 2).
+#[tactic(auto, unfolding(crate::specs::Rules::Arguments::short_columns))]
+pub fn is_short(n: u32, tiles: usize, offsets: usize) -> bool
+    ensures { result ≡ short_columns n tiles offsets }
+{
+    let m = constants::column_length(n as usize);
+    let short = tiles < 8 * m;
+    short | (offsets < OFFSET_COUNT)
 }
 
 // A course of n tiles can have a run where sets hold `most` tiles: it has some, and a set has room for them (causes 2, 4 and 11).

@@ -14,10 +14,9 @@ ghost use Rattle.run.specs.Grader.Widths.{full_words, most_tiles};
 use crate::quad::{Sided, Stance};
 use crate::state::Pose;
 use crate::widths::FULL_WORDS;
-use crate::words;
+use crate::{state, words};
 use course::cause::Cause;
-use course::constants::OFFSET_COUNT;
-use course::{constants, index, tiles};
+use course::{index, tiles};
 
 // A course's columns as a host lends them: the corners of its tiles, and for each cell of the grid which part of the list is its tiles.
 #[derive(Clone, Copy)]
@@ -47,13 +46,11 @@ impl Columns<'_> {
     }
 
     // A column lent with a course of n points is short (cause 2).
-    #[tactic(auto, unfolding(crate::specs::Grader::State::short_of, crate::specs::Rules::Arguments::short_columns))]
+    #[tactic(auto, unfolding(crate::specs::Grader::State::short_of))]
     pub fn is_short(self, n: u32) -> bool
         ensures { result ≡ short_of n (lent_columns self.entry) }
     {
-        let m = constants::column_length(n as usize);
-        let short = self.tiles.len() < 8 * m;
-        short | (self.offsets.len() < OFFSET_COUNT)
+        state::is_short(n, self.tiles.len(), self.offsets.len())
     }
 
     // All cells of the wheels may be looked up: no cause 10. One that is the same as the cell before it needs no look-up of its own.
