@@ -9,6 +9,7 @@ use crate::widths::MOST_TILES;
 use course::cause::Cause;
 
 // The figures of a run.
+#[repr(C)]
 #[derive(Clone, Copy, Default)]
 pub struct RunSheet {
     pub tick: u32,
