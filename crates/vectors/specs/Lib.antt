@@ -1,0 +1,2 @@
+-- What the contracts of the test programs' library cite.
+pub mod Words
