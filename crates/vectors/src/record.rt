@@ -5,7 +5,7 @@ ghost use Rattle.std.specs.Int.{w64, from_le_bytes};
 ghost use Rattle.std.specs.Iterator.{at_most};
 ghost use Rattle.std.specs.Float.{binary64};
 ghost use Rattle.std.specs.Float.Ieee.{of_bits};
-ghost use Rattle.vectors.specs.Words.{words};
+ghost use Rattle.std.specs.Simd.{first_chunks};
 
 use crate::columns::front_mut;
 use form::eight::Eight;
@@ -78,7 +78,7 @@ impl<'a> Record<'a> {
 
     // The list's whole words.
     fn words(self) -> &'a [[u8; 8]]
-        ensures { result.now ≡ words self.entry.list.now }
+        ensures { result.now ≡ first_chunks 8 (length self.entry.list.now / 8) self.entry.list.now }
     {
         let (words, _) = self.list.as_chunks();
         words
@@ -86,8 +86,8 @@ impl<'a> Record<'a> {
 
     // Word number `at`, from 0; 0 past the list's end.
     pub fn word(self, at: usize) -> u64
-        ensures { MatchOption (slice_get (words self.entry.list.now) at) (result ≡ 0)
-            (λ w. result ≡ from_le_bytes w64 w) }
+        ensures { MatchOption (slice_get (first_chunks 8 (length self.entry.list.now / 8) self.entry.list.now) at)
+            (result ≡ 0) (λ w. result ≡ from_le_bytes w64 w) }
     {
         self.words()
             .get(at)
@@ -96,16 +96,16 @@ impl<'a> Record<'a> {
 
     // The float whose bits are the word.
     pub fn float(self, at: usize) -> f64
-        ensures { MatchOption (slice_get (words self.entry.list.now) at) (result ≡ of_bits binary64 0)
-            (λ w. result ≡ of_bits binary64 (from_le_bytes w64 w)) }
+        ensures { MatchOption (slice_get (first_chunks 8 (length self.entry.list.now / 8) self.entry.list.now) at)
+            (result ≡ of_bits binary64 0) (λ w. result ≡ of_bits binary64 (from_le_bytes w64 w)) }
     {
         f64::of_word(self.word(at))
     }
 
     // The low half of the word.
     pub fn low(self, at: usize) -> u32
-        ensures { MatchOption (slice_get (words self.entry.list.now) at) (result ≡ 0)
-            (λ w. result ≡ from_le_bytes w64 w % 2 ^ 32) }
+        ensures { MatchOption (slice_get (first_chunks 8 (length self.entry.list.now / 8) self.entry.list.now) at)
+            (result ≡ 0) (λ w. result ≡ from_le_bytes w64 w % 2 ^ 32) }
     {
         u32::of_word(self.word(at))
     }
@@ -113,8 +113,8 @@ impl<'a> Record<'a> {
     // The low bit of the word.
     // Kept as a remainder: the language has no `bool` of a number.
     pub fn flag(self, at: usize) -> bool
-        ensures { MatchOption (slice_get (words self.entry.list.now) at) (result ≡ false)
-            (λ w. result ≡ nat_eq (from_le_bytes w64 w % 2) 1) }
+        ensures { MatchOption (slice_get (first_chunks 8 (length self.entry.list.now / 8) self.entry.list.now) at)
+            (result ≡ false) (λ w. result ≡ nat_eq (from_le_bytes w64 w % 2) 1) }
     {
         self.word(at) % 2 == 1
     }

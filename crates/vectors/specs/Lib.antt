@@ -1,2 +1,0 @@
--- What the contracts of the test programs' library cite.
-pub mod Words
