@@ -133,6 +133,7 @@ fn main(rt: HostRuntime) -> io::Result<()> {
     let mut quads = vec![in alloc; UNTOUCHED; 20100]?;
     let mut white = vec![in alloc; UNTOUCHED_MARK; 2600]?;
     let mut out = BufWriter::new(alloc, io::writer(&rt))?;
+    // Kept with the length beside: `read_list` says why.
     let n = vectors::read_list(&mut rt.stdin(), &mut list)?;
     for (request, record) in Records::new(&list[..n]) {
         match request {

@@ -77,6 +77,7 @@ fn main(rt: HostRuntime) -> io::Result<()> {
     let mut list = vec![in rt.alloc(); 0; BLOCK]?;
     let mut columns = Columns::new(rt.alloc(), 30000)?;
     let mut out = BufWriter::new(rt.alloc(), io::writer(&rt))?;
+    // Kept with the length beside: `read_list` says why.
     let n = vectors::read_list(&mut rt.stdin(), &mut list)?;
     for (request, record) in Records::new(&list[..n]) {
         columns.reset();

@@ -106,6 +106,7 @@ fn main(rt: HostRuntime) -> io::Result<()> {
     let mut calls = Calls::new(alloc)?;
     let mut out = BufWriter::new(alloc, io::writer(&rt))?;
     for _ in 0..BLOCKS {
+        // Kept with the length beside: `read_list` says why.
         let n = vectors::read_list(&mut rt.stdin(), &mut block)?;
         for (_, record) in Records::<Log>::new(&block[..n]) {
             replay_log(&mut out, record, &mut columns, &mut calls)?;

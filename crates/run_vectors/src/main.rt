@@ -68,6 +68,7 @@ fn main(rt: HostRuntime) -> io::Result<()> {
     let mut run = Run::default();
     let mut out = BufWriter::new(rt.alloc(), io::writer(&rt))?;
     for _ in 0..BLOCKS {
+        // Kept with the length beside: `read_list` says why.
         let n = vectors::read_list(&mut rt.stdin(), &mut block)?;
         for (request, record) in Records::new(&block[..n]) {
             replay(&mut out, request, record, &mut columns, &mut run)?;

@@ -31,7 +31,8 @@ use std::io::Read;
 // part, so a peer that waits for answers to it is not waited for. Where a read fails, its error is the answer, and nothing is said
 // of the part.
 // Kept as a loop over a part that is lent: after `read_to_end` of a `take` no contract says where the input stands, nor, where its
-// bytes are not known, that no more came than the limit.
+// bytes are not known, that no more came than the limit. And with the length beside, which the programs go by: a `Vec` that is cut to what
+// came is filled anew for the next part, so that a list of no record took run_vectors six times the instructions.
 pub fn read_list<R: Read>(input: &mut R, part: &mut [u8]) -> io::Result<usize>
     ensures bound { ReadsAtMost result part.new }
     ensures bytes { IfOk result (λ n. Consumes (R.remaining input.old) (R.remaining input.new) (take n part.new)) }
