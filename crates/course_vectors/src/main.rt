@@ -127,14 +127,15 @@ fn replay_lookup<W: Write>(out: &mut W, record: Record<'_>, columns: &Columns) -
 
 fn main(rt: HostRuntime) -> io::Result<()> {
     let alloc = rt.alloc();
-    let mut list = Vec::with_capacity(alloc, LIST)?;
+    let mut list = vec![in alloc; 0; LIST]?;
     let mut given = Given::new(alloc)?;
     let mut columns = Columns::new(alloc, 450000)?;
     let mut quads = vec![in alloc; UNTOUCHED; 20100]?;
     let mut white = vec![in alloc; UNTOUCHED_MARK; 2600]?;
     let mut out = BufWriter::new(alloc, io::writer(&rt))?;
-    vectors::read_list(&mut rt.stdin(), LIST, &mut list)?;
-    for (request, record) in Records::new(&list) {
+    // Kept with the length beside: `read_list` says why.
+    let n = vectors::read_list(&mut rt.stdin(), &mut list)?;
+    for (request, record) in Records::new(&list[..n]) {
         match request {
             Request::Give => given.give(record),
             Request::Repeat => given.repeat(record),

@@ -74,11 +74,12 @@ fn call(
 }
 
 fn main(rt: HostRuntime) -> io::Result<()> {
-    let mut list = Vec::with_capacity(rt.alloc(), BLOCK)?;
+    let mut list = vec![in rt.alloc(); 0; BLOCK]?;
     let mut columns = Columns::new(rt.alloc(), 30000)?;
     let mut out = BufWriter::new(rt.alloc(), io::writer(&rt))?;
-    vectors::read_list(&mut rt.stdin(), BLOCK, &mut list)?;
-    for (request, record) in Records::new(&list) {
+    // Kept with the length beside: `read_list` says why.
+    let n = vectors::read_list(&mut rt.stdin(), &mut list)?;
+    for (request, record) in Records::new(&list[..n]) {
         columns.reset();
         line::laid(&mut out, call(request, record, &mut columns))?;
         columns.lines(&mut out)?;

@@ -82,10 +82,11 @@ fn line_answer<W: Write>(out: &mut W, operation: Operation, record: Record<'_>) 
 }
 
 fn main(rt: HostRuntime) -> io::Result<()> {
-    let mut list = Vec::with_capacity(rt.alloc(), BLOCK)?;
+    let mut list = vec![in rt.alloc(); 0; BLOCK]?;
     let mut out = BufWriter::new(rt.alloc(), io::writer(&rt))?;
-    vectors::read_list(&mut rt.stdin(), BLOCK, &mut list)?;
-    for (operation, record) in Records::new(&list) {
+    // Kept with the length beside: `read_list` says why.
+    let n = vectors::read_list(&mut rt.stdin(), &mut list)?;
+    for (operation, record) in Records::new(&list[..n]) {
         line_answer(&mut out, operation, record)?;
     }
     out.flush()

@@ -101,13 +101,14 @@ fn replay_log<W: Write>(
 
 fn main(rt: HostRuntime) -> io::Result<()> {
     let alloc = rt.alloc();
-    let mut block = Vec::with_capacity(alloc, BLOCK)?;
+    let mut block = vec![in alloc; 0; BLOCK]?;
     let mut columns = Columns::new(alloc, 30000)?;
     let mut calls = Calls::new(alloc)?;
     let mut out = BufWriter::new(alloc, io::writer(&rt))?;
     for _ in 0..BLOCKS {
-        vectors::read_list(&mut rt.stdin(), BLOCK, &mut block)?;
-        for (_, record) in Records::<Log>::new(&block) {
+        // Kept with the length beside: `read_list` says why.
+        let n = vectors::read_list(&mut rt.stdin(), &mut block)?;
+        for (_, record) in Records::<Log>::new(&block[..n]) {
             replay_log(&mut out, record, &mut columns, &mut calls)?;
         }
         out.flush()?;

@@ -63,13 +63,14 @@ fn replay<W: Write>(
 }
 
 fn main(rt: HostRuntime) -> io::Result<()> {
-    let mut block = Vec::with_capacity(rt.alloc(), BLOCK)?;
+    let mut block = vec![in rt.alloc(); 0; BLOCK]?;
     let mut columns = Columns::new(rt.alloc(), 60000)?;
     let mut run = Run::default();
     let mut out = BufWriter::new(rt.alloc(), io::writer(&rt))?;
     for _ in 0..BLOCKS {
-        vectors::read_list(&mut rt.stdin(), BLOCK, &mut block)?;
-        for (request, record) in Records::new(&block) {
+        // Kept with the length beside: `read_list` says why.
+        let n = vectors::read_list(&mut rt.stdin(), &mut block)?;
+        for (request, record) in Records::new(&block[..n]) {
             replay(&mut out, request, record, &mut columns, &mut run)?;
         }
         out.flush()?;

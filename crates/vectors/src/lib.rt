@@ -15,7 +15,7 @@
 // answers.
 #![tactic(auto)]
 
-ghost use Rattle.std.specs.Prelude.{◌≡◌, ◌<◌, ◌≤◌, IfOk, OnOk, length, take, vec_len};
+ghost use Rattle.std.specs.Prelude.{◌<◌, IfOk, length, take};
 ghost use Rattle.std.specs.Io.{ReadsAtMost};
 ghost use Rattle.std.specs.Io.KnownBytes.{Consumes, IsAtEnd};
 
@@ -27,23 +27,13 @@ pub mod record;
 use std::io;
 use std::io::Read;
 
-// Reads the next part of a list, in place of what the vector held: `most` bytes, or fewer where the input ends. Answers how many
-// came. Where a read fails, its error is the answer, and nothing is said of the vector.
-pub fn read_list<R: Read>(input: &mut R, most: usize, list: &mut Vec<u8>) -> io::Result<usize>
-    ensures length { IfOk result (λ n. (n ≡ vec_len list.new) × (n ≤ most)) }
-    ensures bytes { OnOk result (Consumes (R.remaining input.old) (R.remaining input.new) list.new.items) }
-    ensures end { IfOk result (λ n. n < most → IsAtEnd (R.remaining input.new)) }
-{
-    list.resize(most, 0)?;
-    let n = fill(input, list)?;
-    list.truncate(n);
-    Ok(n)
-}
-
-// Reads until the part is full or the input ends. No read follows a full part, so a peer that waits for answers to it is not waited for.
-// Kept as a loop: after `read_to_end` of a `take` no contract says where the input stands, nor, where its bytes are not known, that
-// no more came than the limit.
-fn fill<R: Read>(input: &mut R, part: &mut [u8]) -> io::Result<usize>
+// Reads the next part of a list until the part is full or the input ends, and answers how many bytes came. No read follows a full
+// part, so a peer that waits for answers to it is not waited for. Where a read fails, its error is the answer, and nothing is said
+// of the part.
+// Kept as a loop over a part that is lent: after `read_to_end` of a `take` no contract says where the input stands, nor, where its
+// bytes are not known, that no more came than the limit. And with the length beside, which the programs go by: a `Vec` that is cut to what
+// came is filled anew for the next part, so that a list of no record took run_vectors six times the instructions.
+pub fn read_list<R: Read>(input: &mut R, part: &mut [u8]) -> io::Result<usize>
     ensures bound { ReadsAtMost result part.new }
     ensures bytes { IfOk result (λ n. Consumes (R.remaining input.old) (R.remaining input.new) (take n part.new)) }
     ensures end { IfOk result (λ n. n < length part.new → IsAtEnd (R.remaining input.new)) }
@@ -64,15 +54,15 @@ mod tests {
     use super::*;
     use std::test::Fail;
 
-    // With memory at hand a list comes part after part, each in place of the one before.
+    // A list comes part after part, each from the front of what is lent.
     #[test]
     fn list_is_read_in_parts(rt: HostRuntime) -> Result<(), Fail> {
         let mut input: &[u8] = &[1, 2, 3];
-        let mut list = Vec::new(rt.alloc());
-        assert_eq!(rt; read_list(&mut input, 2, &mut list)?, 2);
-        assert_eq!(rt; list.as_slice(), [1u8, 2].as_slice());
-        assert_eq!(rt; read_list(&mut input, 2, &mut list)?, 1);
-        assert_eq!(rt; list.as_slice(), [3u8].as_slice());
+        let mut part = [0; 2];
+        assert_eq!(rt; read_list(&mut input, &mut part)?, 2);
+        assert_eq!(rt; part, [1u8, 2]);
+        assert_eq!(rt; read_list(&mut input, &mut part)?, 1);
+        assert_eq!(rt; part, [3u8, 2]);
         Ok(())
     }
 }

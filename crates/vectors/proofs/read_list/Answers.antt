@@ -1,11 +1,11 @@
--- `vectors::fill` meets its contract: a read fills the part on from where the reads before ended. Assumes nothing.
+-- `vectors::read_list` meets its contract: a read fills the part on from where the reads before ended. Assumes nothing.
 use Rattle.std.proofs.Common.{◌≡◌, ℕ, ◌+◌, ◌-◌, ◌≤◌, List, ◌++◌, rules, length, take, drop, sym, ap, ◌∙◌, subst, le_refl, drop_at, length-take-le}
 use Rattle.std.proofs.lemmas.Slice.{take-put_mid_below}
 use Rattle.std.specs.Io.KnownBytes.{Consumes}
 use Rattle.std.proofs.KnownBytes.{Consumes-trans}
 use borrow.Rule.Slice.PartMut.{put_mid, post_of}
 use lib.Seq.{take-add, take-append-le}
-use Rattle.vectors.proofs.fill.Goals as goal
+use Rattle.vectors.proofs.read_list.Goals as goal
 
 -- the first n bytes that were read into the part from a place on stand there, behind what stood before them
 read-behind : (a n : ℕ) (xs ys : List ℕ) → a ≤ length xs → n ≤ length ys → take a xs ++ take n ys ≡ take (a + n) (put_mid a (length xs - a) xs ys)
