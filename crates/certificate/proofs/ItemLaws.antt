@@ -22,7 +22,7 @@ use Rattle.run.proofs.CheckLaws.{number-some}
 use Rattle.run.proofs.SavedLaws.{none-loaded}
 use Rattle.certificate.specs.Rules.Answers.{Reply}
 use Rattle.certificate.specs.Rules.Answers.Reply.{answered, decided}
-use Rattle.certificate.specs.Grader.Calls.{Call, Replied, reply_of, replies_of, Request, Going, going, Went, went, saves_after, state_next, request_of, requests_said, going_after}
+use Rattle.certificate.specs.Grader.Calls.{Call, Replied, reply_of, replies_of, state_after, Request, Going, going, Went, went, saves_after, state_next, request_of, requests_said, going_after}
 use Rattle.certificate.specs.Claim.Scorer.{History, KeptCalls, drives, settles, score, save_number, restore_number, noted, taken_up, after_item, after_items}
 use Rattle.certificate.specs.Claim.Items.{Lending, lent_by, lengths_of, CourseCall, call_of, told_of, CourseItem, request_by, item_by, requests_of, items_of, reply_to, replies_to, Sums, KeptSums, kept_sums, was_accepted, sums_after, sums_over}
 use Rattle.certificate.proofs.ScoreLaws.{sums_of, one-sums}
@@ -205,3 +205,8 @@ unfolding requests_said request_of replies_of
 calls-said m most [] g = refl
 calls-said m most (c ∷ cs) g =
     ap (λ (r : List Reply). answered (reply_of m most g.state c).answer ∷ r) (calls-said m most cs (going (reply_of m most g.state c).state g.saves))
+
+pub calls-going : (m most : ℕ) (cs : List Call) (g : Going) → (going_after m most g (map Request.call cs)).state ≡ state_after m most g.state cs
+unfolding going_after request_of state_after
+calls-going m most [] g = refl
+calls-going m most (c ∷ cs) g = calls-going m most cs (going (reply_of m most g.state c).state g.saves)

@@ -1,7 +1,9 @@
--- Bounds on the size of a result: `Bounded x n` is |x| ≤ n, n a whole number. Rounding keeps such a bound. Assumes nothing.
-use Rattle.std.proofs.Common.{◌≡◌, ℕ, zero, suc, ◌+◌, ◌*◌, ◌^◌, ◌<◌, ◌≤◌, Bool, true, false, cond, not, ◌&&◌, ◌||◌, T, eqb, ltb, sym, refl, ap, ◌∙◌, subst, true≢false, le_trans, le_of_eq, le_of_lt, mul-one, mul_right_comm, le_of_mul-le-mul_right, lit≤, eqb→eq, ltb→lt}
-use lib.Ieee.{Float, nan, inf, fin, Format, binary64, prec, low, emax, up, down, round, units, odd, neg, le}
-use lib.Ieee.Fits.{down_pos, and_l, and_r, round_is}
+-- Bounds on the size of a result: `Bounded x n` is |x| ≤ n, n a whole number. Rounding, a quotient and a sum keep such bounds. Assumes nothing.
+use Rattle.std.proofs.Common.{◌≡◌, ℕ, zero, suc, ◌+◌, ◌-◌, ◌*◌, ◌^◌, ◌<◌, ◌≤◌, Bool, true, false, cond, not, ◌&&◌, ◌||◌, T, eqb, ltb, ℤ, sym, refl, ap, ◌∙◌, subst, true≢false, le_trans, le_of_eq, le_of_lt, mul-le-mul_right, mul_assoc, mul_comm, add-mul, mul-le-mul, mul-pos, mul-one, mul_right_comm, le_of_mul-le-mul_right, arith, lit≤, eqb→eq, ltb→lt}
+use native.Mathlib.Nat.{mul-mul-mul_comm}
+use mathlib.Core.Bool.{beq}
+use lib.Ieee.{Float, nan, inf, fin, Format, binary64, prec, low, emax, up, down, round, units, odd, neg, le, add, sum, mul, div, unlike}
+use lib.Ieee.Fits.{up_pos, down_pos, and_l, and_r, round_is}
 use lib.Ieee.Exact.{HasValue}
 use lib.Ieee.Back.{round_whole}
 use lib.Ieee.Order.{round_mono}
@@ -70,7 +72,7 @@ or-ge a b t = go (ltb b a) (eqb a b) (ltb→lt b a) (eqb→eq a b) t
 under : (x p y q n : ℕ) → 0 < q → x * q ≤ y * p → y * 1 ≡ n * q → x ≤ n * p
 under x p y q n Q h e = le_of_mul-le-mul_right (le_trans h (le_of_eq (ap (λ (z : ℕ). z * p) (sym (mul-one y) ∙ e) ∙ mul_right_comm n q p))) Q
 
-bounded-of-le : (x y : Float) (n : ℕ) → T (plain x) → HasValue y false n 1 → T (le x y) → Bounded x n
+pub bounded-of-le : (x y : Float) (n : ℕ) → T (plain x) → HasValue y false n 1 → T (le x y) → Bounded x n
 unfolding le
 bounded-of-le nan y n p h t = absurd p
 bounded-of-le (inf true) y n p h t = absurd p
@@ -112,3 +114,64 @@ plain-bounded a b n B N h =
 pub round-bounded : (s : Bool) (a b n : ℕ) → 0 < b → n ≤ 2 ^ 53 → a ≤ n * b → Bounded (round binary64 s a b) n
 round-bounded false a b n B N h = plain-bounded a b n B N h
 round-bounded true a b n B N h = subst (λ (x : Float). Bounded x n) (sym (neg-round binary64 a b)) (bounded-neg (round binary64 false a b) n (plain-bounded a b n B N h))
+
+-- ---- a quotient by n · 2 ^ d, and a sum
+cross : (x e p d q n : ℕ) → x ≤ p * e → p * d ≤ q * n → x * d ≤ q * (n * e)
+cross x e p d q n h k = le_trans (mul-le-mul_right d h) (le_trans (le_of_eq (mul_right_comm p e d)) (le_trans (mul-le-mul_right e k) (le_of_eq (mul_assoc q n e))))
+
+pub div-bounded : (x : Float) (n : ℕ) (d : ℤ) (p q : ℕ) → Bounded x p → 0 < n → p * down d ≤ q * (n * up d) → q ≤ 2 ^ 53 → Bounded (div binary64 x (fin false n d)) q
+unfolding div
+div-bounded nan n d p q h N k Q = absurd h
+div-bounded (inf s) n d p q h N k Q = absurd h
+div-bounded (fin s m e) n d p q h N k Q =
+    go (eqb n 0) (eqb→eq n 0)
+    (round-bounded (unlike s false) (m * up e * down d) (n * up d * down e) q (mul-pos (mul-pos N (up_pos d)) (down_pos e)) Q (cross (m * up e) (down e) p (down d) q (n * up d) h k))
+  where
+    go : (b : Bool) → (T b → n ≡ 0) → Bounded (round binary64 (unlike s false) (m * up e * down d) (n * up d * down e)) q
+        → Bounded (cond b (cond (eqb m 0) nan (inf (unlike s false))) (round binary64 (unlike s false) (m * up e * down d) (n * up d * down e))) q
+    go true f r = let z : n ≡ 0 = f tt in absurd (omega arith)
+    go false f r = r
+
+both : (a b p q c : ℕ) → a ≤ p * c → b ≤ q * c → a + b ≤ (p + q) * c
+both a b p q c h k = subst (λ (z : ℕ). a + b ≤ z) (sym (add-mul p q c)) (omega arith)
+
+less-l : (a b x : ℕ) → a + b ≤ x → a - b ≤ x
+less-l a b x h = omega arith
+
+less-r : (a b x : ℕ) → a + b ≤ x → b - a ≤ x
+less-r a b x h = omega arith
+
+sum-bounded : (s : Bool) (a : ℕ) (t : Bool) (b c n : ℕ) → 0 < c → n ≤ 2 ^ 53 → a + b ≤ n * c → Bounded (sum binary64 s a t b c) n
+unfolding sum
+sum-bounded s a t b c n C N h =
+    go (beq s t) (ltb a b) (round binary64 s (a + b) c) (round binary64 t (b - a) c) (round binary64 (s && ltb b a) (a - b) c) (round-bounded s (a + b) c n C N h) (round-bounded t (b - a) c n C N (less-r a b (n * c) h)) (round-bounded (s && ltb b a) (a - b) c n C N (less-l a b (n * c) h))
+  where
+    go : (x y : Bool) (u v w : Float) → Bounded u n → Bounded v n → Bounded w n → Bounded (cond x u (cond y v w)) n
+    go true y u v w p q r = p
+    go false true u v w p q r = q
+    go false false u v w p q r = r
+
+pub add-bounded : (x y : Float) (p q : ℕ) → p + q ≤ 2 ^ 53 → Bounded x p → Bounded y q → Bounded (add binary64 x y) (p + q)
+unfolding add
+add-bounded nan y p q N h k = absurd h
+add-bounded (inf s) y p q N h k = absurd h
+add-bounded (fin s m e) nan p q N h k = absurd k
+add-bounded (fin s m e) (inf t) p q N h k = absurd k
+add-bounded (fin s m e) (fin t n d) p q N h k =
+    sum-bounded s (m * up e * down d) t (n * up d * down e) (down e * down d) (p + q) (mul-pos (down_pos e) (down_pos d)) N
+    (both (m * up e * down d) (n * up d * down e) p q (down e * down d)
+    (le_trans (mul-le-mul_right (down d) h) (le_of_eq (mul_assoc p (down e) (down d))))
+    (le_trans (mul-le-mul_right (down e) k) (le_of_eq (mul_assoc q (down d) (down e) ∙ ap (λ (z : ℕ). q * z) (mul_comm (down d) (down e))))))
+
+-- ---- a product
+swap4 : (a b p q d e : ℕ) → a ≤ p * e → b ≤ q * d → a * b ≤ p * q * (e * d)
+swap4 a b p q d e h k = le_trans (mul-le-mul h k) (le_of_eq (mul-mul-mul_comm p e q d))
+
+pub mul-bounded : (x y : Float) (p q : ℕ) → p * q ≤ 2 ^ 53 → Bounded x p → Bounded y q → Bounded (mul binary64 x y) (p * q)
+unfolding mul
+mul-bounded nan y p q N h k = absurd h
+mul-bounded (inf s) y p q N h k = absurd h
+mul-bounded (fin s m e) nan p q N h k = absurd k
+mul-bounded (fin s m e) (inf t) p q N h k = absurd k
+mul-bounded (fin s m e) (fin t n d) p q N h k =
+    round-bounded (unlike s t) (m * up e * (n * up d)) (down e * down d) (p * q) (mul-pos (down_pos e) (down_pos d)) N (swap4 (m * up e) (n * up d) p q (down d) (down e) h k)

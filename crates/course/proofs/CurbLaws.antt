@@ -122,6 +122,11 @@ pub curb-number-back : (c : Cause) → curb_cause_of (Err c) ≡ number_of c
 unfolding curb_cause_of cause_number
 curb-number-back c = refl
 
+-- 0 where the call was not refused
+pub curb-accepted-number : (m : ℕ) → curb_cause_of (Ok m) ≡ 0
+unfolding curb_cause_of cause_number
+curb-accepted-number m = refl
+
 pub curb-count-back : (m : ℕ) → curb_count_of (Ok m) ≡ m
 unfolding curb_count_of
 curb-count-back m = refl

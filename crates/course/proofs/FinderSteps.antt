@@ -1,5 +1,5 @@
 -- The search for the next checkpoint, a step of the code at a time. Assumes nothing.
-use Rattle.std.proofs.Common.{◌≡◌, ℕ, zero, suc, ◌+◌, ◌-◌, ◌<◌, ◌≤◌, true, false, List, [], ◌∷◌, length, get_or, drop, Option, Some, None, refl, sym, ap, add-one, arith, length-drop, drop-cons}
+use Rattle.std.proofs.Common.{◌≡◌, ℕ, zero, suc, ◌+◌, ◌-◌, ◌<◌, ◌≤◌, Bool, true, false, cond, List, [], ◌∷◌, length, get_or, drop, Option, Some, None, IfSome, refl, sym, ap, add-one, arith, length-drop, drop-cons}
 use lib.Ieee.{Float, le}
 use Rattle.course.specs.Rules.Arithmetic.{◌⊖◌}
 use Rattle.course.specs.declared.checkpoints.Checkpoint.{Checkpoint}
@@ -60,3 +60,29 @@ pass-over p l i a h e = let k : 1 - p ≡ 2 - (p + 1) = omega arith in rw (scan-
 pub passes-over : (p : ℕ) (l : List Checkpoint) (i : ℕ) (a : Float) → 2 ≤ p → searched (2 - p) l i a ≡ None
 unfolding searched
 passes-over p l i a h = let e : 2 - p ≡ 0 = omega arith in rw e
+
+-- a place that is found is a place of the list
+abbrev pub In : ℕ → Option Destination → Type 0
+In m o = IfSome o (λ (d : Destination). d.place < m)
+
+pick-in : (m : ℕ) (b : Bool) (r s : Option Destination) → In m r → In m s → In m (cond b r s)
+pick-in m true r s h k = h
+pick-in m false r s h k = k
+
+or-in : (m : ℕ) (r s : Option Destination) → In m r → In m s → In m (or_again r s)
+unfolding or_again
+or-in m None s h k = k
+or-in m (Some d) s h k = h
+
+scan-in : (m : ℕ) (l : List Checkpoint) (i : ℕ) (a : Float) → (0 < length l → i + length l ≡ m) → In m (scan l i a)
+unfolding scan
+scan-in m [] i a e = tt
+scan-in m (y ∷ l) i a e =
+    let k : i + length (y ∷ l) ≡ m = e (omega arith) in
+    pick-in m (le a y.angle) (Some (record { place = i; alpha = a; checkpoint = y })) (scan l (suc i) a) (omega arith) (scan-in m l (suc i) a (λ _. omega arith))
+
+pub dest-in : (l : List Checkpoint) (n : ℕ) (x : Float) → In (length l) (dest_of l n x)
+unfolding dest_of
+dest-in l n x =
+    or-in (length l) (scan (drop n l) n x) (scan l 0 (x ⊖ tau)) (scan-in (length l) (drop n l) n x (λ h. omega (arith, length-drop n l)))
+    (scan-in (length l) l 0 (x ⊖ tau) (λ _. omega arith))

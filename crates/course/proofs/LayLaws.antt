@@ -75,6 +75,11 @@ pub number-back : (e : LayError) → laid_cause_of (Err e) ≡ error_number e
 unfolding laid_cause_of
 number-back e = refl
 
+-- 0 where the call was not refused
+pub accepted-number : (v : LaidCourse) → laid_cause_of (Ok v) ≡ 0
+unfolding laid_cause_of
+accepted-number v = refl
+
 pub values-back : (v : LaidCourse) → laid_values_of (Ok v) ≡ v
 unfolding laid_values_of
 values-back v = refl

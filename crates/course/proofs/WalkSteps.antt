@@ -1,15 +1,20 @@
 -- The walk, one more step at a time. Assumes nothing.
-use Rattle.std.proofs.Common.{◌≡◌, ℕ, suc, ◌+◌, ◌-◌, ◌<◌, ◌≤◌, Bool, true, false, cond, List, [], ◌∷◌, ◌++◌, map, length, drop, set, Some, None, sym, refl, ap, ap₂, ◌∙◌, subst, append_assoc, append-nil, arith, le-ltb, lt-ltb}
+use Rattle.std.proofs.Common.{◌≡◌, ℕ, suc, ◌+◌, ◌-◌, ◌<◌, ◌≤◌, Bool, true, false, cond, List, [], ◌∷◌, ◌++◌, map, length, drop, set, Option, Some, None, IfSome, sym, refl, ap, ap₂, ◌∙◌, subst, append_assoc, append-nil, arith, le-ltb, lt-ltb}
 use mathlib.Core.List.{map-append}
 use lib.ListN.{length-map}
 use lib.Ieee.{Float}
 use Rattle.course.specs.Rules.Lengths.{step_limit, laid_length}
-use Rattle.course.specs.Rules.Step.{Walk, TrackStep, step_of}
+use Rattle.course.specs.Rules.Arithmetic.{natural}
+use Rattle.course.specs.Rules.Numeric.{within}
+use Rattle.course.specs.Rules.Trig.{SinCos}
+use Rattle.course.specs.Rules.Finder.{Destination, dest_of}
+use Rattle.course.specs.Rules.Step.{Walk, TrackStep, Sight, sight_of, turn_of, landed_of, then_landed, then_moved, step_of}
 use Rattle.course.specs.Rules.Track.{step_alphas, step_betas, step_xs, step_ys}
 use Rattle.course.specs.Rules.Walk.{Trail, follow, onward, walk_from, walk_start, walk_of}
 use Rattle.course.specs.Steps.Lay.{Columns, columns_of, SameColumns, Trod}
 use Rattle.course.specs.declared.checkpoints.Checkpoint.{Checkpoint}
 use Rattle.course.specs.declared.walk_columns.WalkColumns.{WalkColumns}
+use Rattle.course.proofs.FinderSteps.{In, dest-in}
 use Rattle.course.proofs.ColumnLaws.{Grown, grown-none, grown-more}
 use Rattle.course.proofs.Turns.{suc-pred}
 
@@ -84,6 +89,36 @@ module _ (cs : List Checkpoint) (w : Walk) where
 pub over : (cs : List Checkpoint) (w : Walk) (n : ℕ) → n ≡ 0 → walk_from n cs w ≡ record { ok = true; steps = [] }
 unfolding walk_from
 over cs w n z = rw z
+
+-- ---- the checkpoint that a step makes for is one of the list's, so below 12
+abbrev pub In-step : ℕ → Option (TrackStep × Walk) → Type 0
+In-step m o = IfSome o (λ (s : TrackStep × Walk). s.1.dest < m)
+
+pick-in : (m : ℕ) (b : Bool) (r s : Option (TrackStep × Walk)) → In-step m r → In-step m s → In-step m (cond b r s)
+pick-in m true r s h k = h
+pick-in m false r s h k = k
+
+module _ (m : ℕ) (w : Walk) (s : Sight) where
+  landed-in : (h : SinCos) (d : Destination) (prev beta : Float) → d.place < m → In-step m (landed_of w s h d prev beta)
+  unfolding landed_of
+  landed-in h d prev beta l = pick-in m (within (natural 16) beta) (Some _) None l tt
+
+  then-landed-in : (d : Destination) (t : Option (Float × ℕ)) → d.place < m → In-step m (then_landed w s d t)
+  unfolding then_landed
+  then-landed-in d None l = tt
+  then-landed-in d (Some t) l = landed-in _ d t.0 _ l
+
+  then-moved-in : (t : Option Destination) → In m t → In-step m (then_moved w s t)
+  unfolding then_moved
+  then-moved-in None l = tt
+  then-moved-in (Some d) l = then-landed-in d (turn_of w.beta d.alpha) l
+
+pub step_in : (cs : List Checkpoint) (w : Walk) → In-step (length cs) (step_of cs w)
+unfolding step_of
+step_in cs w = then-moved-in (length cs) w (sight_of w) (dest_of cs w.dest (sight_of w).alpha) (dest-in cs w.dest (sight_of w).alpha)
+
+pub near_next : (cs : List Checkpoint) (w : Walk) (p : TrackStep) (v : Walk) → length cs ≡ 12 → step_of cs w ≡ Some (p, v) → v.dest < 12
+near_next cs w p v l e = subst (λ (m : ℕ). v.dest < m) l (subst (In-step (length cs)) e (step_in cs w))
 
 -- ---- the loop: k of at most m steps are done, and the columns have room for m
 pub record Walking (m : ℕ) (cs : List Checkpoint) (c₀ c : Columns) (w : Walk) (k : ℕ) : Type 0 where

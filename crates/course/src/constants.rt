@@ -28,6 +28,11 @@ pub const FAR_RAD: f64 = 1.5 * TRACK_RAD;
 
 pub const MAX_ATTEMPTS: u32 = 64;
 
+// Where `least` and `greatest` begin, as the Rust's folds do.
+pub const MAX: f64 = f64::MAX;
+
+pub const MIN: f64 = f64::MIN;
+
 // The grid's cells in a row, its rows, and all its cells.
 pub const GRID_DIM: usize = 67;
 

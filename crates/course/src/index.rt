@@ -175,11 +175,11 @@ pub fn part_ok(offsets: &[u32], list: &[u32], cell: usize) -> bool
     part(offsets, list, cell).is_some()
 }
 
-// The part of the lent list for a cell.
+// The part of the lent list for a cell: its empty part where there is none.
 pub fn cell_tiles<'a>(offsets: &[u32], list: &'a [u32], cell: usize) -> &'a [u32]
     ensures { result.now ≡ lookup offsets.now list.now cell }
 {
-    part(offsets, list, cell).unwrap_or(&[])
+    part(offsets, list, cell).unwrap_or(&list[..0])
 }
 
 // The part of the lent list for the point's cell.

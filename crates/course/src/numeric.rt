@@ -2,6 +2,8 @@
 ghost use Rattle.std.specs.Prelude.{◌≡◌, false, is_nan};
 ghost use Rattle.course.specs.Rules.Numeric.{abs_of, min_of, max_of, least_of, greatest_of, clamp_of, signum_of, within};
 
+use crate::constants::{MAX, MIN};
+
 // x with its sign cleared.
 // Kept beside `f64::abs`, as `signum` is beside `f64::signum`: document 01 names own helpers, "Rust's meaning at NaN and -0", which both of
 // the library's have.
@@ -56,19 +58,19 @@ fn greater(greatest: f64, x: f64) -> f64
 // The least of four numbers, a NaN passed over.
 // Kept as a pair with `greatest`: document 01 folds both as the Rust does, each from its own end, and one function for both would be
 // passed the end and the fold, which are all that it says. And kept as calls in one another, since the proof did not close:
-// `[a, b, c, d].into_iter().fold(f64::MAX, lesser)` asks for a proof that each of its calls may be made, which the check
+// `[a, b, c, d].into_iter().fold(MAX, lesser)` asks for a proof that each of its calls may be made, which the check
 // alone did not find; one by hand was not written.
 pub fn least(a: f64, b: f64, c: f64, d: f64) -> f64
     ensures { result ≡ least_of a b c d }
 {
-    lesser(lesser(lesser(lesser(f64::MAX, a), b), c), d)
+    lesser(lesser(lesser(lesser(MAX, a), b), c), d)
 }
 
 // The greatest of four numbers, a NaN passed over.
 pub fn greatest(a: f64, b: f64, c: f64, d: f64) -> f64
     ensures { result ≡ greatest_of a b c d }
 {
-    greater(greater(greater(greater(f64::MIN, a), b), c), d)
+    greater(greater(greater(greater(MIN, a), b), c), d)
 }
 
 // x, raised to lo, then lowered to hi.

@@ -21,7 +21,7 @@ const WORD: u64 = 1 << 32;
 // What the start of a guess is taken from: a little less than 2^54.
 const START: u64 = 4 * LEAD - 0x400_0000_0000;
 
-// The root of n * 4^27, by the library. Hardly a root takes it, and it is kept out of the way of those that don't.
+// The root of n * 4^27, by the library. No root was found to take it, and it is kept out of the way of those that don't.
 #[cold]
 #[inline(never)]
 fn library_root(n: u64) -> u64
@@ -54,7 +54,8 @@ struct Estimate {
 // A guess at the root of a, which is from 1 to 4 in units of 2^-30, from a y near the inverse of the root, in units of 2^-32.
 // Nothing is promised: `tested` decides. In units of 2^-31, q is a * y * y, near 1, and t is f * g * h / 2, a polynomial
 // of degree 6 near the inverse root of q. It is worked out in factors, since none of them waits for another, and its highest
-// coefficient is 1/8, which needs no product. The 8 makes up for the digits that were cut off. All of it is modulo 2^32.
+// coefficient is 1/8, which needs no product. The 8 makes up for the digits that were cut off. The root is told less by 2: w * t is up to 2
+// above it, and what a guess above the root leaves would wrap. All of it is modulo 2^32.
 fn guess(a: u32, y: u32) -> Estimate {
     let w = from_digit::<31>(a, y);
     let q = from_digit::<32>(w, y);
@@ -63,7 +64,7 @@ fn guess(a: u32, y: u32) -> Estimate {
     let h = 0xef5e_28d9_u32.wrapping_sub(from_digit::<32>(0x56c8_48b2_u32.wrapping_sub(q), q));
     let t = from_digit::<32>(g, from_digit::<31>(f, h));
     Estimate {
-        root: from_digit::<31>(w, t),
+        root: from_digit::<31>(w, t).wrapping_sub(2),
         inverse: from_digit::<32>(y.wrapping_add(8), t),
     }
 }

@@ -75,3 +75,19 @@ impl Given {
         repeat_column(period, count, &mut self.y);
     }
 }
+
+#[cfg(test)]
+mod tests {
+    use super::*;
+    use std::test::Fail;
+
+    // With memory at hand the columns are made.
+    #[test]
+    fn columns_are_made(rt: HostRuntime) -> Result<(), Fail> {
+        let given = Given::new(rt.alloc())?;
+        assert_eq!(rt; given.beta.len(), MOST);
+        assert_eq!(rt; given.x.len(), MOST);
+        assert_eq!(rt; given.y.len(), MOST);
+        Ok(())
+    }
+}

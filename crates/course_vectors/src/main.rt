@@ -13,12 +13,14 @@ use course::cause::Cause;
 use course::points::{LaidCourse, LayError};
 use course::{curbs, index, points};
 use given::Given;
-use std::alloc::Global;
 use std::io;
-use std::io::{BufWriter, Read, Write};
+use std::io::{BufWriter, Write};
 use vectors::columns::{Columns, UNTOUCHED, UNTOUCHED_MARK, front, front_mut, put};
 use vectors::line;
 use vectors::record::{Kind, Record, Records, UnknownCode};
+
+// How much is read of a list, in bytes.
+const LIST: usize = 524288;
 
 #[derive(Clone, Copy, Debug, PartialEq, Eq)]
 enum Request {
@@ -102,15 +104,16 @@ fn call_curbs(
 // The answer, and what the lent columns hold then.
 fn replay_curbs<W: Write>(
     out: &mut W,
-    alloc: Global,
     record: Record<'_>,
     given: &Given,
+    quads: &mut [f64],
+    white: &mut [u8],
 ) -> io::Result<()> {
-    let mut quads = vec![in alloc; UNTOUCHED; 20100]?;
-    let mut white = vec![in alloc; UNTOUCHED_MARK; 2600]?;
-    line::answer(out, call_curbs(record, given, &mut quads, &mut white))?;
-    line::column(out, &quads)?;
-    line::column(out, &white)
+    quads.fill(UNTOUCHED);
+    white.fill(UNTOUCHED_MARK);
+    line::answer(out, call_curbs(record, given, quads, white))?;
+    line::column(out, quads)?;
+    line::column(out, white)
 }
 
 // The part's length, and its hash.
@@ -124,17 +127,20 @@ fn replay_lookup<W: Write>(out: &mut W, record: Record<'_>, columns: &Columns) -
 
 fn main(rt: HostRuntime) -> io::Result<()> {
     let alloc = rt.alloc();
-    let mut list = Vec::new(alloc);
-    rt.stdin().read_to_end(&mut list)?;
+    let mut list = vec![in alloc; 0; LIST]?;
     let mut given = Given::new(alloc)?;
     let mut columns = Columns::new(alloc, 450000)?;
+    let mut quads = vec![in alloc; UNTOUCHED; 20100]?;
+    let mut white = vec![in alloc; UNTOUCHED_MARK; 2600]?;
     let mut out = BufWriter::new(alloc, io::writer(&rt))?;
-    for (request, record) in Records::new(&list) {
+    // Kept with the length beside: `read_list` says why.
+    let n = vectors::read_list(&mut rt.stdin(), &mut list)?;
+    for (request, record) in Records::new(&list[..n]) {
         match request {
             Request::Give => given.give(record),
             Request::Repeat => given.repeat(record),
             Request::Points => replay_points(&mut out, record, &given, &mut columns)?,
-            Request::Curbs => replay_curbs(&mut out, alloc, record, &given)?,
+            Request::Curbs => replay_curbs(&mut out, record, &given, &mut quads, &mut white)?,
             Request::Offset => put(&mut columns.offsets, record.word(1), record.low(2)),
             Request::Lookup => replay_lookup(&mut out, record, &columns)?,
         }

@@ -5,4 +5,5 @@ pub mod ReadLaws
 pub mod FormLaws
 pub mod MapLaws
 pub mod LaterRows
+pub mod ZeroLaws
 pub mod Examples

@@ -5,18 +5,18 @@ use mathlib.Core.Path.{◌≡◌, refl, sym, ap, ap₂, ◌∙◌, subst}
 use Prim.Native.Nat.{ℕ, zero, suc, ◌+◌, ◌*◌, ◌/◌, ◌%◌, ◌^◌, ◌≤◌, ◌<◌}
 use native.Mathlib.Nat.{pow-le-pow_right}
 use native.Mathlib.Omega.{arith}
-use lib.Dec.{eqb, leb}
-use lib.ListN.{length, get_or, take, drop, replicate, length-append, take-append-drop}
+use lib.Dec.{eqb}
+use lib.ListN.{length, get_or, take, drop, replicate, length-append, length-drop, take-append-drop}
 use lib.Seq.{take_at, drop_at, take-add, length-take-le}
 use borrow.Author.Tests.{le-leb, eqb-true}
 use Rattle.form.proofs.ByteLaws.{Bytes, low-length, number-back, bytes_back}
 use Rattle.std.proofs.Common.{Some, None}
-use Rattle.form.proofs.TableLaws.{widths-of, shown-length, shown-small, standing-small}
+use Rattle.form.proofs.TableLaws.{widths-of, marks, rows-back, shown-length, shown-small, standing-small}
 use Rattle.form.proofs.ReadLaws.{parsed-long}
 use Rattle.form.proofs.FormLaws.{Fits, none, shown, hidden, parse-back, fits-small, stands, parse-only}
 use Rattle.form.specs.Rules.Bytes.{low, number, all_zero}
 use Rattle.form.specs.declared.table.Row.{Row}
-use Rattle.form.specs.Rules.Form.{rows_of, sum, cut, joined, most_rows, odd, bit, map_of, standing, packed, Parsed, parse, map_in, parsed, read, read_fields, unpack_into}
+use Rattle.form.specs.Rules.Form.{rows_of, widths, sum, cut, joined, most_rows, odd, bit, map_of, standing, packed, Parsed, parse, map_in, parsed, read, read_fields, unpack_into}
 use Rattle.form.specs.Rules.Form.Parsed.{fields}
 
 -- ---- the map's bits
@@ -116,6 +116,11 @@ module _ (rs : List Row) (m : ℕ) (fs : List (List ℕ)) (few : length rs ≤ m
   form-back = parsed-long rs (packed m fs) long-enough ∙ ap₂ (parse rs) map_back past-map ∙ parse-back rs m fs k
 
 -- ---- fields that lie end to end
+pub cut-sized : (ws : List ℕ) (zs : List Bool) (full : List ℕ) → sum ws ≤ length full → Sized (rows_of ws zs) (cut ws full)
+unfolding sum cut rows_of
+cut-sized [] zs full h = tt
+cut-sized (w ∷ ws) zs full h = (length-take-le w full (omega (arith, h)), cut-sized ws (drop 1 zs) (drop w full) (omega (arith, h, length-drop w full)))
+
 pub joined-cut : (ws full : List ℕ) → joined (cut ws full) ≡ take (sum ws) full
 unfolding sum cut joined
 joined-cut [] full = refl
@@ -131,23 +136,50 @@ cut-joined (w ∷ ws) zs (f ∷ fs) rest h =
     ∙ ap₂ (λ (p q : List ℕ). p ∷ cut ws q) (take_at f (joined fs ++ rest) w h.0) (drop_at f (joined fs ++ rest) w h.0)
     ∙ ap (λ (l : List (List ℕ)). f ∷ l) (cut-joined ws (drop 1 zs) fs rest h.1)
 
+-- both for any table, by its own widths and marks
+pub table-sized : (rows : List Row) (full : List ℕ) → sum (widths rows) ≤ length full → Sized rows (cut (widths rows) full)
+table-sized rows full h = subst (λ (rs : List Row). Sized rs (cut (widths rows) full)) (rows-back rows) (cut-sized (widths rows) (marks rows) full h)
+
+pub table-joined : (rows : List Row) (fs : List (List ℕ)) (rest : List ℕ) → Sized rows fs → cut (widths rows) (joined fs ++ rest) ≡ fs
+table-joined rows fs rest h = cut-joined (widths rows) (marks rows) fs rest (subst (λ (rs : List Row). Sized rs fs) (sym (rows-back rows)) h)
+
+-- what is packed by a map that fits is unpacked: the map, and the fields as they lay
+pub saved-back : (rows : List Row) (m : ℕ) (full to : List ℕ) → length rows ≤ most_rows → sum (widths rows) ≤ length full → sum (widths rows) ≤ length to
+    → Fits rows m (cut (widths rows) full) → unpack_into rows (packed m (cut (widths rows) full)) to ≡ read (Some m) (take (sum (widths rows)) full ++ drop (sum (widths rows)) to)
+unfolding unpack_into
+saved-back rows m full to few h room k =
+    let ws = widths rows in
+    let fs = cut ws full in
+    let n : length (take (sum ws) full) ≡ sum ws = length-take-le (sum ws) full h in
+    ap (λ (b : Bool). cond b (read_fields (parsed rows (packed m fs)) (map_in (packed m fs)) to) (read None to)) (le-leb (sum ws) (length to) room)
+    ∙ ap₂ (λ (p : Parsed) (j : ℕ). read_fields p j to) (form-back rows m fs few k) (map_back rows m fs few k)
+    ∙ ap (λ (l : List ℕ). read (Some m) (l ++ drop (length l) to)) (joined-cut ws full)
+    ∙ ap (λ (j : ℕ). read (Some m) (take (sum ws) full ++ drop j to)) n
+
+-- so by the map of the fields themselves, which fits them
+pub lent-back : (rows : List Row) (full to : List ℕ) → length rows ≤ most_rows → sum (widths rows) ≤ length full → sum (widths rows) ≤ length to
+    → unpack_into rows (packed (map_of (cut (widths rows) full)) (cut (widths rows) full)) to
+    ≡ read (Some (map_of (cut (widths rows) full))) (take (sum (widths rows)) full ++ drop (sum (widths rows)) to)
+lent-back rows full to few h room =
+    let fs = cut (widths rows) full in
+    saved-back rows (map_of fs) full to few h room (map-fits rows fs (table-sized rows full h))
+
 rows-many : (ws : List ℕ) (zs : List Bool) → length (rows_of ws zs) ≡ length ws
 unfolding rows_of
 rows-many [] zs = refl
 rows-many (w ∷ ws) zs = ap suc (rows-many ws (drop 1 zs))
 
--- what is packed by a map that fits is unpacked: the map, and the fields as they lay
-pub saved-back : (ws : List ℕ) (zs : List Bool) (m : ℕ) (full to : List ℕ) → length ws ≤ most_rows → sum ws ≤ length full → sum ws ≤ length to
+-- and for a table of widths and marks
+abbrev Saved : List Row → ℕ → List ℕ → List ℕ → List ℕ → Type 0
+Saved rs m full to ws =
+    sum ws ≤ length full → sum ws ≤ length to
+    → Fits rs m (cut ws full) → unpack_into rs (packed m (cut ws full)) to ≡ read (Some m) (take (sum ws) full ++ drop (sum ws) to)
+
+pub widths-saved-back : (ws : List ℕ) (zs : List Bool) (m : ℕ) (full to : List ℕ) → length ws ≤ most_rows → sum ws ≤ length full → sum ws ≤ length to
     → Fits (rows_of ws zs) m (cut ws full) → unpack_into (rows_of ws zs) (packed m (cut ws full)) to ≡ read (Some m) (take (sum ws) full ++ drop (sum ws) to)
-unfolding unpack_into
-saved-back ws zs m full to few h room k =
-    let fs = cut ws full in
-    let f : length (rows_of ws zs) ≤ most_rows = omega (arith, few, rows-many ws zs) in
-    let n : length (take (sum ws) full) ≡ sum ws = length-take-le (sum ws) full h in
-    ap (λ (b : Bool). cond b (read_fields (parsed (rows_of ws zs) (packed m fs)) (map_in (packed m fs)) to) (read None to)) (ap (λ (l : List ℕ). leb (sum l) (length to)) (widths-of ws zs) ∙ le-leb (sum ws) (length to) room)
-    ∙ ap₂ (λ (p : Parsed) (j : ℕ). read_fields p j to) (form-back (rows_of ws zs) m fs f k) (map_back (rows_of ws zs) m fs f k)
-    ∙ ap (λ (l : List ℕ). read (Some m) (l ++ drop (length l) to)) (joined-cut ws full)
-    ∙ ap (λ (j : ℕ). read (Some m) (take (sum ws) full ++ drop j to)) n
+widths-saved-back ws zs m full to few h room k =
+    let rs = rows_of ws zs in
+    subst (Saved rs m full to) (widths-of ws zs) (saved-back rs m full to (omega (arith, few, rows-many ws zs))) h room k
 
 -- a saved form is the one that its map and fields have: no other bytes are read
 first-bytes : (n : ℕ) (bs : List ℕ) → Bytes bs → Bytes (take n bs)

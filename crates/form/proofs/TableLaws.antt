@@ -1,10 +1,10 @@
 -- The rows of a table one after another, over fields that lie end to end. Assumes nothing.
 use Prim.Native.Nat.{ℕ, zero, suc, ◌+◌, ◌*◌, ◌-◌, ◌/◌, ◌%◌, ◌^◌, ◌≤◌, ◌<◌, min}
-use mathlib.Core.Path.{◌≡◌, refl, sym, ap, ap₂, ◌∙◌}
+use mathlib.Core.Path.{◌≡◌, refl, sym, ap, ap₂, ◌∙◌, subst}
 use mathlib.Core.Bool.{Bool, true, false, cond, not, true≢false}
 use Rattle.std.specs.Option.{is_none}
 use Rattle.std.proofs.lemmas.Nat.{pow_pos}
-use mathlib.Core.List.{List, [], ◌∷◌, ◌++◌, append-nil}
+use mathlib.Core.List.{List, [], ◌∷◌, ◌++◌, map, append-nil}
 use native.Mathlib.Nat.{pow-suc, pow-le-pow_right, mul-le-mul_left, mul-add, mul_assoc, mul_comm}
 use native.Mathlib.Numerals.{add-one}
 use native.Mathlib.Omega.{arith}
@@ -54,6 +54,15 @@ unfolding rows_of
 widths-of [] zs = refl
 widths-of (w ∷ ws) zs = ap (λ (l : List ℕ). w ∷ l) (widths-of ws (drop 1 zs))
 
+-- a table's marks; and each table is that of its widths and marks
+abbrev pub marks : List Row → List Bool
+marks = map (λ (r : Row). r.zeros)
+
+pub rows-back : (rows : List Row) → rows_of (widths rows) (marks rows) ≡ rows
+unfolding rows_of
+rows-back [] = refl
+rows-back (r ∷ rows) = ap (λ (l : List Row). r ∷ l) (rows-back rows)
+
 -- ---- the map
 bit-small : (b : Bool) → bit b ≤ 1
 bit-small true = omega arith
@@ -78,6 +87,15 @@ pub map_below : (fs : List (List ℕ)) → map_of fs < 2 ^ length fs
 unfolding map_of
 map_below [] = omega arith
 map_below (f ∷ fs) = omega (arith, bit-small (not (all_zero f)), map_below fs, pow-suc 2 (length fs))
+
+-- a field for each width, and so a bit
+cut-many : (ws full : List ℕ) → length (cut ws full) ≡ length ws
+unfolding cut
+cut-many [] full = refl
+cut-many (w ∷ ws) full = ap suc (cut-many ws (drop w full))
+
+pub map-small : (ws full : List ℕ) → map_of (cut ws full) < 2 ^ length ws
+map-small ws full = subst (λ (k : ℕ). map_of (cut ws full) < 2 ^ k) (cut-many ws full) (map_below (cut ws full))
 
 -- the first fields, one after another
 pub cut-take : (n : ℕ) (ws full : List ℕ) → take n (cut ws full) ≡ cut (take n ws) full

@@ -39,6 +39,7 @@ fn is_form(rows: &[Row], map: u64, bytes: &[u8]) -> bool
 }
 
 // A field's place is filled from the front of the bytes, or with zeros; the bytes after what was read.
+// Kept as a loop: `copy_from_slice` calls memmove where the length is not known to the compiler, and the archive for C needs no memmove from outside.
 fn fill<'a>(stands: bool, bytes: &'a [u8], to: &mut [u8]) -> &'a [u8]
     requires { cond stands (length to.old) 0 ≤ length bytes.now }
     ensures rest { result.now ≡ cond stands (drop (length to.old) bytes.now) bytes.now }
@@ -46,7 +47,9 @@ fn fill<'a>(stands: bool, bytes: &'a [u8], to: &mut [u8]) -> &'a [u8]
 {
     if stands {
         let (field, rest) = bytes.split_at(to.len());
-        to.copy_from_slice(field);
+        for (i, place) in to.iter_mut().enumerate() {
+            *place = field[i];
+        }
         return rest;
     }
     to.fill(0);

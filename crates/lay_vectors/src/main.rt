@@ -4,17 +4,17 @@
 // The list is ../stdin and the answers are ../stdout. Both are made by `host/compare/write lay`, whose module
 // host/compare/lists/lay.rs takes the courses from the Rust and, where the Rust has none, the answers from document 01. A
 // record of the list is a code, the lengths of the seven lent columns, and the call's own arguments, a word each. An
-// unknown code ends the run.
+// unknown code ends the run. Of a longer list the first block is read.
 #![tactic(auto)]
 
 use course::checkpoints::Checkpoint;
 use course::lay;
 use course::points::{LaidCourse, LayError};
 use std::io;
-use std::io::{BufWriter, Read, Write};
+use std::io::{BufWriter, Write};
 use vectors::columns::Columns;
 use vectors::line;
-use vectors::record::{Kind, Record, Records, UnknownCode};
+use vectors::record::{BLOCK, Kind, Record, Records, UnknownCode};
 
 #[derive(Clone, Copy, Debug, PartialEq, Eq)]
 enum Request {
@@ -74,11 +74,12 @@ fn call(
 }
 
 fn main(rt: HostRuntime) -> io::Result<()> {
-    let mut list = Vec::new(rt.alloc());
-    rt.stdin().read_to_end(&mut list)?;
+    let mut list = vec![in rt.alloc(); 0; BLOCK]?;
     let mut columns = Columns::new(rt.alloc(), 30000)?;
     let mut out = BufWriter::new(rt.alloc(), io::writer(&rt))?;
-    for (request, record) in Records::new(&list) {
+    // Kept with the length beside: `read_list` says why.
+    let n = vectors::read_list(&mut rt.stdin(), &mut list)?;
+    for (request, record) in Records::new(&list[..n]) {
         columns.reset();
         line::laid(&mut out, call(request, record, &mut columns))?;
         columns.lines(&mut out)?;

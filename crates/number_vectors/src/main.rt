@@ -4,15 +4,16 @@
 // The list is ../stdin and the answers, a line each, are ../stdout. Both are made by
 // `host/compare/write number`, whose module host/compare/lists/number.rs takes the answers from the Rust: the
 // oracle's stand-ins and `cell_of`, and Rust's own f64. A record of the list is its operation's code and
-// the bits of its arguments, a word each. An unknown code ends the run.
+// the bits of its arguments, a word each. An unknown code ends the run. Of a longer list the
+// first block is read.
 #![tactic(auto)]
 
 use course::{cell, numeric, root, trig};
 use std::io;
-use std::io::{BufWriter, Read, Write};
+use std::io::{BufWriter, Write};
 use vectors::line;
 use vectors::line::{Bits, Flag};
-use vectors::record::{Kind, Record, Records, UnknownCode};
+use vectors::record::{BLOCK, Kind, Record, Records, UnknownCode};
 
 #[derive(Clone, Copy, Debug, PartialEq, Eq)]
 enum Operation {
@@ -81,10 +82,11 @@ fn line_answer<W: Write>(out: &mut W, operation: Operation, record: Record<'_>) 
 }
 
 fn main(rt: HostRuntime) -> io::Result<()> {
-    let mut list = Vec::new(rt.alloc());
-    rt.stdin().read_to_end(&mut list)?;
+    let mut list = vec![in rt.alloc(); 0; BLOCK]?;
     let mut out = BufWriter::new(rt.alloc(), io::writer(&rt))?;
-    for (operation, record) in Records::new(&list) {
+    // Kept with the length beside: `read_list` says why.
+    let n = vectors::read_list(&mut rt.stdin(), &mut list)?;
+    for (operation, record) in Records::new(&list[..n]) {
         line_answer(&mut out, operation, record)?;
     }
     out.flush()

@@ -3,8 +3,8 @@
 //
 // The list is ../stdin and the answers are ../stdout. Both are made by `host/compare/write replay`, whose module
 // host/compare/lists/replay.rs takes the answers from the Rust and, where the Rust has none, from document 01. A record of
-// the list is a whole log, laid out as in read.rt. The list comes in blocks of a fixed length; an unknown code ends a
-// block, as the zeros do that fill one up.
+// the list is a whole log, laid out as in read.rt. The list comes in blocks of a fixed length, each replayed before the
+// next is read; an unknown code ends a block, as the zeros do that fill one up.
 //
 // For each record come the answers of lay and start, a line for each call that stands in it, answered or not, and the
 // sheet; then a hash of every lent column, whole, so that a number written where none belongs shows.
@@ -20,9 +20,9 @@ use read::Log;
 use run::numbers;
 use std::alloc::{AllocError, Global};
 use std::io;
-use std::io::{BufWriter, Read, Write};
+use std::io::{BufWriter, Write};
 use vectors::columns::{Columns, UNTOUCHED, UNTOUCHED_ID, front, front_mut};
-use vectors::record::{BLOCK, Record, Records};
+use vectors::record::{BLOCK, BLOCKS, Record, Records};
 
 // The columns of calls and answers, longer than a record's.
 #[derive(Drop)]
@@ -34,18 +34,24 @@ struct Calls {
 }
 
 impl Calls {
-    // The record's calls; no place of the answers is touched.
-    fn new(alloc: Global, record: Record<'_>) -> Result<Self, AllocError> {
-        let mut call_words = vec![in alloc; UNTOUCHED_ID; 3700]?;
-        let mut call_numbers = vec![in alloc; UNTOUCHED; 18100]?;
-        read::give_calls(record, &mut call_words);
-        read::give_numbers(record, &mut call_numbers);
+    // Columns with no record's calls: `give` fills them.
+    fn new(alloc: Global) -> Result<Self, AllocError> {
         Ok(Calls {
-            call_words,
-            call_numbers,
+            call_words: vec![in alloc; UNTOUCHED_ID; 3700]?,
+            call_numbers: vec![in alloc; UNTOUCHED; 18100]?,
             answer_words: vec![in alloc; UNTOUCHED_ID; 3700]?,
             answer_numbers: vec![in alloc; UNTOUCHED; 10900]?,
         })
+    }
+
+    // The record's calls; no other place, and none of the answers, is touched.
+    fn give(&mut self, record: Record<'_>) {
+        self.call_words.fill(UNTOUCHED_ID);
+        self.call_numbers.fill(UNTOUCHED);
+        self.answer_words.fill(UNTOUCHED_ID);
+        self.answer_numbers.fill(UNTOUCHED);
+        read::give_calls(record, &mut self.call_words);
+        read::give_numbers(record, &mut self.call_numbers);
     }
 }
 
@@ -77,13 +83,13 @@ fn call(record: Record<'_>, columns: &mut Columns, c: &mut Calls) -> Replayed {
 // The answers in their order, a call's from its words and numbers; and what all columns hold then.
 fn replay_log<W: Write>(
     out: &mut W,
-    alloc: Global,
     record: Record<'_>,
     columns: &mut Columns,
+    c: &mut Calls,
 ) -> io::Result<()> {
     columns.reset();
-    let mut c = Calls::new(alloc, record)?;
-    let done = call(record, columns, &mut c);
+    c.give(record);
+    let done = call(record, columns, c);
     vectors::line::laid(out, done.laid)?;
     vectors::line::answer(out, done.start.map(Started))?;
     line::answers(out, read::held(record), &c.answer_words, &c.answer_numbers)?;
@@ -95,14 +101,17 @@ fn replay_log<W: Write>(
 
 fn main(rt: HostRuntime) -> io::Result<()> {
     let alloc = rt.alloc();
-    let mut list = Vec::new(alloc);
-    rt.stdin().read_to_end(&mut list)?;
+    let mut block = vec![in alloc; 0; BLOCK]?;
     let mut columns = Columns::new(alloc, 30000)?;
+    let mut calls = Calls::new(alloc)?;
     let mut out = BufWriter::new(alloc, io::writer(&rt))?;
-    for block in list.chunks(BLOCK) {
-        for (_, record) in Records::<Log>::new(block) {
-            replay_log(&mut out, alloc, record, &mut columns)?;
+    for _ in 0..BLOCKS {
+        // Kept with the length beside: `read_list` says why.
+        let n = vectors::read_list(&mut rt.stdin(), &mut block)?;
+        for (_, record) in Records::<Log>::new(&block[..n]) {
+            replay_log(&mut out, record, &mut columns, &mut calls)?;
         }
+        out.flush()?;
     }
-    out.flush()
+    Ok(())
 }

@@ -22,6 +22,7 @@ use Rattle.run.specs.Grader.Contact.{entered, Contacted, contacted, contact_of}
 use Rattle.course.proofs.BoolLaws.{or_no}
 use Rattle.run.proofs.CheckLaws.{passed, cause-by, none-number}
 use Rattle.run.proofs.CreditLaws.{few}
+use Rattle.run.proofs.SheetLaws.{fit-some, fit-credited}
 use Rattle.run.specs.Grader.Numbers.{pose_numbers}
 use Rattle.run.specs.Rules.Lap.{lap_of, off_field}
 use Rattle.run.specs.declared.start.Settings.{Settings}
@@ -98,12 +99,12 @@ settle-facts most u p l x y ps m h =
     let k = or_no (ltb u.n 1) (ltb most u.n) g.0 in
     record {
       contact = record {
-        some = ltb-false u.n 1 k.0;
+        some = fit-some most u p f.0;
         few = ltb-false most u.n k.1;
         lent = long (length l.tiles) (length l.offsets) u.n most d.0 k.1 m;
         sound = not-false (sound_poses l.offsets l.list u.n ps) v.0;
       };
-      count = ltb-false u.n p.visited_count g.1;
+      count = fit-credited most u p f.0;
       time = leb-false u.tick_limit p.tick c.0;
     }
 

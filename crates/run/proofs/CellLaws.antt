@@ -26,6 +26,7 @@ use Rattle.run.specs.Steps.Touch.{first_side, beyond, apart_by_others, sixteen_c
 use Rattle.run.specs.declared.state.Pose.{Pose}
 use Rattle.run.specs.declared.quad.Side.{Side}
 use Rattle.run.proofs.TouchLaws.{some-none, some-take, every_take, tested-cong, touch-more, none-tested}
+use Rattle.run.proofs.WordLaws.{length-set_of}
 use Rattle.run.proofs.BelowLaws.{every-at}
 use Rattle.run.proofs.FourItems.{four-items}
 
@@ -71,6 +72,13 @@ pub no_cell : (q : List (List Float)) (ts : List Float) (offs l k : List ℕ) (m
 no_cell q ts offs l k m a b e f = none-tested m (overlaps_tile q ts) _ a b e f (λ t. some-none _)
 
 module _ (q : List (List Float)) (ts : List Float) (offs l k : List ℕ) (m : ℕ) (a b : List ℕ) (i : ℕ) (h : CellsTested q ts offs l k m a b i) where
+  -- the sets keep their width
+  pub tested-long : length a ≡ m
+  tested-long = ap length h.all ∙ length-set_of m _
+
+  pub touched-long : length b ≡ m
+  touched-long = ap length h.hit ∙ length-set_of m _
+
   -- the tiles of one cell more are tested
   pub one_cell : {ids a' b' : List ℕ} → i < length k → ids ≡ lookup offs l (get_or k i 0) → Tests (overlaps_tile q ts) (lists ids) a b a' b' → CellsTested q ts offs l k m a' b' (i + 1)
   one_cell {ids} {a'} {b'} less e step =

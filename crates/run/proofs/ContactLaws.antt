@@ -22,7 +22,7 @@ use Rattle.run.specs.Rules.Below.{any_below, how_many}
 use Rattle.run.specs.Rules.Arguments.{pose_at}
 use Rattle.run.specs.Rules.Wheel.{wheel_quad, quad_of}
 use Rattle.run.specs.Grader.Touch.{touched_by, sound_poses}
-use Rattle.run.specs.Steps.Touch.{Creditable, AllCreditable, in_sets, entered_since, Credits, credits, credits_of}
+use Rattle.run.specs.Steps.Touch.{Room, Creditable, AllCreditable, in_sets, entered_since, Credits, credits, credits_of}
 use Rattle.run.specs.declared.state.Pose.{Pose}
 use Rattle.run.specs.Grader.Words.{member, set_of}
 use Rattle.run.specs.Grader.Contact.{wheel_part, enters, entered, wheel_sets, contacted, contact_of}
@@ -80,10 +80,18 @@ unfolding wheel_part
 part-long m w W l h =
     length-take-le m (drop (w * m) W) (subst (λ (x : ℕ). m ≤ x) (sym (length-drop (w * m) W)) (drop-long (w * m) (length W) m (part-ends w m l h)))
 
+-- the same part by its first word and the word after its last
+lent-part : (m w : ℕ) (W : List ℕ) → wheel_part m W w ≡ take (w * m + m - w * m) (drop (w * m) W)
+unfolding wheel_part
+lent-part m w W = ap (λ (k : ℕ). take k (drop (w * m) W)) (sym (size (w * m) m))
+
 -- ---- touch: after w wheels
 pub record Touched (m : ℕ) (W₀ : List ℕ) (P : ℕ → ℕ → Bool) (W : List ℕ) (w : ℕ) : Type 0 where
   pub long : length W ≡ 4 * m
   pub wheels : W ≡ wheel_sets m P w ++ drop (w * m) W₀
+
+pub wheel-ends : {m w : ℕ} {W₀ W : List ℕ} {P : ℕ → ℕ → Bool} → Touched m W₀ P W w → w < 4 → w * m + m ≤ length W
+wheel-ends {m = m} {w = w} h b = part-ends w m h.long b
 
 -- the quad of a wheel by its pose
 pub wheel-is : (ps : List Pose) (w : ℕ) {q : List (List Float)} → q ≡ wheel_quad (pose_at ps w) → q ≡ quad_of ps w
@@ -96,6 +104,10 @@ module _ {m : ℕ} {W₀ : List ℕ} {P : ℕ → ℕ → Bool} (l : length W₀
   no-set = record { long = l; wheels = sym (ap (λ (k : ℕ). drop k W₀) (zero-mul m)) }
 
   module _ {W : List ℕ} {w : ℕ} (h : Touched m W₀ P W w) (b : w < 4) where
+    -- the lent part has room for what the wheel touches
+    pub own_room : {n : ℕ} {ts : List Float} {tested : List ℕ} → length tested ≡ m → n ≤ 64 * m → n * 8 ≤ length ts → Room 1 n ts tested (take (w * m + m - w * m) (drop (w * m) W))
+    own_room s a d = let k = ap length (sym (lent-part m w W)) ∙ part-long m w W h.long b in record { sets = omega (arith, k, s); words = omega (arith, a, s); tiles = d }
+
     rest : drop (w * m + m - w * m) (drop (w * m) W) ≡ drop ((w + 1) * m) W₀
     rest =
         ap₂ (λ (k : ℕ) (x : List ℕ). drop k x) (size (w * m) m) (ap (drop (w * m)) h.wheels ∙ drop_at (wheel_sets m P w) (drop (w * m) W₀) (w * m) (sets-long m P w))

@@ -49,6 +49,12 @@ pass_from car action ms roads w₀ w₁ w₂ w₃ a b c d e₀ e₁ e₂ e₃ ha
     λ i. gathered_of (pa i) (pb i) (pc i) (pd i)
 
 -- ---- the call on its parts, by its cause
+-- the answer's number is the check's
+number_at : (x : Result Unit Cause) (p : Progress) (car : Car) (d : Passed) → cause_number (drive_at x p car d).answer ≡ cause_number x
+unfolding drive_at cause_number
+number_at (Ok none) p car d = refl
+number_at (Err c) p car d = refl
+
 module _ (m most : ℕ) (u : Setup) (p : Progress) (car : Car) (wheels : List ℕ) (action : ℕ) (ms : List Motion) where
   pub drive_refused : (r : Result (List Force) Cause) (c : Cause) → Err c ≡ told action (drive_check most u p action ms) → r ≡ Err c
       → drove_parts r p car ≡ drive_parts_of m most u p car wheels action ms
@@ -63,6 +69,10 @@ module _ (m most : ℕ) (u : Setup) (p : Progress) (car : Car) (wheels : List �
   drive_accepted number roads after fs e on h =
       ap (λ (d : Passed). drove_parts (Ok d.forces) (awaiting p) d.car) (h ∙ (λ i. pass_of car (told_number _ _ _ e i) ms (on i)))
       ∙ ap (λ (x : Result Unit Cause). drive_at x p car (pass_of car action ms (roads_of m wheels))) (told_passed _ _ _ e)
+
+  pub number : cause_number (drive_parts_of m most u p car wheels action ms).answer ≡ cause_number (drive_check most u p action ms)
+  unfolding drive_parts_of
+  number = number_at _ _ _ _
 
   -- the number of its cause
   pub drive-cause-number : cause_number (drive_check most u p action ms)

@@ -20,7 +20,7 @@ use Rattle.course.specs.Grader.Index.{part_ok, lookup}
 use Rattle.run.specs.Rules.Overlap.{overlap_of}
 use Rattle.run.specs.Rules.Wheel.{box_cells}
 use Rattle.run.specs.Grader.Touch.{lists, listed_by, touched_by, sound_cell, sound_quad}
-use Rattle.run.specs.Steps.Touch.{Tested, Tests, Looked}
+use Rattle.run.specs.Steps.Touch.{Tested, Tests, Room, Looked}
 use Rattle.run.proofs.WordLaws.{member-set_of, set_of-cong, length-set_of, or-chain}
 
 -- ---- tests over lists
@@ -146,6 +146,10 @@ module _ {o : ℕ → Bool} {a b : List ℕ} (ids : List ℕ) where
   all_ids {a'} {b'} {i} past h = subst (λ (x : List ℕ). Tests o (lists x) a b a' b') (take_all i ids past) h
 
 -- ---- a quad's four cells
+
+-- room for n tiles is room for fewer, in sets of the same widths
+pub room_for : {k n : ℕ} {ts : List Float} {a b : List ℕ} (i : ℕ) (a' b' : List ℕ) → Room k n ts a b → i ≤ n → length a' ≡ length a → length b' ≡ length b → Room k i ts a' b'
+room_for {k = k} i a' b' h l p q = record { sets = q ∙ h.sets ∙ ap (λ (x : ℕ). k * x) (sym p); words = omega (arith, h.words, p, l); tiles = omega (arith, h.tiles, l) }
 
 -- the ids that a sound cell lists
 pub sound-ids : {offs l : List ℕ} {n : ℕ} {q : List (List Float)} {ks ids : List ℕ} {i : ℕ} → Looked offs l n q ks → i < length ks → ids ≡ lookup offs l (get_or ks i 0) → every_of (λ t. ltb t n) ids ≡ true

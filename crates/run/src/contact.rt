@@ -1,15 +1,15 @@
-// One contact of four wheels over the lent course (document 01, "Touch"; the Rust's `contact_pass`), in place over a state's
-// sets: first what each wheel touches now, then the credit of what it entered.
+// One contact of four wheels over the lent course (document 01, "Touch"; the Rust's `contact_pass`), in place over sets
+// of any number of words: first what each wheel touches now, then the credit of what it entered.
 ghost use Rattle.std.specs.Prelude.{◌≡◌, true, not, ◌&&◌, length};
 ghost use Rattle.run.specs.Grader.Words.{member};
 ghost use Rattle.run.specs.Rules.Wheel.{quad_of};
-ghost use Rattle.run.specs.Steps.Touch.{Creditable, AllCreditable, credits, credits_of, entered_since};
+ghost use Rattle.run.specs.Steps.Touch.{Room, Creditable, AllCreditable, credits, credits_of, entered_since};
 ghost use Rattle.run.specs.Grader.Touch.{touched_by, sound_poses};
 ghost use Rattle.run.specs.Grader.Contact.{wheel_sets, contacted, contact_of};
 ghost use Rattle.run.specs.Grader.Widths.{full_words};
 
 use crate::quad::Stance;
-use crate::touch::Course;
+use crate::touch::{Columns, Course};
 use crate::widths::{FULL_WORDS, WHEEL_WORDS};
 use crate::{quad, touch, words};
 
@@ -20,22 +20,32 @@ pub(crate) struct Contact {
     pub zero: bool,
 }
 
-// The sets of the four wheels become what each touches now, every one made anew.
+// The sets of the four wheels become what each touches now, every one made anew; `tested` is scratch.
 // Kept by numbers: what the parts that `chunks_exact_mut` lends hold after the loop no proof knows (tried, side by side with poses and cells).
-fn touch_sets(stance: &Stance, course: Course, wheels: &mut [u64; WHEEL_WORDS])
-    requires { sound_poses course.columns.offsets.now course.columns.list.now course.n stance.now.poses ≡ true }
+fn touch_sets(
+    stance: &Stance,
+    columns: Columns<'_>,
+    n: usize,
+    tested: &mut [u64],
+    wheels: &mut [u64],
+)
+    requires sound { sound_poses columns.offsets.now columns.list.now n stance.now.poses ≡ true }
+    requires room { Room 4 n columns.tiles.now tested.old wheels.old }
     ensures { wheels.new
-        ≡ wheel_sets full_words
-        (λ w. touched_by course.entry.columns.tiles.now course.entry.columns.offsets.now
-        course.entry.columns.list.now (quad_of stance.now.poses w)) 4 }
+        ≡ wheel_sets (length tested.old)
+        (λ w. touched_by columns.entry.tiles.now columns.entry.offsets.now columns.entry.list.now
+        (quad_of stance.now.poses w)) 4 }
 {
+    let m = tested.len();
     for wheel in 0..4 {
-        let from = wheel * FULL_WORDS;
+        let from = wheel * m;
         touch::touch_quad(
             quad::wheel_quad(stance.poses[wheel]),
             &stance.cells[wheel],
-            course,
-            &mut wheels[from..from + FULL_WORDS],
+            columns,
+            n,
+            tested,
+            &mut wheels[from..from + m],
         );
     }
 }
@@ -83,7 +93,8 @@ pub(crate) fn full_contact(
         (λ w. touched_by course.entry.columns.tiles.now course.entry.columns.offsets.now
         course.entry.columns.list.now (quad_of stance.now.poses w)) }
 {
+    let mut tested = [0; FULL_WORDS];
     let before = *wheels;
-    touch_sets(stance, course, wheels);
+    touch_sets(stance, course.columns, course.n, &mut tested, wheels);
     credit_sets(credited, &before, wheels, course.n)
 }

@@ -14,7 +14,7 @@ ghost use Rattle.run.specs.Steps.Drive.{wheel_as, stands, action_number, numbere
 
 use crate::dynamics::{Force, Motion, TyreForce};
 use crate::state::{Car, Progress, Run, Setup, WheelCtl};
-use crate::widths::{FULL_WORDS, WHEEL_WORDS};
+use crate::widths::{FULL_WORDS, MOST_TILES, WHEEL_WORDS};
 use crate::{dynamics, state};
 use course::cause::Cause;
 use course::numeric;
@@ -210,7 +210,7 @@ fn drive_check(
     ensures { numbered result
         ≡ told action (drive_check most_tiles setup progress action motion) }
 {
-    if state::is_unfit(setup, progress) | progress.ended {
+    if state::is_unfit(MOST_TILES, setup, progress) | progress.ended {
         return Err(Cause::State);
     }
     if progress.driven {

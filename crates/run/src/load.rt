@@ -13,7 +13,7 @@ use crate::saved::{
     SHARE_AT, SeedParts, TICK_AT, WIDE_SEED_AT,
 };
 use crate::state::Car;
-use crate::widths::FULL_WORDS;
+use crate::widths::{FULL_WORDS, MOST_TILES};
 use crate::{numbers, saved, start, state, words};
 use form::eight::Eight;
 use form::{eight, number, unpack};
@@ -122,7 +122,7 @@ fn is_sound(f: SavedRun) -> bool
 {
     let poses = numbers::poses_from(&f.poses);
     let settings = start::settings_ok(f.share, f.limit);
-    let count = state::count_ok(f.n);
+    let count = state::count_ok(MOST_TILES, f.n);
     let tiles = words::all_below(&f.credited, f.n as usize);
     settings & (count & (state::poses_ok(poses) & (tiles & (f.tick <= f.limit))))
 }

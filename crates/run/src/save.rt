@@ -14,6 +14,7 @@ use crate::saved::{
     SHARE_AT, SeedParts, TICK_AT, WIDE_SEED_AT,
 };
 use crate::state::{Car, Progress, Run, Setup};
+use crate::widths::MOST_TILES;
 use crate::{numbers, saved, state};
 use course::cause::Cause;
 use form::table::Fields;
@@ -27,7 +28,7 @@ pub const SAVE_ROOM: usize = 2 + ALL_BYTES - 4;
 fn save_check(setup: Setup, progress: Progress, room: usize) -> Result<(), Cause>
     ensures { result ≡ save_check most_tiles setup progress room }
 {
-    if state::is_unfit(setup, progress) {
+    if state::is_unfit(MOST_TILES, setup, progress) {
         return Err(Cause::State);
     }
     if progress.driven {

@@ -9,7 +9,7 @@ use crate::numbers::POSE_NUMBERS;
 use crate::quad::Stance;
 use crate::state::{Pose, Progress, Run, Setup};
 use crate::touch::{Columns, Course};
-use crate::widths::{FULL_WORDS, WHEEL_WORDS};
+use crate::widths::{FULL_WORDS, MOST_TILES, WHEEL_WORDS};
 use crate::{contact, lap, numbers, state};
 use course::cause::Cause;
 
@@ -44,7 +44,7 @@ fn settle_check(
         places.x places.y places.poses)
         places.poses result }
 {
-    if state::is_unfit(setup, progress) | progress.ended {
+    if state::is_unfit(MOST_TILES, setup, progress) | progress.ended {
         return Err(Cause::State);
     }
     if !progress.driven {

@@ -5,9 +5,11 @@ ghost use Rattle.run.specs.Grader.Sheet.{share_of, sheet_of};
 
 use crate::state;
 use crate::state::{Progress, Setup};
+use crate::widths::MOST_TILES;
 use course::cause::Cause;
 
 // The figures of a run.
+#[repr(C)]
 #[derive(Clone, Copy, Default)]
 pub struct RunSheet {
     pub tick: u32,
@@ -35,7 +37,7 @@ fn share(credited: u32, n: u32) -> u32
 pub fn sheet(setup: Setup, progress: Progress) -> Result<RunSheet, Cause>
     ensures { result ≡ sheet_of most_tiles setup progress }
 {
-    if state::is_unfit(setup, progress) {
+    if state::is_unfit(MOST_TILES, setup, progress) {
         return Err(Cause::State);
     }
     Ok(RunSheet {

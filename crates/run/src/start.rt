@@ -9,6 +9,7 @@ ghost use Rattle.run.specs.Steps.Stand.{StanceOr};
 use crate::quad::Stance;
 use crate::state::{Answered, Pose, Progress, Run, Setup};
 use crate::touch::{Columns, Course};
+use crate::widths::MOST_TILES;
 use crate::{contact, lap, numbers, state};
 use course::cause::Cause;
 
@@ -48,7 +49,7 @@ fn start_check(columns: Columns<'_>, settings: Settings) -> Result<Stance, Cause
     if !settings_ok(settings.share, settings.limit) {
         return Err(Cause::Settings);
     }
-    if columns.is_short(n) | !state::count_ok(n) {
+    if columns.is_short(n) | !state::count_ok(MOST_TILES, n) {
         return Err(Cause::Length);
     }
     if !state::poses_ok(settings.poses) {

@@ -1,15 +1,16 @@
 // The state of a run, and the tests of arguments and states that the calls share (document 01,
 // "Refusals by cause").
 ghost use Rattle.std.specs.Prelude.{◌≡◌, ◌&&◌, leb};
-ghost use Rattle.run.specs.Grader.Widths.{full_words, most_tiles};
+ghost use Rattle.run.specs.Grader.Widths.{full_words};
 ghost use Rattle.run.specs.Grader.State.{unfit, view};
 ghost use Rattle.run.specs.Grader.Start.{zero_state};
-ghost use Rattle.run.specs.Rules.Arguments.{in_range, pose_ok, poses_ok};
+ghost use Rattle.run.specs.Rules.Arguments.{in_range, pose_ok, poses_ok, short_columns};
 
 use crate::numbers::POSE_NUMBERS;
-use crate::widths::{FULL_WORDS, MOST_TILES, WHEEL_WORDS};
+use crate::widths::{FULL_WORDS, WHEEL_WORDS};
 use course::cause::Cause;
-use course::numeric;
+use course::constants::OFFSET_COUNT;
+use course::{constants, numeric};
 
 // A wheel's control record: what it keeps from drive to drive.
 #[repr(C)]
@@ -133,17 +134,27 @@ pub fn poses_ok(p: [Pose; 4]) -> bool
     p.iter().all(|pose| pose_ok(*pose))
 }
 
-// A course of n tiles can have a run: it has some, and a set has room for them (causes 2, 4 and 11).
-pub(crate) fn count_ok(n: u32) -> bool
-    ensures { result ≡ (leb 1 n && leb n most_tiles) }
+// A column lent with a course of n points is short, by the lengths of tiles and offsets (cause 2).
+#[tactic(auto, unfolding(crate::specs::Rules::Arguments::short_columns))]
+pub fn is_short(n: u32, tiles: usize, offsets: usize) -> bool
+    ensures { result ≡ short_columns n tiles offsets }
 {
-    (1 <= n) & (n <= MOST_TILES)
+    let m = constants::column_length(n as usize);
+    let short = tiles < 8 * m;
+    short | (offsets < OFFSET_COUNT)
 }
 
-// Cause 4 but for its ended part: the sheet's whole cause.
-#[tactic(auto, unfolding(crate::specs::Grader::State::unfit))]
-pub fn is_unfit(setup: Setup, progress: Progress) -> bool
-    ensures { result ≡ unfit most_tiles setup progress }
+// A course of n tiles can have a run where sets hold `most` tiles: it has some, and a set has room for them (causes 2, 4 and 11).
+pub(crate) fn count_ok(most: u32, n: u32) -> bool
+    ensures { result ≡ (leb 1 n && leb n most) }
 {
-    !count_ok(setup.n) | (setup.n < progress.visited_count)
+    (1 <= n) & (n <= most)
+}
+
+// Cause 4 but for its ended part, where sets hold `most` tiles: the sheet's whole cause.
+#[tactic(auto, unfolding(crate::specs::Grader::State::unfit))]
+pub fn is_unfit(most: u32, setup: Setup, progress: Progress) -> bool
+    ensures { result ≡ unfit most setup progress }
+{
+    !count_ok(most, setup.n) | (setup.n < progress.visited_count)
 }

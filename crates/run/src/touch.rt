@@ -7,17 +7,15 @@ ghost use Rattle.run.specs.Rules.Below.{every_of};
 ghost use Rattle.run.specs.Grader.State.{short_of, lent_columns};
 ghost use Rattle.run.specs.Grader.Words.{set_of};
 ghost use Rattle.run.specs.Grader.Touch.{lists, touched_by, sound_cell, sound_poses};
-ghost use Rattle.run.specs.Steps.Touch.{overlaps_tile, Tests, Looked};
+ghost use Rattle.run.specs.Steps.Touch.{overlaps_tile, Tests, Room, Looked};
 ghost use Rattle.run.specs.Steps.Stand.{StanceOr};
-ghost use Rattle.run.specs.Grader.Widths.{full_words, most_tiles};
+ghost use Rattle.run.specs.Grader.Widths.{most_tiles};
 
 use crate::quad::{Sided, Stance};
 use crate::state::Pose;
-use crate::widths::FULL_WORDS;
-use crate::words;
+use crate::{state, words};
 use course::cause::Cause;
-use course::constants::OFFSET_COUNT;
-use course::{constants, index, tiles};
+use course::{index, tiles};
 
 // A course's columns as a host lends them: the corners of its tiles, and for each cell of the grid which part of the list is its tiles.
 #[derive(Clone, Copy)]
@@ -47,13 +45,11 @@ impl Columns<'_> {
     }
 
     // A column lent with a course of n points is short (cause 2).
-    #[tactic(auto, unfolding(crate::specs::Grader::State::short_of, crate::specs::Rules::Arguments::short_columns))]
+    #[tactic(auto, unfolding(crate::specs::Grader::State::short_of))]
     pub fn is_short(self, n: u32) -> bool
         ensures { result ≡ short_of n (lent_columns self.entry) }
     {
-        let m = constants::column_length(n as usize);
-        let short = self.tiles.len() < 8 * m;
-        short | (self.offsets.len() < OFFSET_COUNT)
+        state::is_short(n, self.tiles.len(), self.offsets.len())
     }
 
     // All cells of the wheels may be looked up: no cause 10. One that is the same as the cell before it needs no look-up of its own.
@@ -108,14 +104,15 @@ pub(crate) struct Course<'a> {
 // The tiles of a list are tested, each that was not before.
 fn touch_ids(
     wheel: &Sided,
-    course: Course,
+    columns: Columns<'_>,
+    n: usize,
     ids: &[u32],
-    tested: &mut [u64; FULL_WORDS],
+    tested: &mut [u64],
     touched: &mut [u64],
 )
-    requires ids_below { every_of (λ t. ltb t course.n) ids.now ≡ true }
-    requires room { length touched.old ≡ full_words }
-    ensures { Tests (overlaps_tile wheel.now.quad course.entry.columns.tiles.now) (lists ids.now) tested.old
+    requires ids_below { every_of (λ t. ltb t n) ids.now ≡ true }
+    requires room { Room 1 n columns.tiles.now tested.old touched.old }
+    ensures { Tests (overlaps_tile wheel.now.quad columns.entry.tiles.now) (lists ids.now) tested.old
         touched.old tested.new touched.new }
 {
     for id in ids {
@@ -124,29 +121,36 @@ fn touch_ids(
             continue;
         }
         words::put(tested, t);
-        if wheel.overlaps(course.columns.tile(t)) {
+        if wheel.overlaps(columns.tile(t)) {
             words::put(touched, t);
         }
     }
 }
 
-// The tiles that a wheel's quad touches become the set `touched`, by the cells of the quad's box.
-pub(crate) fn touch_quad(q: [[f64; 2]; 4], cells: &[usize; 4], course: Course, touched: &mut [u64])
-    requires looked { Looked course.columns.offsets.now course.columns.list.now course.n q cells.now }
-    requires room { length touched.old ≡ full_words }
+// The tiles that a wheel's quad touches become the set `touched`, by the cells of the quad's box; `tested` is scratch.
+pub(crate) fn touch_quad(
+    q: [[f64; 2]; 4],
+    cells: &[usize; 4],
+    columns: Columns<'_>,
+    n: usize,
+    tested: &mut [u64],
+    touched: &mut [u64],
+)
+    requires looked { Looked columns.offsets.now columns.list.now n q cells.now }
+    requires room { Room 1 n columns.tiles.now tested.old touched.old }
     ensures { touched.new
-        ≡ set_of full_words
-        (touched_by course.entry.columns.tiles.now course.entry.columns.offsets.now course.entry.columns.list.now q) }
+        ≡ set_of (length tested.old)
+        (touched_by columns.entry.tiles.now columns.entry.offsets.now columns.entry.list.now q) }
 {
     let wheel = Sided::new(q);
-    let mut tested = [0; FULL_WORDS];
+    words::clear(tested);
     words::clear(touched);
     let mut before = None;
     for cell in cells {
         // Most of a box's cells are the same as the cell before, whose tiles are tested already.
         if before != Some(*cell) {
-            let ids = index::cell_tiles(course.columns.offsets, course.columns.list, *cell);
-            touch_ids(&wheel, course, ids, &mut tested, touched);
+            let ids = index::cell_tiles(columns.offsets, columns.list, *cell);
+            touch_ids(&wheel, columns, n, ids, tested, touched);
         }
         before = Some(*cell);
     }

@@ -3,9 +3,9 @@
 //
 // The list is ../stdin and the answers are ../stdout. Both are made by `host/compare/write run`, whose module
 // host/compare/lists/run.rs takes the answers from the Rust and, where the Rust has none, from documents 01 and 02. A record
-// of the list is a code and its arguments, a word each. The list comes in blocks of a fixed length; an unknown code
-// ends a block, as the zeros do that fill one up. The course's tiles, offsets and index list, and the state of the
-// run, stand from record to record.
+// of the list is a code and its arguments, a word each. The list comes in blocks of a fixed length, each
+// replayed before the next is read; an unknown code ends a block, as the zeros do that fill one up. The course's tiles,
+// offsets and index list, and the state of the run, stand from record to record.
 //
 // After each start, drive and settle, refused or not, comes a hash of the state but for its last poses and seed; after a
 // restore one of the whole state that it answers.
@@ -22,9 +22,9 @@ mod saves;
 use kind::Request;
 use run::state::Run;
 use std::io;
-use std::io::{BufWriter, Read, Write};
+use std::io::{BufWriter, Write};
 use vectors::columns::{Columns, put};
-use vectors::record::{BLOCK, Record, Records};
+use vectors::record::{BLOCK, BLOCKS, Record, Records};
 
 // What the record does.
 // Kept as two parameters, the columns and the run: a settle lends the ones while it changes the other, so a struct of both would be
@@ -63,15 +63,17 @@ fn replay<W: Write>(
 }
 
 fn main(rt: HostRuntime) -> io::Result<()> {
-    let mut list = Vec::new(rt.alloc());
-    rt.stdin().read_to_end(&mut list)?;
+    let mut block = vec![in rt.alloc(); 0; BLOCK]?;
     let mut columns = Columns::new(rt.alloc(), 60000)?;
     let mut run = Run::default();
     let mut out = BufWriter::new(rt.alloc(), io::writer(&rt))?;
-    for block in list.chunks(BLOCK) {
-        for (request, record) in Records::new(block) {
+    for _ in 0..BLOCKS {
+        // Kept with the length beside: `read_list` says why.
+        let n = vectors::read_list(&mut rt.stdin(), &mut block)?;
+        for (request, record) in Records::new(&block[..n]) {
             replay(&mut out, request, record, &mut columns, &mut run)?;
         }
+        out.flush()?;
     }
-    out.flush()
+    Ok(())
 }

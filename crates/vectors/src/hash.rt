@@ -64,8 +64,13 @@ pub fn mix<T: Hashed>(h: u64, x: T) -> u64 {
 }
 
 // h with all entries of a column.
-pub fn mix_all<T: Hashed>(h: u64, col: &[T]) -> u64 {
-    col.iter().fold(h, |h, x| mix(h, *x))
+// Kept as a loop: by `fold` the checked build of `rt try`, in which host/compare/mutants runs the programs, takes four times as long.
+pub fn mix_all<T: Hashed>(start: u64, col: &[T]) -> u64 {
+    let mut h = start;
+    for x in col {
+        h = mix(h, *x);
+    }
+    h
 }
 
 // Of a whole column.

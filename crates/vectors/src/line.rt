@@ -46,7 +46,7 @@ pub fn answer<W: Write, T: Copy + fmt::Display>(
 pub fn not_laid<W: Write>(out: &mut W, error: LayError) -> io::Result<()> {
     refused(out, error)?;
     match error {
-        LayError::Short(need) => writeln!(out, "{need}"),
+        LayError::Short(_) => writeln!(out, "{}", error.entries()),
         LayError::Refused(_) => Ok(()),
     }
 }

@@ -1,10 +1,11 @@
 // A stored list and its records. A list is 64-bit words, the low byte first; a float stands there by its bits. A record
 // is the code of its kind and its arguments, a word each.
-ghost use Rattle.std.specs.Prelude.{◌≡◌, ◌≤◌, ◌%◌, ◌^◌, ℕ, length, slice_get, MatchOption, false, nat_eq};
+ghost use Rattle.std.specs.Prelude.{◌≡◌, ◌+◌, ◌*◌, ◌/◌, ◌<◌, ◌≤◌, ◌%◌, ◌^◌, ℕ, [], length, take, drop, slice_get, MatchOption, false, nat_eq};
 ghost use Rattle.std.specs.Int.{w64, from_le_bytes};
 ghost use Rattle.std.specs.Iterator.{at_most};
 ghost use Rattle.std.specs.Float.{binary64};
 ghost use Rattle.std.specs.Float.Ieee.{of_bits};
+ghost use Rattle.std.specs.Simd.{first_chunks};
 
 use crate::columns::front_mut;
 use form::eight::Eight;
@@ -12,6 +13,9 @@ use std::marker::PhantomData;
 
 // The length of a block of a long list, in bytes. An unknown code ends a block, as the zeros do that fill one up.
 pub const BLOCK: usize = 262144;
+
+// The most blocks of a list: what follows them is not read.
+pub const BLOCKS: usize = 16;
 
 // A code that is no kind of record: it ends the list.
 #[derive(Clone, Copy, Debug, PartialEq, Eq)]
@@ -61,35 +65,47 @@ impl Value for u32 {
 // A list from one of its records on.
 #[derive(Clone, Copy)]
 pub struct Record<'a> {
-    words: &'a [[u8; 8]],
+    list: &'a [u8],
 }
 
 impl<'a> Record<'a> {
     // All of a list.
-    pub fn new(list: &'a [u8]) -> Self {
-        let (words, _) = list.as_chunks();
-        Record { words }
+    pub fn new(list: &'a [u8]) -> Self
+        ensures { result.list.now ≡ list.entry.now }
+    {
+        Record { list }
+    }
+
+    // The list's whole words.
+    fn words(self) -> &'a [[u8; 8]]
+        ensures { result.now ≡ first_chunks 8 (length self.entry.list.now / 8) self.entry.list.now }
+    {
+        let (words, _) = self.list.as_chunks();
+        words
     }
 
     // Word number `at`, from 0; 0 past the list's end.
     pub fn word(self, at: usize) -> u64
-        ensures { MatchOption (slice_get self.entry.words.now at) (result ≡ 0) (λ w. result ≡ from_le_bytes w64 w) }
+        ensures { MatchOption (slice_get (first_chunks 8 (length self.entry.list.now / 8) self.entry.list.now) at)
+            (result ≡ 0) (λ w. result ≡ from_le_bytes w64 w) }
     {
-        self.words
+        self.words()
             .get(at)
             .map_or(0, |word| u64::from_le_bytes(*word))
     }
 
     // The float whose bits are the word.
     pub fn float(self, at: usize) -> f64
-        ensures { MatchOption (slice_get self.entry.words.now at) (result ≡ of_bits binary64 0) (λ w. result ≡ of_bits binary64 (from_le_bytes w64 w)) }
+        ensures { MatchOption (slice_get (first_chunks 8 (length self.entry.list.now / 8) self.entry.list.now) at)
+            (result ≡ of_bits binary64 0) (λ w. result ≡ of_bits binary64 (from_le_bytes w64 w)) }
     {
         f64::of_word(self.word(at))
     }
 
     // The low half of the word.
     pub fn low(self, at: usize) -> u32
-        ensures { MatchOption (slice_get self.entry.words.now at) (result ≡ 0) (λ w. result ≡ from_le_bytes w64 w % 2 ^ 32) }
+        ensures { MatchOption (slice_get (first_chunks 8 (length self.entry.list.now / 8) self.entry.list.now) at)
+            (result ≡ 0) (λ w. result ≡ from_le_bytes w64 w % 2 ^ 32) }
     {
         u32::of_word(self.word(at))
     }
@@ -97,7 +113,8 @@ impl<'a> Record<'a> {
     // The low bit of the word.
     // Kept as a remainder: the language has no `bool` of a number.
     pub fn flag(self, at: usize) -> bool
-        ensures { MatchOption (slice_get self.entry.words.now at) (result ≡ false) (λ w. result ≡ nat_eq (from_le_bytes w64 w % 2) 1) }
+        ensures { MatchOption (slice_get (first_chunks 8 (length self.entry.list.now / 8) self.entry.list.now) at)
+            (result ≡ false) (λ w. result ≡ nat_eq (from_le_bytes w64 w % 2) 1) }
     {
         self.word(at) % 2 == 1
     }
@@ -141,26 +158,29 @@ impl<'a> Record<'a> {
         values
     }
 
-    // The n bytes from word `at` on; none where the list ends before them.
+    // The n bytes from word `at` on, which need not end with a word; none where the list ends before them.
     pub fn bytes(self, at: usize, n: usize) -> &'a [u8]
-        ensures { length result.now ≤ n }
+        ensures bound { length result.now ≤ n }
+        ensures there { at * 8 + n ≤ length self.entry.list.now
+            → result.now ≡ take n (drop (at * 8) self.entry.list.now) }
+        ensures none { length self.entry.list.now < at * 8 + n → result.now ≡ [] }
     {
-        let rest = self.words.get(at..).unwrap_or(&[]);
-        rest.as_flattened().get(..n).unwrap_or(&[])
+        let rest = self.list.get(at.saturating_mul(8)..).unwrap_or(&[]);
+        rest.get(..n).unwrap_or(&[])
     }
 }
 
 // The records of a list in turn, each with its kind, up to the list's end or an unknown code.
 #[derive(Drop)]
 pub struct Records<'a, K> {
-    words: &'a [[u8; 8]],
+    list: &'a [u8],
     kind: PhantomData<K>,
 }
 
 impl<'a, K: Kind> Records<'a, K> {
     pub fn new(list: &'a [u8]) -> Self {
         Records {
-            words: Record::new(list).words,
+            list,
             kind: PhantomData,
         }
     }
@@ -169,13 +189,14 @@ impl<'a, K: Kind> Records<'a, K> {
 impl<'a, K: Kind> Iterator for Records<'a, K> {
     type Item = (K, Record<'a>);
 
-    ghost remaining = { λ s. at_most (length s.words.now) };
+    ghost remaining = { λ s. at_most (length s.list.now / 8) };
 
     fn next(&mut self) -> Option<(K, Record<'a>)> {
-        let record = Record { words: self.words };
-        let (first, rest) = self.words.split_first()?;
+        let record = Record { list: self.list };
+        let (first, _) = record.words().split_first()?;
         let kind = K::try_from(u64::from_le_bytes(*first)).ok()?;
-        self.words = rest.get(kind.arguments(record)..).unwrap_or(&[]);
+        let length = kind.arguments(record).saturating_add(1).saturating_mul(8);
+        self.list = self.list.get(length..).unwrap_or(&[]);
         Some((kind, record))
     }
 }

@@ -66,6 +66,12 @@ Tests o N tested touched tested' touched' = (L : ℕ → Bool) → Tested (lengt
 
 -- ---- what the steps are given
 
+-- `touched` has k sets as wide as `tested`, a set holds n tiles, and n tiles are lent
+pub record Room (k n : ℕ) (ts : List Float) (tested touched : List ℕ) : Type 0 where
+  pub sets : length touched ≡ k * length tested
+  pub words : n ≤ 64 * length tested
+  pub tiles : n * 8 ≤ length ts
+
 -- the cells are those of the quad's box, and each may be looked up
 pub record Looked (offs l : List ℕ) (n : ℕ) (q : List (List Float)) (cells : List ℕ) : Type 0 where
   pub are : cells ≡ box_cells q

@@ -1,15 +1,14 @@
 -- `form::number::all_zero` meets its contract. Assumes nothing.
-use Rattle.std.proofs.lemmas.Iterator.{cases_from_all, YieldsList-from_slice}
-use borrow.Author.Tests.{tests}
-use Rattle.std.proofs.Common.{rules}
+use mathlib.Core.Path.{◌≡◌, refl, subst}
+use borrow.Author.Rules.{rules}
 use lib.Dec.{eqb}
-use mathlib.Core.Bool.{true, false}
-use mathlib.Core.Path.{◌≡◌}
-use Rattle.form.proofs.ByteLaws.{zeros-found}
+use Rattle.std.proofs.lemmas.Fn.{fold_over, slice_gives, fronts}
+use Rattle.form.specs.Rules.Bytes.{all_zero}
+use Rattle.form.proofs.ZeroLaws.{zeros_on}
 use Rattle.form.proofs.number.all_zero.Goals as goal
 
 pub returns : goal.returns
-returns c =
-    let s = c.args.bytes.now in
-    zeros-found s _
-    (cases_from_all _ _ c.all.result (λ b. eqb b 0 ≡ true) (λ b. eqb b 0 ≡ false) c.all.ensures.ran (YieldsList-from_slice s cc) (λ x q k. search (rules, tests)) (λ x q k. search (rules, tests)))
+unfolding all_zero
+returns c = subst (λ bs. eqb c.fold.result 0 ≡ all_zero bs) c.iter.ensures.rest
+    (fold_over fronts (λ y. y.now) _ (λ bs n. eqb n 0 ≡ all_zero bs) _ (λ bs a x b g j k. let more = zeros_on bs a x.now j in search (rules, more))
+    _ _ _ _ (slice_gives c.iter.result) refl c.fold.ensures.ran)

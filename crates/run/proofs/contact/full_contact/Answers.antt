@@ -10,7 +10,7 @@ use borrow.Author.Rules.{rules}
 use Rattle.run.proofs.contact.full_contact.Goals as goal
 
 pub touch_sets-requires : goal.touch_sets-requires
-touch_sets-requires c = c.requires
+touch_sets-requires c = record { sound = c.requires; room = record { sets = search rules; words = omega (arith, c.args.course.few); tiles = c.args.course.lent } }
 
 pub credit_sets-requires : goal.credit_sets-requires
 credit_sets-requires c =

@@ -1,16 +1,13 @@
 -- `run::touch::touch_quad` meets its contract. Assumes nothing.
-use Rattle.run.proofs.TouchLaws.{tested-is, sound-ids}
-use Rattle.run.specs.Grader.Widths.{full_words}
+use Rattle.run.proofs.TouchLaws.{tested-is, room_for, sound-ids}
 use mathlib.Core.Bool.{false}
-use Rattle.run.proofs.CreditLaws.{zeros_empty}
-use Rattle.run.proofs.WordLaws.{length-set_of}
-use Rattle.run.proofs.CellLaws.{Among, among_last, as-before, no_cell, one_cell, same-cell, all-touched}
+use Rattle.run.proofs.CellLaws.{Among, among_last, as-before, no_cell, tested-long, touched-long, one_cell, same-cell, all-touched}
 use Rattle.std.specs.Prelude.{IfSome}
 use Prim.Native.Nat.{ℕ, ◌+◌, ◌<◌, ◌≤◌}
 use lib.ListN.{length}
 use lib.Ieee.{Float}
 use mathlib.Core.List.{List}
-use mathlib.Core.Path.{sym, ap, ◌∙◌, subst}
+use mathlib.Core.Path.{sym, ap, ap₂, ◌∙◌, subst}
 use Rattle.run.specs.Rules.Wheel.{box_cells}
 use Rattle.run.specs.Grader.Words.{set_of}
 use Rattle.run.specs.Grader.Touch.{touched_by}
@@ -19,15 +16,20 @@ use Rattle.run.proofs.touch.touch_quad.Goals as goal
 use Rattle.run.proofs.touch.touch_quad.Goals.{then-ne, else-ne}
 
 pub loop-cell-init : goal.loop-cell-init
-loop-cell-init c = (
-  no_cell _ _ _ _ c.args.cells.now full_words _ _ (zeros_empty full_words) (c.clear.ensures ∙ ap (λ (m : ℕ). set_of m (λ t. false)) c.requires.room),
-  tt,
-)
+loop-cell-init c =
+    let long = c.clear.auto.set in
+    let empty = λ (m : ℕ). set_of m (λ t. false) in
+    (no_cell _ _ _ _ c.args.cells.now _ _ _ (c.clear.ensures ∙ ap empty (sym long)) (c.clear-2.ensures ∙ ap empty (omega (arith, c.requires.room.sets, long))), tt)
 
 pub touch_ids-requires : goal.touch_ids-requires
 touch_ids-requires c =
     let b : c.loop-cell.cell-index < length c.args.cells.now = omega (arith, c.loop-cell-test.true, c.told-cells) in
-    record { ids_below = sound-ids c.requires.looked b c.cell_tiles-ids.ensures; room = ap length c.loop-cell.invariant.0.hit ∙ length-set_of full_words _ }
+    let h = c.loop-cell.invariant.0 in
+    let long = c.clear.auto.set in
+    record {
+      ids_below = sound-ids c.requires.looked b c.cell_tiles-ids.ensures;
+      room = room_for _ _ _ c.requires.room (omega arith) (tested-long _ _ _ _ _ _ _ _ _ h ∙ long) (omega (arith, touched-long _ _ _ _ _ _ _ _ _ h, long, c.requires.room.sets));
+    }
 
 pub loop-cell-preserved : goal.loop-cell-preserved
 loop-cell-preserved c =
@@ -49,7 +51,7 @@ loop-cell-preserved c =
 pub returns : goal.returns
 returns c =
     let past : length c.args.cells.now ≤ c.loop-cell.cell-index = omega (arith, c.loop-cell-test.false, c.told-cells) in
-    let l = c.args.course.columns in
+    let l = c.args.columns in
     let e = c.new-wheel.ensures in
     all-touched _ _ _ _ _ _ _ _ _ c.loop-cell.invariant.0 (c.requires.looked.are ∙ ap box_cells (sym e)) past
-    ∙ ap (λ (q : List (List Float)). set_of full_words (touched_by l.tiles.now l.offsets.now l.list.now q)) e
+    ∙ ap₂ (λ (m : ℕ) (q : List (List Float)). set_of m (touched_by l.tiles.now l.offsets.now l.list.now q)) c.clear.auto.set e

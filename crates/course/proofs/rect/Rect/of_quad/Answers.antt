@@ -1,17 +1,14 @@
 -- `course::rect::Rect::of_quad` meets its contract. Assumes nothing.
-use Rattle.std.proofs.Common.{◌≤◌, ap, ◌∙◌, sym, subst, ℕ, ◌≡◌, Float}
+use Rattle.std.proofs.Common.{ap, ◌∙◌, arith}
 use Rattle.course.proofs.Cells.{cell-high}
 use Rattle.course.proofs.CourseRects.{rect-same}
 use Rattle.course.specs.Rules.Rect.{least_x, least_y, greatest_x, greatest_y}
 use Rattle.course.specs.Rules.Cell.{cell_of}
 use Rattle.course.proofs.rect.Rect.of_quad.Goals as goal
 
--- a cell's column or row
-high : {k : ℕ} (v : Float) → k ≡ cell_of v → k ≤ 66
-high v e = subst (λ (z : ℕ). z ≤ 66) (sym e) (cell-high v)
-
+-- the sides are cells' columns and rows
 pub invariant_of-result : goal.invariant_of-result
-invariant_of-result c = record { left = high _ c.cell_of-x0.ensures; bottom = high _ c.cell_of-y0.ensures; right = high _ c.cell_of-x1.ensures; top = high _ c.cell_of-y1.ensures }
+invariant_of-result c = record { left = omega (arith, cell-high); bottom = omega (arith, cell-high); right = omega (arith, cell-high); top = omega (arith, cell-high) }
 
 pub returns : goal.returns
 unfolding least_x least_y greatest_x greatest_y
